@@ -43,8 +43,14 @@ use Rattle.ty.proofs.TypeWord.categories.Reads as categories-reads
 use Rattle.ty.proofs.TypeWord.categories.Kinds as categories-kinds
 use Rattle.ty.proofs.TypeWord.concrete_hint.Reads as concrete-hint-reads
 use Rattle.ty.proofs.TypeWord.concrete_hint.Kinds as concrete-hint-kinds
+use Rattle.ty.proofs.digit.Reads as digit-reads
+use Rattle.ty.proofs.digit.Kinds as digit-kinds
 use Rattle.ty.proofs.decode.Reads as decode-reads
 use Rattle.ty.proofs.decode.Kinds as decode-kinds
+
+pub digit-one : (κs : Lfts 0) (a : Dens κs digit-kinds.ps) (r₁ r₂ : resT digit-kinds.r κs .Denot) (x₁ x₂ : AtExit (endedOf 0 digit-kinds.ps digit-kinds.r) κs)
+    → digit-reads.Post κs a r₁ x₁ → digit-reads.Post κs a r₂ x₂ → r₁ ≡ r₂
+digit-one κs a r₁ r₂ x₁ x₂ p q = p ∙ sym q
 
 pub int-one : (κs : Lfts 0) (a : Dens κs int-kinds.ps) (r₁ r₂ : resT int-kinds.r κs .Denot) (x₁ x₂ : AtExit (endedOf 0 int-kinds.ps int-kinds.r) κs)
     → int-reads.Post κs a r₁ x₁ → int-reads.Post κs a r₂ x₂ → r₁ ≡ r₂

@@ -1,6 +1,6 @@
 -- The answers of the functions on words: each enum's cases, from the definitions on types. Assumes nothing.
 use mathlib.Core.Path.{_≡_, refl, sym, ap, _∙_}
-use mathlib.Core.Bool.{Bool, true, false}
+use mathlib.Core.Bool.{Bool, true, false, cond}
 use mathlib.Core.List.{List, [], _∷_}
 use mathlib.Core.Option.{Option, some, none}
 use Prim.Native.Nat.{ℕ, zero, suc, _+_, _-_, _*_, _^_, _≤_, _<_}
@@ -55,28 +55,16 @@ constants = (refl, refl, refl, refl, refl)
 
 -- ---- the answers
 
-abbrev pub pickD : Bool → Decoded → Decoded → Decoded
-pickD true a b = a
-pickD false a b = b
-
 unfoldable pub decodeWord : ℕ → ℕ → Decoded
-decodeWord names w = pickD (legalWord names w) (Good (word w)) (Refused 7)
-
-abbrev pub pickM : Bool → MaybeType → MaybeType → MaybeType
-pickM true a b = a
-pickM false a b = b
+decodeWord names w = cond (legalWord names w) (Good (word w)) (Refused 7)
 
 -- a word's element: a dimension less, where it has one
 unfoldable pub elementWord : ℕ → MaybeType
-elementWord w = pickM (leb (2 ^ 56) w) (Is (word (w - 2 ^ 56))) Nothing
-
-abbrev pub pickA : Bool → Arrayed → Arrayed → Arrayed
-pickA true a b = a
-pickA false a b = b
+elementWord w = cond (leb (2 ^ 56) w) (Is (word (w - 2 ^ 56))) Nothing
 
 -- a word's array: a dimension more, where it has fewer than 255
 unfoldable pub arrayWord : ℕ → Arrayed
-arrayWord w = pickA (ltb w (255 * 2 ^ 56)) (Of (word (w + 2 ^ 56))) Deep
+arrayWord w = cond (ltb w (255 * 2 ^ 56)) (Of (word (w + 2 ^ 56))) Deep
 
 -- a type that may be missing, as a word
 abbrev pub maybeWord : Option ArgType → MaybeType
@@ -104,7 +92,7 @@ module _ (names w : ℕ) (legal : legalWord names w ≡ true) where
       none-flat (suc zero) load = refl
       none-flat (suc (suc t)) load = refl
 
-      go : (b : Bool) → leb (2 ^ 56) w ≡ b → pickM b (Is (word (w - 2 ^ 56))) Nothing ≡ maybeWord (element (typeOf w))
+      go : (b : Bool) → leb (2 ^ 56) w ≡ b → cond b (Is (word (w - 2 ^ 56))) Nothing ≡ maybeWord (element (typeOf w))
       go true e =
           let h = leb-true (2 ^ 56) w e in
           ap (λ (x : ℕ). Is (word x)) (sym (word-of-type names (w - 2 ^ 56) (legal-element names w h ∙ legal)))
@@ -116,11 +104,11 @@ module _ (names w : ℕ) (legal : legalWord names w ≡ true) where
   unfolding arrayWord
   array-type h =
       let d = depth-dims w in
-      ap (λ (b : Bool). pickA b (Of (word (w + 2 ^ 56))) Deep) (lt-ltb w (255 * 2 ^ 56) (omega arith))
+      ap (λ (b : Bool). cond b (Of (word (w + 2 ^ 56))) Deep) (lt-ltb w (255 * 2 ^ 56) (omega arith))
       ∙ ap (λ (x : ℕ). Of (word x)) (ap (λ (x : ℕ). x + 2 ^ 56) (sym (word-of-type names w legal)) ∙ sym (word-deeper (typeOf w)))
 
   pub array-deep : 255 ≤ depth (typeOf w) → arrayWord w ≡ Deep
   unfolding arrayWord
   array-deep h =
       let d = depth-dims w in
-      ap (λ (b : Bool). pickA b (Of (word (w + 2 ^ 56))) Deep) (le-ltb w (255 * 2 ^ 56) (omega arith))
+      ap (λ (b : Bool). cond b (Of (word (w + 2 ^ 56))) Deep) (le-ltb w (255 * 2 ^ 56) (omega arith))

@@ -1,9 +1,8 @@
 -- Laws of hex digits: a list of digits as a number, and back. Assumes nothing.
-use mathlib.Core.Path.{_≡_, refl, sym, ap, ap₂, _∙_, subst}
-use mathlib.Core.Bool.{Bool, true, false, not}
+use mathlib.Core.Path.{_≡_, refl, sym, ap, ap₂, _∙_}
 use mathlib.Core.List.{List, [], _∷_, _++_}
-use Prim.Native.Nat.{ℕ, zero, suc, _+_, _-_, _*_, _/_, _%_, _^_, _≤_, _<_}
-use native.Mathlib.Nat.{mul-suc, add-comm, add-assoc, mul-assoc, add-mul, zero-lt-suc, mod-one, mul-comm, mul-le-mul-right}
+use Prim.Native.Nat.{ℕ, zero, suc, _+_, _*_, _/_, _%_, _^_, _≤_, _<_}
+use native.Mathlib.Nat.{add-assoc, mul-assoc, add-mul, mod-one, mul-le-mul-right}
 use native.Mathlib.Omega.{arith}
 use lib.Arith.{digits-mod}
 use lib.Pow.{pow-pos, pow-add, high, mod-pow-add}
@@ -60,3 +59,20 @@ unpack-pack (suc n) (d ∷ ds) h g l =
     ∙ ap₂ (λ (x : ℕ) (y : List ℕ). x ∷ y)
     (ap (λ (x : ℕ). x % 16) (high (h * 16 + d) (4 * n) (pack-lt n ds (g .1))) ∙ digits-mod h (g .0))
     (unpack-pack n ds (h * 16 + d) (g .1) (omega arith))
+
+-- zeros at the end do not count
+pub pack-zeros : (n : ℕ) (cs : List ℕ) (k : ℕ) → pack n (cs ++ replicate k 0) ≡ pack n cs
+unfolding pack
+pack-zeros zero cs k = refl
+pack-zeros (suc n) [] zero = refl
+pack-zeros (suc n) [] (suc k) = let r = pack-zeros n [] k in let z = pack-nil n in omega arith
+  where
+    pack-nil : (m : ℕ) → pack m [] ≡ 0
+    pack-nil zero = refl
+    pack-nil (suc m) = refl
+pack-zeros (suc n) (c ∷ cs) k = ap (λ (y : ℕ). c * 2 ^ (4 * n) + y) (pack-zeros n cs k)
+
+pub digits-zeros : (cs : List ℕ) (k : ℕ) → Digits cs → Digits (cs ++ replicate k 0)
+digits-zeros [] zero h = tt
+digits-zeros [] (suc k) h = (omega arith, digits-zeros [] k tt)
+digits-zeros (c ∷ cs) k h = (h .0, digits-zeros cs k (h .1))

@@ -1,7 +1,7 @@
 -- The order of types is a total order: it says Equal of equal types alone, turns round when its arguments do, and Less is
 -- transitive. The same for numbers and for lists, which types are compared by. Assumes nothing.
 use mathlib.Core.Path.{_≡_, refl, sym, ap, ap₂, _∙_}
-use mathlib.Core.Bool.{Bool, true, false}
+use mathlib.Core.Bool.{Bool, true, false, cond}
 use mathlib.Core.List.{List, [], _∷_}
 use mathlib.Core.Logic.{_⊎_, inl, inr}
 use Prim.Native.Nat.{ℕ, zero, suc, _<_}
@@ -11,7 +11,7 @@ use lib.ListN.{getD}
 use borrow.Author.Tests.{ltb-true, ltb-false, lt-ltb, le-ltb}
 use Rattle.ty.specs.declared.Order.{Order}
 use Rattle.ty.specs.declared.Order.the-variants.{Less, Equal, Greater}
-use Rattle.ty.specs.Types.{ArgType, Primitive, Object, Array, Unknown, pickO, then, compareNumbers, compareLists, compare, orderNumber}
+use Rattle.ty.specs.Types.{ArgType, Primitive, Object, Array, Unknown, then, compareNumbers, compareLists, compare, orderNumber}
 
 -- ---- the three answers
 
@@ -62,7 +62,7 @@ pub numbers-by : (P : Order → Type 0) (a b : ℕ) → (a < b → P Less) → (
 unfolding compareNumbers
 numbers-by P a b less equal greater = go (ltb a b) refl (ltb b a) refl
   where
-    go : (l : Bool) → ltb a b ≡ l → (g : Bool) → ltb b a ≡ g → P (pickO l Less (pickO g Greater Equal))
+    go : (l : Bool) → ltb a b ≡ l → (g : Bool) → ltb b a ≡ g → P (cond l Less (cond g Greater Equal))
     go true p g q = less (ltb-true a b p)
     go false p true q = greater (ltb-true b a q)
     go false p false q =

@@ -13,7 +13,7 @@ use borrow.Author.Tests.{leb-true, ltb-true, le-leb, lt-ltb, ne-eqb}
 use Rattle.ty.specs.Types.{ArgType, Primitive, Object, Array, Unknown, arrays, depth}
 use Rattle.ty.specs.Words.{dimsOf, tagOf, loadOf, unpack, pack, listOf, goodDigits, goodUnknown, baseOf, typeOf, wordOf}
 use Rattle.ty.specs.Words.{legalBase, legalWord, distinct, legalAtBase, legalType}
-use Rattle.ty.specs.Digits.{pack-unpack, pack-lt, unpack-pack, Digits}
+use Rattle.ty.specs.Digits.{pack-unpack, pack-lt, unpack-pack, pack-zeros, digits-zeros}
 use Rattle.ty.specs.Distinct.{and-left, and-right, and-both, or-false, good-distinct, good-zeros, good-padded, distinct-digits, distinct-length}
 use Rattle.ty.specs.Shape.{type-deeper, word-deeper, type-flat, legal-deeper}
 
@@ -49,23 +49,6 @@ length-unpack : (n x : ℕ) → length (unpack n x) ≡ n
 unfolding unpack
 length-unpack zero x = refl
 length-unpack (suc n) x = ap suc (length-unpack n x)
-
--- zeros at the end do not count
-pack-zeros : (n : ℕ) (cs : List ℕ) (k : ℕ) → pack n (cs ++ replicate k 0) ≡ pack n cs
-unfolding pack
-pack-zeros zero cs k = refl
-pack-zeros (suc n) [] zero = refl
-pack-zeros (suc n) [] (suc k) = let r = pack-zeros n [] k in let z = pack-nil n in omega arith
-  where
-    pack-nil : (m : ℕ) → pack m [] ≡ 0
-    pack-nil zero = refl
-    pack-nil (suc m) = refl
-pack-zeros (suc n) (c ∷ cs) k = ap (λ (y : ℕ). c * 2 ^ (4 * n) + y) (pack-zeros n cs k)
-
-digits-zeros : (cs : List ℕ) (k : ℕ) → Digits cs → Digits (cs ++ replicate k 0)
-digits-zeros [] zero h = tt
-digits-zeros [] (suc k) h = (omega arith, digits-zeros [] k tt)
-digits-zeros (c ∷ cs) k h = (h .0, digits-zeros cs k (h .1))
 
 module _ (load : ℕ) (h : goodUnknown load ≡ true) where
   good-length : load / 2 ^ 44 ≤ 11
@@ -170,7 +153,7 @@ base-depth (suc (suc t)) load = refl
 
 -- ---- under arrays
 
-arrays-word : (d : ℕ) (t : ArgType) → wordOf (arrays d t) ≡ d * 2 ^ 56 + wordOf t
+pub arrays-word : (d : ℕ) (t : ArgType) → wordOf (arrays d t) ≡ d * 2 ^ 56 + wordOf t
 unfolding arrays wordOf
 arrays-word zero t = omega arith
 arrays-word (suc d) t = let r = arrays-word d t in omega arith

@@ -1,6 +1,6 @@
 -- What the functions on words go by: one law for each case that the code meets. Assumes nothing.
 use mathlib.Core.Path.{_≡_, refl, sym, ap, ap₂, _∙_}
-use mathlib.Core.Bool.{Bool, true, false, not, true≢false}
+use mathlib.Core.Bool.{Bool, true, false, cond, not, true≢false}
 use mathlib.Core.List.{List, [], _∷_}
 use mathlib.Core.Option.{Option, some, none}
 use Prim.Native.Nat.{ℕ, zero, suc, _+_, _-_, _*_, _/_, _%_, _^_, _≤_, _<_}
@@ -12,9 +12,10 @@ use lib.Pow.{shl-exact}
 use lib.ListN.{take}
 use lib.Seq.{take-nil}
 use borrow.Author.Tests.{eq-eqb, ne-eqb, lt-ltb, le-ltb, le-leb, lt-leb, leb-true, leb-false}
-use Rattle.ty.specs.Types.{ArgType, Primitive, Object, Array, Unknown, and, or, elem, isKnown, isPrimitive, isObject, isArray, isReference, wideCategory, allWide, isWide, isConcrete, categories, maskWith, pickT, hintOfList, concreteHint, arrays}
+use Rattle.ty.specs.Types.{ArgType, Primitive, Object, Array, Unknown, and, or, elem, isKnown, isPrimitive, isObject, isArray, isReference, wideCategory, allWide, isWide, isConcrete, categories, maskWith, hintOfList, concreteHint, arrays}
 use Rattle.ty.specs.Words.{dimsOf, tagOf, loadOf, unpack, listOf, goodDigits, goodUnknown, baseOf, typeOf, wordOf, legalBase, legalWord}
 use Rattle.ty.specs.Shape.{type-array, type-flat}
+use Rattle.ty.specs.Distinct.{and-assoc}
 use Rattle.ty.specs.Round.{word-known, legal-primitive, legal-object, legal-unknown, legal-none}
 
 -- ---- an Unknown's list, one digit after the other
@@ -94,18 +95,10 @@ module _ (load n i : ℕ) where
 
 -- ---- whether the digits are those of an Unknown
 
-abbrev pub pickB : Bool → Bool → Bool → Bool
-pickB true a b = a
-pickB false a b = b
-
-and-assoc : (a b c : Bool) → and (and a b) c ≡ and a (and b c)
-and-assoc true b c = refl
-and-assoc false b c = refl
-
 -- whether the digit i is as it must be: a category that does not come again, or 0 after the list
 unfoldable pub digitGood : ℕ → ℕ → ℕ → Bool
 digitGood load n i =
-    pickB (leb n i) (eqb (load / 2 ^ (4 * (10 - i)) % 16) 0) (and (leb (load / 2 ^ (4 * (10 - i)) % 16) 10) (not (elem (load / 2 ^ (4 * (10 - i)) % 16) (restOf load n (i + 1)))))
+    cond (leb n i) (eqb (load / 2 ^ (4 * (10 - i)) % 16) 0) (and (leb (load / 2 ^ (4 * (10 - i)) % 16) 10) (not (elem (load / 2 ^ (4 * (10 - i)) % 16) (restOf load n (i + 1)))))
 
 module _ (load n i : ℕ) where
   pub digit-past : n ≤ i → (d : ℕ) → d ≡ load / 2 ^ (4 * (10 - i)) % 16 → eqb d 0 ≡ digitGood load n i
@@ -132,7 +125,7 @@ module _ (load n i : ℕ) where
       G = goodDigits (n - (i + 1)) (unpack (11 - (i + 1)) load)
 
       go : (b : Bool) → leb n i ≡ b
-          → goodDigits (n - i) (unpack (11 - i) load) ≡ and (pickB b (eqb D 0) (and (leb D 10) (not (elem D (restOf load n (i + 1)))))) G
+          → goodDigits (n - i) (unpack (11 - i) load) ≡ and (cond b (eqb D 0) (and (leb D 10) (not (elem D (restOf load n (i + 1)))))) G
       go true e =
           let l = leb-true n i e in
           ap₂ (λ (m : ℕ) (ds : List ℕ). goodDigits m ds) (let q : n - i ≡ 0 = omega arith in q) (unpack-step load n i h)
@@ -140,7 +133,7 @@ module _ (load n i : ℕ) where
       go false e =
           let l = leb-false n i e in
           ap₂ (λ (m : ℕ) (ds : List ℕ). goodDigits m ds) (let q : n - i ≡ suc (n - (i + 1)) = omega arith in q) (unpack-step load n i h)
-          ∙ sym (and-assoc (leb D 10) (not (elem D (restOf load n (i + 1)))) G)
+          ∙ and-assoc (leb D 10) (not (elem D (restOf load n (i + 1)))) G
 
   pub good-end : n ≤ 11 → 11 ≤ i → goodDigits (n - i) (unpack (11 - i) load) ≡ true
   unfolding goodDigits unpack
@@ -276,25 +269,25 @@ module _ (w : ℕ) where
 
 -- ---- the hint of a type
 
-pickT-same : (b : Bool) (a : ArgType) → b ≡ true → pickT b (some a) none ≡ some a
-pickT-same b a e = rw e
+hint-same : (b : Bool) (a : ArgType) → b ≡ true → cond b (some a) none ≡ some a
+hint-same b a e = rw e
 
-pickT-none : (b : Bool) (a : ArgType) → b ≡ false → pickT b (some a) none ≡ none
-pickT-none b a e = rw e
+hint-none : (b : Bool) (a : ArgType) → b ≡ false → cond b (some a) none ≡ none
+hint-none b a e = rw e
 
 -- of a known type: itself, where it is concrete
 pub hint-known : (object : ℕ) (t : ArgType) → isKnown t ≡ true → isConcrete t ≡ true → concreteHint object t ≡ some t
 unfolding concreteHint isKnown isConcrete
-hint-known object (Primitive k) a b = pickT-same (isConcrete (Primitive k)) (Primitive k) b
+hint-known object (Primitive k) a b = hint-same (isConcrete (Primitive k)) (Primitive k) b
 hint-known object (Object c) a b = refl
-hint-known object (Array t) a b = pickT-same (isConcrete t) (Array t) b
+hint-known object (Array t) a b = hint-same (isConcrete t) (Array t) b
 hint-known object (Unknown cs) a b = absurd (let z : _≡_ {A = ℕ} 0 1 = cc in omega arith)
 
 pub hint-vague : (object : ℕ) (t : ArgType) → isKnown t ≡ true → isConcrete t ≡ false → concreteHint object t ≡ none
 unfolding concreteHint isKnown isConcrete
-hint-vague object (Primitive k) a b = pickT-none (isConcrete (Primitive k)) (Primitive k) b
+hint-vague object (Primitive k) a b = hint-none (isConcrete (Primitive k)) (Primitive k) b
 hint-vague object (Object c) a b = absurd (let z : _≡_ {A = ℕ} 0 1 = cc in omega arith)
-hint-vague object (Array t) a b = pickT-none (isConcrete t) (Array t) b
+hint-vague object (Array t) a b = hint-none (isConcrete t) (Array t) b
 hint-vague object (Unknown cs) a b = absurd (let z : _≡_ {A = ℕ} 0 1 = cc in omega arith)
 
 -- of an Unknown: what its list hints at

@@ -1,7 +1,7 @@
 -- The types of ty.rs and what is asked of one or two of them, in the names and the order of cases of the Rust.
 -- A category and a class are numbers: a category's number is its place in PrimitiveType, a class's its place among the names.
 -- Assumes nothing.
-use mathlib.Core.Bool.{Bool, true, false, not}
+use mathlib.Core.Bool.{Bool, true, false, cond, not}
 use mathlib.Core.List.{List, [], _∷_}
 use mathlib.Core.Option.{Option, some, none}
 use Prim.Native.Nat.{ℕ, zero, suc, _^_}
@@ -53,13 +53,14 @@ pub data ArgType : Type 0 where
   Array : ArgType → ArgType
   Unknown : List ℕ → ArgType
 
--- how many times Array stands before what is no array, and that
+-- how many times Array stands before what is no array
 unfoldable pub depth : ArgType → ℕ
 depth (Primitive k) = 0
 depth (Object c) = 0
 depth (Array t) = suc (depth t)
 depth (Unknown cs) = 0
 
+-- a type under d arrays
 unfoldable pub arrays : ℕ → ArgType → ArgType
 arrays zero t = t
 arrays (suc d) t = Array (arrays d t)
@@ -150,27 +151,19 @@ unfoldable pub maskWith : ℕ → List ℕ → ℕ
 maskWith m [] = m
 maskWith m (c ∷ cs) = maskWith (bitOr m (2 ^ c)) cs
 
-abbrev pub pickT : Bool → Option ArgType → Option ArgType → Option ArgType
-pickT true a b = a
-pickT false a b = b
-
 -- the one type that a list of categories stands for; `object` is the number of java/lang/Object
 unfoldable pub hintOfList : ℕ → List ℕ → Option ArgType
 hintOfList object [] = none
-hintOfList object (c ∷ []) = pickT (eqb c ObjectCategory) (some (Object object)) (pickT (eqb c ArrayCategory) none (some (Primitive c)))
+hintOfList object (c ∷ []) = cond (eqb c ObjectCategory) (some (Object object)) (cond (eqb c ArrayCategory) none (some (Primitive c)))
 hintOfList object (c ∷ d ∷ cs) = none
 
 unfoldable pub concreteHint : ℕ → ArgType → Option ArgType
-concreteHint object (Primitive k) = pickT (isConcrete (Primitive k)) (some (Primitive k)) none
+concreteHint object (Primitive k) = cond (isConcrete (Primitive k)) (some (Primitive k)) none
 concreteHint object (Object c) = some (Object c)
-concreteHint object (Array t) = pickT (isConcrete t) (some (Array t)) none
+concreteHint object (Array t) = cond (isConcrete t) (some (Array t)) none
 concreteHint object (Unknown cs) = hintOfList object cs
 
 -- ---- the derived order: Primitive < Object < Array < Unknown, then what they hold
-
-abbrev pub pickO : Bool → Order → Order → Order
-pickO true a b = a
-pickO false a b = b
 
 -- the second answer where the first says Equal
 abbrev pub then : Order → Order → Order
@@ -179,7 +172,7 @@ then Equal o = o
 then Greater o = Greater
 
 unfoldable pub compareNumbers : ℕ → ℕ → Order
-compareNumbers a b = pickO (ltb a b) Less (pickO (ltb b a) Greater Equal)
+compareNumbers a b = cond (ltb a b) Less (cond (ltb b a) Greater Equal)
 
 -- left to right, a shorter prefix first
 unfoldable pub compareLists : List ℕ → List ℕ → Order

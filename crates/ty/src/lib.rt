@@ -37,7 +37,7 @@ pub enum Arrayed {
 }
 
 // The digit i of an Unknown's list, i from 0.
-fn digit(load: u64, i: u64) -> u64
+pub fn digit(load: u64, i: u64) -> u64
     requires { ⌜ i < 11 ⌝ }
     ensures { λ r. ⌜ r ≡ load / 2 ^ (4 * (10 - i)) % 16 ⌝ }
 {
