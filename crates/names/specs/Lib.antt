@@ -1,0 +1,6 @@
+-- The definitions and laws of names and of chains of checks.
+pub mod First
+pub mod Names
+pub mod Table
+pub mod Lookup
+pub mod Examples

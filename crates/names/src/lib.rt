@@ -1,0 +1,221 @@
+// Names of classes as places in a byte slice: their order, their checks, and the number of a name.
+use ty::Order;
+use utf8::is_well_formed;
+ghost use mathlib.Core.Path.{_≡_};
+ghost use mathlib.Core.Bool.{not, _&&_, _||_};
+ghost use Prim.Native.Nat.{_+_, _-_, _≤_, min};
+ghost use lib.Dec.{leb, ltb};
+ghost use lib.ListN.{length};
+ghost use Rattle.ty.specs.Types.{compareNumbers, compareLists};
+ghost use Rattle.names.specs.Names.{placeGood, nameOf, isLess, checkName, checkRow, checkNames, found, lookup, lookUp};
+
+// The class number of a name, or a refusal.
+pub struct LookedUp {
+    pub refusal: u64,
+    pub class_no: u64,
+}
+
+fn compare_numbers(a: u64, b: u64) -> Order
+    ensures { λ r. ⌜ r ≡ compareNumbers a b ⌝ }
+{
+    if a < b {
+        return Order::Less;
+    }
+    if b < a {
+        return Order::Greater;
+    }
+    Order::Equal
+}
+
+fn wide(byte: u8) -> u64
+    ensures { λ r. ⌜ r ≡ byte ⌝ }
+{
+    byte as u64
+}
+
+fn smaller(a: usize, b: usize) -> usize
+    ensures { λ r. ⌜ r ≡ min a b ⌝ }
+{
+    if a < b {
+        return a;
+    }
+    b
+}
+
+// How two names stand to each other: byte by byte, a prefix first.
+pub fn compare_names(a: &[u8], b: &[u8]) -> Order
+    ensures { λ r. ⌜ r ≡ compareLists (now (a .entry)) (now (b .entry)) ⌝ }
+{
+    let n = smaller(a.len(), b.len());
+    let mut i: usize = 0;
+    while i < n {
+        if a[i] != b[i] {
+            return compare_numbers(wide(a[i]), wide(b[i]));
+        }
+        i += 1;
+    }
+    compare_numbers(a.len() as u64, b.len() as u64)
+}
+
+// Whether the name is not above the last of `count`.
+fn is_not_above(last: &[u8], name: &[u8], count: u64) -> bool
+    ensures { λ r. ⌜ r ≡ (ltb 0 count && not (isLess (compareLists (now (last .entry)) (now (name .entry))))) ⌝ }
+{
+    if count == 0 {
+        return false;
+    }
+    let o = compare_names(last, name);
+    match o {
+        Order::Less => false,
+        Order::Equal => true,
+        Order::Greater => true,
+    }
+}
+
+// Whether there is no room for one more name of that length.
+fn is_full(length: u64, count: u64, total: u64) -> bool
+    ensures { λ r. ⌜ r ≡ (leb 1024 count || ltb 24576 (total + length)) ⌝ }
+{
+    if 1024 <= count {
+        return true;
+    }
+    if 24576 < total {
+        return true;
+    }
+    24576 - total < length
+}
+
+// The refusal of a name after `count` others that have `total` bytes, the last of them `last`; 0 where there is none.
+pub fn check_name(last: &[u8], name: &[u8], count: u64, total: u64) -> u64
+    ensures { λ r. ⌜ r ≡ checkName (now (last .entry)) (now (name .entry)) count total ⌝ }
+{
+    let n = name.len();
+    if n == 0 {
+        return 3;
+    }
+    if 255 < n {
+        return 3;
+    }
+    if !is_well_formed(name, 0, n) {
+        return 10;
+    }
+    if is_not_above(last, name, count) {
+        return 5;
+    }
+    if is_full(n as u64, count, total) {
+        return 8;
+    }
+    0
+}
+
+// Whether len bytes from at on are 1 to 255 bytes inside a slice of that size.
+fn is_place(size: u64, at: u64, len: u64) -> bool
+    ensures { λ r. ⌜ r ≡ placeGood size at len ⌝ }
+{
+    if len == 0 {
+        return false;
+    }
+    if 255 < len {
+        return false;
+    }
+    if size < at {
+        return false;
+    }
+    len <= size - at
+}
+
+// The refusal of one row, after `count` others that have `total` bytes; the last of them has `span` bytes at `last`.
+fn check_row(names: &[u8], last: u64, span: u64, at: u64, len: u64, count: u64, total: u64) -> u64
+    requires { ⌜ (last ≤ length (now names)) × (span ≤ length (now names) - last) ⌝ }
+    ensures { λ r. ⌜ r ≡ checkRow (now (names .entry)) at len (nameOf (now (names .entry)) last span) count total ⌝ }
+{
+    if !is_place(names.len() as u64, at, len) {
+        return 3;
+    }
+    let from = last as usize;
+    let to = from + span as usize;
+    let start = at as usize;
+    let end = start + len as usize;
+    check_name(&names[from..to], &names[start..end], count, total)
+}
+
+// The refusal of a table of names; 0 where there is none.
+pub fn check_names(names: &[u8], ats: &[u64], lens: &[u64]) -> u64
+    ensures { λ r. ⌜ r ≡ checkNames (now (names .entry)) (now (ats .entry)) (now (lens .entry)) ⌝ }
+{
+    if ats.len() != lens.len() {
+        return 3;
+    }
+    let mut last: u64 = 0;
+    let mut span: u64 = 0;
+    let mut total: u64 = 0;
+    let mut i: usize = 0;
+    while i < ats.len() {
+        let at = ats[i];
+        let len = lens[i];
+        let refusal = check_row(names, last, span, at, len, i as u64, total);
+        if refusal != 0 {
+            return refusal;
+        }
+        last = at;
+        span = len;
+        total += len;
+        i += 1;
+    }
+    0
+}
+
+// How the name at a place stands to the key.
+fn compare_at(names: &[u8], at: u64, len: u64, key: &[u8]) -> Order
+    requires { ⌜ (at ≤ length (now names)) × (len ≤ length (now names) - at) ⌝ }
+    ensures { λ r. ⌜ r ≡ compareLists (nameOf (now (names .entry)) at len) (now (key .entry)) ⌝ }
+{
+    let start = at as usize;
+    let end = start + len as usize;
+    compare_names(&names[start..end], key)
+}
+
+// The number of the key among checked names, by halving.
+pub fn search(names: &[u8], ats: &[u64], lens: &[u64], key: &[u8]) -> LookedUp
+    requires { ⌜ checkNames (now names) (now ats) (now lens) ≡ 0 ⌝ }
+    ensures { λ r. ⌜ r ≡ found (lookup (now (names .entry)) (now (ats .entry)) (now (lens .entry)) (now (key .entry))) ⌝ }
+{
+    let mut low: usize = 0;
+    let mut high = ats.len();
+    while low < high {
+        let middle = low + (high - low) / 2;
+        let order = compare_at(names, ats[middle], lens[middle], key);
+        match order {
+            Order::Less => {
+                low = middle + 1;
+            }
+            Order::Equal => {
+                return LookedUp {
+                    refusal: 0,
+                    class_no: middle as u64,
+                };
+            }
+            Order::Greater => {
+                high = middle;
+            }
+        }
+    }
+    LookedUp {
+        refusal: 23,
+        class_no: 0,
+    }
+}
+
+// The number of the key among names that are checked first.
+pub fn look_up(names: &[u8], ats: &[u64], lens: &[u64], key: &[u8]) -> LookedUp
+    ensures { λ r. ⌜ r ≡ lookUp (now (names .entry)) (now (ats .entry)) (now (lens .entry)) (now (key .entry)) ⌝ }
+{
+    let refusal = check_names(names, ats, lens);
+    if refusal != 0 {
+        return LookedUp {
+            refusal: refusal,
+            class_no: 0,
+        };
+    }
+    search(names, ats, lens, key)
+}

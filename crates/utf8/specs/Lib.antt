@@ -1,0 +1,5 @@
+-- Well-formed UTF-8: the definitions, the rows of the table, the laws, worked examples.
+pub mod Utf8
+pub mod Rows
+pub mod Laws
+pub mod Examples
