@@ -14,7 +14,7 @@ use Rattle.ty.specs.Digits.{Digits, pack-lt}
 use Rattle.ty.specs.Distinct.{distinct-length}
 use Rattle.ty.specs.Round.{legal-primitive, legal-object, legal-unknown, legal-none, listLoad, list-distinct, list-length, load-of-list, legal-of-word, word-of-type, arrays-word}
 use Rattle.keys.specs.Rank.{rank, digitsOf, trim, membersOf, knownBase, unrank, key, keyType}
-use Rattle.keys.specs.Laws.{deeper-known, deeper-unknown, unrank-known, unrank-unknown, unrank-rank, key-type}
+use Rattle.keys.specs.Laws.{deeper-known, deeper-unknown, unrank-known, unrank-unknown, unrank-rank, key-type, rank-lt}
 
 -- ---- the rank of a word's type
 
@@ -150,3 +150,7 @@ module _ (w : ℕ) (fits : w < 2 ^ 64) (legal : Legal w) where
   pub word-of-key : (component kind : ℕ) → kind < 8 → wordOf (keyType (key component kind (typeOf w))) ≡ w
   word-of-key component kind h =
       ap wordOf (key-type component kind (typeOf w) h (legal-of-word 1024 w fits legal)) ∙ word-of-type 1024 w legal
+
+-- the rank of a legal word has room in a key
+pub rank-fits : (w r : ℕ) → w < 2 ^ 64 → Legal w → r ≡ rank (typeOf w) → r < 2 ^ 52
+rank-fits w r f l e = let h = rank-lt (typeOf w) (legal-of-word 1024 w f l) in omega arith

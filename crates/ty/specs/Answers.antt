@@ -112,3 +112,28 @@ module _ (names w : ℕ) (legal : legalWord names w ≡ true) where
   array-deep h =
       let d = depth-dims w in
       ap (λ (b : Bool). cond b (Of (word (w + 2 ^ 56))) Deep) (le-ltb w (255 * 2 ^ 56) (omega arith))
+
+-- what the answer of `decode` tells
+
+module _ (names w : ℕ) where
+  pub good-legal : (t : TypeWord) → decodeWord names w ≡ Good t → legalWord names w ≡ true
+  unfolding decodeWord
+  good-legal t h = go (legalWord names w) h
+    where
+      go : (b : Bool) → cond b (Good (word w)) (Refused 7) ≡ Good t → b ≡ true
+      go true e = refl
+      go false e = cc
+
+  pub refused-legal : (k : ℕ) → decodeWord names w ≡ Refused k → legalWord names w ≡ false
+  unfolding decodeWord
+  refused-legal k h = go (legalWord names w) h
+    where
+      go : (b : Bool) → cond b (Good (word w)) (Refused 7) ≡ Refused k → b ≡ false
+      go true e = cc
+      go false e = refl
+
+  -- the type is the word itself
+  pub good-type : (t : TypeWord) → decodeWord names w ≡ Good t → legalWord names (t .word) ≡ true
+  good-type t h =
+      let q : word w ≡ t = cc (decode-good names w (good-legal t h)) in
+      ap (λ (u : TypeWord). legalWord names (u .word)) (sym q) ∙ good-legal t h

@@ -1,0 +1,2 @@
+-- What is proved of the generated contracts.
+pub mod Unique

@@ -1,0 +1,48 @@
+-- The promise of each exported function, as the check reads it, allows one result and one content of lent memory. Assumes nothing.
+use mathlib.Core.Path.{_≡_, sym, _∙_}
+use borrow.Fn.Kinds.{Dens, resT, endedOf}
+use denote.Triple.Clauses.{AtExit}
+use denote.Ref.{now}
+use contract.Lifetimes.{Lfts}
+use Rattle.bracepuffin.proofs.bp_read_type.Reads as bp-read-type-reads
+use Rattle.bracepuffin.proofs.bp_read_type.Kinds as bp-read-type-kinds
+use Rattle.bracepuffin.proofs.bp_read_type_strict.Reads as bp-read-type-strict-reads
+use Rattle.bracepuffin.proofs.bp_read_type_strict.Kinds as bp-read-type-strict-kinds
+use Rattle.bracepuffin.proofs.bp_read_method.Reads as bp-read-method-reads
+use Rattle.bracepuffin.proofs.bp_read_method.Kinds as bp-read-method-kinds
+use Rattle.bracepuffin.proofs.bp_read_method_strict.Reads as bp-read-method-strict-reads
+use Rattle.bracepuffin.proofs.bp_read_method_strict.Kinds as bp-read-method-strict-kinds
+use Rattle.bracepuffin.proofs.bp_write_type.Reads as bp-write-type-reads
+use Rattle.bracepuffin.proofs.bp_write_type.Kinds as bp-write-type-kinds
+use Rattle.bracepuffin.proofs.bp_write_method.Reads as bp-write-method-reads
+use Rattle.bracepuffin.proofs.bp_write_method.Kinds as bp-write-method-kinds
+use Rattle.bracepuffin.proofs.bp_lookup.Reads as bp-lookup-reads
+use Rattle.bracepuffin.proofs.bp_lookup.Kinds as bp-lookup-kinds
+
+pub bp-read-type-one : (κs : Lfts 1) (a : Dens κs bp-read-type-kinds.ps) (r₁ r₂ : resT bp-read-type-kinds.r κs .Denot) (x₁ x₂ : AtExit (endedOf 1 bp-read-type-kinds.ps bp-read-type-kinds.r) κs)
+    → bp-read-type-reads.Post κs a r₁ x₁ → bp-read-type-reads.Post κs a r₂ x₂ → r₁ ≡ r₂
+bp-read-type-one κs a r₁ r₂ x₁ x₂ p q = p ∙ sym q
+
+pub bp-read-type-strict-one : (κs : Lfts 1) (a : Dens κs bp-read-type-strict-kinds.ps) (r₁ r₂ : resT bp-read-type-strict-kinds.r κs .Denot) (x₁ x₂ : AtExit (endedOf 1 bp-read-type-strict-kinds.ps bp-read-type-strict-kinds.r) κs)
+    → bp-read-type-strict-reads.Post κs a r₁ x₁ → bp-read-type-strict-reads.Post κs a r₂ x₂ → r₁ ≡ r₂
+bp-read-type-strict-one κs a r₁ r₂ x₁ x₂ p q = p ∙ sym q
+
+pub bp-read-method-one : (κs : Lfts 2) (a : Dens κs bp-read-method-kinds.ps) (r₁ r₂ : resT bp-read-method-kinds.r κs .Denot) (x₁ x₂ : AtExit (endedOf 2 bp-read-method-kinds.ps bp-read-method-kinds.r) κs)
+    → bp-read-method-reads.Post κs a r₁ x₁ → bp-read-method-reads.Post κs a r₂ x₂ → (r₁ ≡ r₂) × (now (x₁ .1 .0) ≡ now (x₂ .1 .0))
+bp-read-method-one κs a r₁ r₂ x₁ x₂ p q = (p .0 ∙ sym (q .0), p .1 ∙ sym (q .1))
+
+pub bp-read-method-strict-one : (κs : Lfts 2) (a : Dens κs bp-read-method-strict-kinds.ps) (r₁ r₂ : resT bp-read-method-strict-kinds.r κs .Denot) (x₁ x₂ : AtExit (endedOf 2 bp-read-method-strict-kinds.ps bp-read-method-strict-kinds.r) κs)
+    → bp-read-method-strict-reads.Post κs a r₁ x₁ → bp-read-method-strict-reads.Post κs a r₂ x₂ → (r₁ ≡ r₂) × (now (x₁ .1 .0) ≡ now (x₂ .1 .0))
+bp-read-method-strict-one κs a r₁ r₂ x₁ x₂ p q = (p .0 ∙ sym (q .0), p .1 ∙ sym (q .1))
+
+pub bp-write-type-one : (κs : Lfts 4) (a : Dens κs bp-write-type-kinds.ps) (r₁ r₂ : resT bp-write-type-kinds.r κs .Denot) (x₁ x₂ : AtExit (endedOf 4 bp-write-type-kinds.ps bp-write-type-kinds.r) κs)
+    → bp-write-type-reads.Post κs a r₁ x₁ → bp-write-type-reads.Post κs a r₂ x₂ → (r₁ ≡ r₂) × (now (x₁ .1 .1 .1 .1 .0) ≡ now (x₂ .1 .1 .1 .1 .0))
+bp-write-type-one κs a r₁ r₂ x₁ x₂ p q = (p .result ∙ sym (q .result), p .memory ∙ sym (q .memory))
+
+pub bp-write-method-one : (κs : Lfts 5) (a : Dens κs bp-write-method-kinds.ps) (r₁ r₂ : resT bp-write-method-kinds.r κs .Denot) (x₁ x₂ : AtExit (endedOf 5 bp-write-method-kinds.ps bp-write-method-kinds.r) κs)
+    → bp-write-method-reads.Post κs a r₁ x₁ → bp-write-method-reads.Post κs a r₂ x₂ → (r₁ ≡ r₂) × (now (x₁ .1 .1 .1 .1 .1 .0) ≡ now (x₂ .1 .1 .1 .1 .1 .0))
+bp-write-method-one κs a r₁ r₂ x₁ x₂ p q = (p .result ∙ sym (q .result), p .memory ∙ sym (q .memory))
+
+pub bp-lookup-one : (κs : Lfts 4) (a : Dens κs bp-lookup-kinds.ps) (r₁ r₂ : resT bp-lookup-kinds.r κs .Denot) (x₁ x₂ : AtExit (endedOf 4 bp-lookup-kinds.ps bp-lookup-kinds.r) κs)
+    → bp-lookup-reads.Post κs a r₁ x₁ → bp-lookup-reads.Post κs a r₂ x₂ → r₁ ≡ r₂
+bp-lookup-one κs a r₁ r₂ x₁ x₂ p q = p ∙ sym q

@@ -1,0 +1,2 @@
+-- What the functions of the boundary answer.
+pub mod Boundary

@@ -1,0 +1,226 @@
+// What C and Rust call: thin functions over the crates below, with no logic of their own. Every call takes arbitrary numbers
+// and bytes. A refused result is its number, offset and byte, and zero in every other field.
+use descriptor::Base;
+use descriptor::MethodRead;
+use descriptor::Read;
+use descriptor::read_method;
+use descriptor::read_strict;
+use descriptor::read_whole;
+use names::LookedUp;
+use names::look_up;
+use writer::Written;
+use writer::write_method;
+use writer::write_type;
+ghost use mathlib.Core.Path.{_≡_};
+ghost use mathlib.Core.Bool.{true, false};
+ghost use lib.ListN.{length};
+ghost use Rattle.descriptor.specs.Read.{readWhole, readStrict};
+ghost use Rattle.descriptor.specs.Answers.{methodOf, paramsAfter};
+ghost use Rattle.names.specs.Names.{lookUp};
+ghost use Rattle.writer.specs.Print.{printWord, printMethodWords, typeRefusal, methodRefusal};
+ghost use Rattle.bracepuffin.specs.Boundary.{typeFound, typeAnswer, methodResult, bpMethod, foundAnswer, writtenAnswer, Wrote};
+
+#[repr(C)]
+pub struct BpType {
+    pub refusal: u64,
+    pub offset: u64,
+    pub byte: u64,
+    pub dims: u64,
+    pub tag: u64,
+    pub category: u64,
+    pub name_at: u64,
+    pub name_len: u64,
+}
+
+#[repr(C)]
+pub struct BpMethod {
+    pub refusal: u64,
+    pub offset: u64,
+    pub byte: u64,
+    pub count: u64,
+    pub return_at: u64,
+    pub dims: u64,
+    pub tag: u64,
+    pub category: u64,
+    pub name_at: u64,
+    pub name_len: u64,
+}
+
+#[repr(C)]
+pub struct BpWritten {
+    pub refusal: u64,
+    pub length: u64,
+}
+
+#[repr(C)]
+pub struct BpFound {
+    pub refusal: u64,
+    pub class_no: u64,
+}
+
+// ---- descriptors, read
+
+fn type_found(dims: u64, base: Base) -> BpType
+    ensures { λ t. ⌜ t ≡ typeFound dims base ⌝ }
+{
+    match base {
+        Base::Simple(k) => BpType {
+            refusal: 0,
+            offset: 0,
+            byte: 0,
+            dims: dims,
+            tag: 0,
+            category: k,
+            name_at: 0,
+            name_len: 0,
+        },
+        Base::Class(at, n) => BpType {
+            refusal: 0,
+            offset: 0,
+            byte: 0,
+            dims: dims,
+            tag: 1,
+            category: 0,
+            name_at: at as u64,
+            name_len: n as u64,
+        },
+    }
+}
+
+fn type_answer(r: Read) -> BpType
+    ensures { λ t. ⌜ t ≡ typeAnswer r ⌝ }
+{
+    match r {
+        Read::Found {
+            dims,
+            base,
+            next: _,
+        } => type_found(dims, base),
+        Read::Refused { code, at, byte } => BpType {
+            refusal: code,
+            offset: at as u64,
+            byte: byte,
+            dims: 0,
+            tag: 0,
+            category: 0,
+            name_at: 0,
+            name_len: 0,
+        },
+    }
+}
+
+#[no_mangle]
+pub extern "C" fn bp_read_type(d: &[u8]) -> BpType
+    ensures { λ t. ⌜ t ≡ typeAnswer (readWhole (now (d .entry))) ⌝ }
+{
+    type_answer(read_whole(d))
+}
+
+#[no_mangle]
+pub extern "C" fn bp_read_type_strict(d: &[u8]) -> BpType
+    ensures { λ t. ⌜ t ≡ typeAnswer (readStrict (now (d .entry))) ⌝ }
+{
+    type_answer(read_strict(d))
+}
+
+fn method_answer(m: MethodRead) -> BpMethod
+    ensures { λ r. ⌜ r ≡ bpMethod m ⌝ }
+{
+    let base = m.base;
+    match base {
+        Base::Simple(k) => BpMethod {
+            refusal: m.refusal,
+            offset: m.offset as u64,
+            byte: m.byte,
+            count: m.count,
+            return_at: m.return_at as u64,
+            dims: m.dims,
+            tag: 0,
+            category: k,
+            name_at: 0,
+            name_len: 0,
+        },
+        Base::Class(at, n) => BpMethod {
+            refusal: m.refusal,
+            offset: m.offset as u64,
+            byte: m.byte,
+            count: m.count,
+            return_at: m.return_at as u64,
+            dims: m.dims,
+            tag: 1,
+            category: 0,
+            name_at: at as u64,
+            name_len: n as u64,
+        },
+    }
+}
+
+#[no_mangle]
+pub extern "C" fn bp_read_method(d: &[u8], params: &mut [u64]) -> BpMethod
+    ensures { λ r. ⌜ (r ≡ methodResult (methodOf false (now (d .entry)) (length (now (params .entry))))) × (now (params .exit) ≡ paramsAfter (now (params .entry)) (methodOf false (now (d .entry)) (length (now (params .entry))))) ⌝ }
+{
+    method_answer(read_method(d, params, false))
+}
+
+#[no_mangle]
+pub extern "C" fn bp_read_method_strict(d: &[u8], params: &mut [u64]) -> BpMethod
+    ensures { λ r. ⌜ (r ≡ methodResult (methodOf true (now (d .entry)) (length (now (params .entry))))) × (now (params .exit) ≡ paramsAfter (now (params .entry)) (methodOf true (now (d .entry)) (length (now (params .entry))))) ⌝ }
+{
+    method_answer(read_method(d, params, true))
+}
+
+// ---- descriptors, written
+
+fn written_answer(w: Written) -> BpWritten
+    ensures { λ r. ⌜ r ≡ writtenAnswer w ⌝ }
+{
+    BpWritten {
+        refusal: w.refusal,
+        length: w.length,
+    }
+}
+
+#[no_mangle]
+pub extern "C" fn bp_write_type(
+    names: &[u8],
+    name_at: &[u64],
+    name_len: &[u64],
+    word: u64,
+    out: &mut [u8],
+) -> BpWritten
+    ensures { λ r. ⌜ Wrote (typeRefusal (now (names .entry)) (now («name_at» .entry)) (now («name_len» .entry)) word (length (now (out .entry)))) (printWord (now (names .entry)) (now («name_at» .entry)) (now («name_len» .entry)) word) (now (out .entry)) (now (out .exit)) r ⌝ }
+{
+    written_answer(write_type(names, name_at, name_len, word, out))
+}
+
+#[no_mangle]
+pub extern "C" fn bp_write_method(
+    names: &[u8],
+    name_at: &[u64],
+    name_len: &[u64],
+    params: &[u64],
+    result: u64,
+    out: &mut [u8],
+) -> BpWritten
+    ensures { λ r. ⌜ Wrote (methodRefusal (now (names .entry)) (now («name_at» .entry)) (now («name_len» .entry)) (now (params .entry)) result (length (now (out .entry)))) (printMethodWords (now (names .entry)) (now («name_at» .entry)) (now («name_len» .entry)) (now (params .entry)) result) (now (out .entry)) (now (out .exit)) r ⌝ }
+{
+    written_answer(write_method(names, name_at, name_len, params, result, out))
+}
+
+// ---- names
+
+fn found_answer(f: LookedUp) -> BpFound
+    ensures { λ r. ⌜ r ≡ foundAnswer f ⌝ }
+{
+    BpFound {
+        refusal: f.refusal,
+        class_no: f.class_no,
+    }
+}
+
+#[no_mangle]
+pub extern "C" fn bp_lookup(names: &[u8], name_at: &[u64], name_len: &[u64], key: &[u8]) -> BpFound
+    ensures { λ r. ⌜ r ≡ foundAnswer (lookUp (now (names .entry)) (now («name_at» .entry)) (now («name_len» .entry)) (now (key .entry))) ⌝ }
+{
+    found_answer(look_up(names, name_at, name_len, key))
+}

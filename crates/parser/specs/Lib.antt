@@ -1,0 +1,2 @@
+-- What the parser asks at its offset.
+pub mod Offsets

@@ -1,0 +1,103 @@
+// A case: `name arguments = answers`, one blank between, each number at most 16 lower-case hex digits.
+use crate::text;
+use crate::text::Number;
+ghost use Prim.Native.Nat.{_+_, _≤_};
+ghost use lib.ListN.{length};
+
+// The name as a number; how many numbers there are, the arguments first, and how many of them are arguments.
+pub struct Case {
+    pub name: u64,
+    pub count: usize,
+    pub split: usize,
+}
+
+// A line as far as it is read: the numbers so far, how many of them stood before the equals sign, whether there was one,
+// and whether every word could be read.
+struct Reading {
+    count: usize,
+    split: usize,
+    halved: bool,
+    good: bool,
+}
+
+fn is_equals(word: &[u8]) -> bool {
+    word.len() == 1 && word[0] == b'='
+}
+
+impl Reading {
+    fn bad(self) -> Reading {
+        Reading {
+            count: self.count,
+            split: self.split,
+            halved: self.halved,
+            good: false,
+        }
+    }
+
+    fn equals(self) -> Reading {
+        Reading {
+            count: self.count,
+            split: self.count,
+            halved: true,
+            good: self.good && !self.halved,
+        }
+    }
+}
+
+// One word after the name.
+fn field(r: Reading, word: &[u8], numbers: &mut [u64]) -> Reading {
+    if is_equals(word) {
+        return r.equals();
+    }
+    let Number::Is(n) = text::hex_number(word) else {
+        return r.bad();
+    };
+    let at = r.count;
+    if numbers.len() <= at {
+        return r.bad();
+    }
+    numbers[at] = n;
+    Reading {
+        count: at + 1,
+        split: r.split,
+        halved: r.halved,
+        good: r.good,
+    }
+}
+
+// All words from `from` on.
+fn fields(line: &[u8], from: usize, numbers: &mut [u64]) -> Reading
+    requires { ⌜ from ≤ length (now line) + 1 ⌝ }
+{
+    let mut r = Reading {
+        count: 0,
+        split: 0,
+        halved: false,
+        good: true,
+    };
+    let mut i = from;
+    while i <= line.len() {
+        let e = text::part_end(line, i, b' ');
+        r = field(r, &line[i..e], numbers);
+        i = e + 1;
+    }
+    r
+}
+
+// The case of a line; its numbers go into `numbers`. A line that is none has a name that no function has.
+pub fn read(line: &[u8], numbers: &mut [u64]) -> Case {
+    let e = text::part_end(line, 0, b' ');
+    let r = fields(line, e + 1, numbers);
+    if r.good && r.halved {
+        return Case {
+            name: text::name_code(&line[0..e]),
+            count: r.count,
+            split: r.split,
+        };
+    }
+    Case {
+        name: 0,
+        count: 0,
+        split: 0,
+    }
+}

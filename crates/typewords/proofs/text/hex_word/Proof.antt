@@ -1,0 +1,55 @@
+-- `hex_word` is safe and ends. Assumes nothing.
+use borrow.Author.Needs.{needs}
+use Prim.Native.Nat.{_-_, _≤_}
+use lib.ListN.{length}
+use Rattle.typewords.proofs.text.hex_word.Statement.{statement}
+use Rattle.typewords.proofs.text.hex_word.Tie as tie
+
+abbrev Inv-loop : tie.InvT-loop
+Inv-loop line w₀ i₀ w i = i ≤ length line
+
+abbrev μ-loop : tie.MeasureT-loop
+μ-loop line w₀ i₀ w i = length line - i
+
+returns : tie.Need-returns Inv-loop μ-loop
+returns c = search needs
+
+loop-holds : tie.Need-loop-holds Inv-loop μ-loop
+loop-holds c = search needs
+
+shared-slice-read-hex-digit : tie.Need-shared-slice-read-hex-digit Inv-loop μ-loop
+shared-slice-read-hex-digit c = search needs
+
+hex-digit-requires : tie.Need-hex-digit-requires Inv-loop μ-loop
+hex-digit-requires c κs = search needs
+
+returns-2 : tie.Need-returns-2 Inv-loop μ-loop
+returns-2 c = search needs
+
+add-i : tie.Need-add-i Inv-loop μ-loop
+add-i c = search needs
+
+loop-less : tie.Need-loop-less Inv-loop μ-loop
+loop-less c = search needs
+
+loop-again : tie.Need-loop-again Inv-loop μ-loop
+loop-again c = search needs
+
+returns-3 : tie.Need-returns-3 Inv-loop μ-loop
+returns-3 c = search needs
+
+pub hex-word-spec : {M : Type 1} → statement M
+hex-word-spec =
+    tie.close
+    (tie.spec
+    Inv-loop
+    μ-loop
+    returns
+    loop-holds
+    shared-slice-read-hex-digit
+    hex-digit-requires
+    returns-2
+    add-i
+    loop-less
+    loop-again
+    returns-3)

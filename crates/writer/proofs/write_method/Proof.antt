@@ -1,0 +1,47 @@
+-- `write_method` meets its contract: the names' refusal first. Assumes nothing.
+use borrow.Author.Needs.{needs}
+use mathlib.Core.Path.{sym, _∙_}
+use lib.ListN.{length}
+use Rattle.names.specs.Table.{checked}
+use Rattle.writer.specs.Steps.{method-unnamed, method-named, wrote-none, wrote-as}
+use Rattle.writer.proofs.write_method.Statement.{statement}
+use Rattle.writer.proofs.write_method.Tie as tie
+
+check-names-requires : tie.Need-check-names-requires
+check-names-requires c κs = search needs
+
+refused-requires : tie.Need-refused-requires
+refused-requires c κs = search needs
+
+returns : tie.Need-returns
+returns c =
+    let a = c .before .before .before .before .before .before .before .before .args in
+    let k = c .before .before .check-names in
+    wrote-none (k .result) (method-unnamed (a .names .now) (a .ats .now) (a .lens .now) (k .result) (k .ensures) (a .params .now) (a .result) (length (a .out .now)) (c .before .if1 .taken))
+    (c .before .if1 .taken) (c .refused .ensures)
+
+write-checked-method-requires : tie.Need-write-checked-method-requires
+write-checked-method-requires c κs =
+    let a = c .before .before .before .before .before .before .before .before .args in
+    checked (a .names .now) (a .ats .now) (a .lens .now) (sym (c .before .before .check-names .ensures) ∙ c .before .if1 .left)
+
+same-length : tie.Need-same-length
+same-length c = search needs
+
+returns-2 : tie.Need-returns-2
+returns-2 c =
+    let a = c .before .before .before .before .before .before .before .before .before .before .before .args in
+    let k = c .before .before .before .before .before .check-names in
+    wrote-as (method-named (a .names .now) (a .ats .now) (a .lens .now) (k .result) (k .ensures) (a .params .now) (a .result) (length (a .out .now)) (c .before .before .before .before .if1 .left))
+    (c .before .before .write-checked-method .ensures)
+
+pub write-method-spec : {M : Type 1} → statement M
+write-method-spec =
+    tie.close
+    (tie.spec
+    check-names-requires
+    refused-requires
+    returns
+    write-checked-method-requires
+    same-length
+    returns-2)

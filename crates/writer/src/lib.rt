@@ -1,0 +1,295 @@
+// Types and methods written as descriptors, from words over a table of names: lengths first, then the bytes.
+use names::check_names;
+use ty::Decoded;
+use ty::decode;
+ghost use mathlib.Core.Path.{_≡_};
+ghost use mathlib.Core.Bool.{true};
+ghost use Prim.Native.Nat.{_+_, _≤_};
+ghost use lib.ListN.{length, take, drop, replicate};
+ghost use lib.Seq.{sets};
+ghost use Rattle.ty.specs.Words.{legalBase, legalWord};
+ghost use Rattle.names.specs.Table.{Checked};
+ghost use Rattle.writer.specs.Print.{letterByte, allLegal, printWord, printWords, printMethodWords, Wrote, checkedTypeRefusal, typeRefusal, checkedMethodRefusal, methodRefusal};
+ghost use Rattle.writer.specs.Store.{Put};
+ghost use Rattle.writer.specs.Steps.{Short, classBytes, printBase, wordSize, wordsSize, methodSize};
+
+// How much was written; or a refusal, and nothing was.
+pub struct Written {
+    pub refusal: u64,
+    pub length: u64,
+}
+
+// ---- which words are types
+
+fn is_legal(word: u64, names: u64) -> bool
+    ensures { λ r. ⌜ r ≡ legalWord names word ⌝ }
+{
+    let d = decode(word, names);
+    match d {
+        Decoded::Good(_) => true,
+        Decoded::Refused(_) => false,
+    }
+}
+
+fn are_legal(words: &[u64], names: u64) -> bool
+    ensures { λ r. ⌜ r ≡ allLegal names (now (words .entry)) ⌝ }
+{
+    let mut i: usize = 0;
+    while i < words.len() {
+        if !is_legal(words[i], names) {
+            return false;
+        }
+        i += 1;
+    }
+    true
+}
+
+// ---- lengths
+
+fn type_length(lens: &[u64], word: u64) -> u64
+    requires { ⌜ Short (now lens) × (legalWord (length (now lens)) word ≡ true) ⌝ }
+    ensures { λ r. ⌜ (r ≡ wordSize (now (lens .entry)) word) × (r ≤ 512) ⌝ }
+{
+    let dims = word / 72057594037927936;
+    let tag = word / 281474976710656 % 256;
+    if tag == 1 {
+        let class = (word % 281474976710656) as usize;
+        return dims + (lens[class] + 2);
+    }
+    dims + 1
+}
+
+fn types_length(lens: &[u64], words: &[u64]) -> u64
+    requires { ⌜ Short (now lens) × (allLegal (length (now lens)) (now words) ≡ true) × (length (now words) ≤ 255) ⌝ }
+    ensures { λ r. ⌜ (r ≡ wordsSize (now (lens .entry)) (now (words .entry))) × (r ≤ 130560) ⌝ }
+{
+    let mut n: u64 = 0;
+    let mut i: usize = 0;
+    while i < words.len() {
+        n += type_length(lens, words[i]);
+        i += 1;
+    }
+    n
+}
+
+// With the brackets around the parameters.
+fn method_length(lens: &[u64], params: &[u64], result: u64) -> u64
+    requires { ⌜ Short (now lens) × (allLegal (length (now lens)) (now params) ≡ true) × (length (now params) ≤ 255) × (legalWord (length (now lens)) result ≡ true) ⌝ }
+    ensures { λ r. ⌜ r ≡ methodSize (now (lens .entry)) (now (params .entry)) result ⌝ }
+{
+    types_length(lens, params) + type_length(lens, result) + 2
+}
+
+// ---- bytes
+
+const LETTERS: [u8; 11] = *b"VZBSCIJFDL[";
+
+fn letter(category: u64) -> u8
+    requires { ⌜ category ≤ 10 ⌝ }
+    ensures { λ r. ⌜ r ≡ letterByte category ⌝ }
+{
+    LETTERS[category as usize]
+}
+
+// A '[' for each dimension.
+fn put_brackets(out: &mut [u8], at: usize, dims: usize)
+    requires { ⌜ at + dims ≤ length (now out) ⌝ }
+    ensures { λ _. ⌜ now (out .exit) ≡ sets (now (out .entry)) at (replicate dims 91) ⌝ }
+{
+    let mut i: usize = 0;
+    while i < dims {
+        out[at + i] = b'[';
+        i += 1;
+    }
+}
+
+fn put_bytes(bytes: &[u8], from: usize, n: usize, out: &mut [u8], at: usize)
+    requires { ⌜ (from + n ≤ length (now bytes)) × (at + n ≤ length (now out)) ⌝ }
+    ensures { λ _. ⌜ now (out .exit) ≡ sets (now (out .entry)) at (take n (drop from (now (bytes .entry)))) ⌝ }
+{
+    let mut i: usize = 0;
+    while i < n {
+        out[at + i] = bytes[from + i];
+        i += 1;
+    }
+}
+
+// A class by its name; what comes back here and below is the offset after it.
+fn put_class(bytes: &[u8], from: usize, n: usize, out: &mut [u8], at: usize) -> usize
+    requires { ⌜ (from + n ≤ length (now bytes)) × (at + (n + 2) ≤ length (now out)) ⌝ }
+    ensures { λ r. ⌜ Put (classBytes (take n (drop from (now (bytes .entry))))) (now (out .entry)) (now (out .exit)) at r ⌝ }
+{
+    out[at] = b'L';
+    put_bytes(bytes, from, n, out, at + 1);
+    let end = at + 1 + n;
+    out[end] = b';';
+    end + 1
+}
+
+// What stands after the dimensions.
+fn put_base(
+    names: &[u8],
+    ats: &[u64],
+    lens: &[u64],
+    tag: u64,
+    load: u64,
+    out: &mut [u8],
+    at: usize,
+) -> usize
+    requires { ⌜ Checked (now names) (now ats) (now lens) × (legalBase (length (now ats)) tag load ≡ true) × (at + length (printBase (now names) (now ats) (now lens) tag load) ≤ length (now out)) ⌝ }
+    ensures { λ r. ⌜ Put (printBase (now (names .entry)) (now (ats .entry)) (now (lens .entry)) tag load) (now (out .entry)) (now (out .exit)) at r ⌝ }
+{
+    if tag == 0 {
+        out[at] = letter(load);
+        return at + 1;
+    }
+    if tag == 1 {
+        let class = load as usize;
+        let from = ats[class] as usize;
+        let n = lens[class] as usize;
+        return put_class(names, from, n, out, at);
+    }
+    out[at] = b'?';
+    at + 1
+}
+
+// The descriptor of a word's type.
+fn put_type(names: &[u8], ats: &[u64], lens: &[u64], word: u64, out: &mut [u8], at: usize) -> usize
+    requires { ⌜ Checked (now names) (now ats) (now lens) × (legalWord (length (now ats)) word ≡ true) × (at + length (printWord (now names) (now ats) (now lens) word) ≤ length (now out)) ⌝ }
+    ensures { λ r. ⌜ Put (printWord (now (names .entry)) (now (ats .entry)) (now (lens .entry)) word) (now (out .entry)) (now (out .exit)) at r ⌝ }
+{
+    let dims = (word / 72057594037927936) as usize;
+    let tag = word / 281474976710656 % 256;
+    let load = word % 281474976710656;
+    put_brackets(out, at, dims);
+    put_base(names, ats, lens, tag, load, out, at + dims)
+}
+
+// The descriptors of the words' types, one after the other.
+fn put_types(
+    names: &[u8],
+    ats: &[u64],
+    lens: &[u64],
+    words: &[u64],
+    out: &mut [u8],
+    at: usize,
+) -> usize
+    requires { ⌜ Checked (now names) (now ats) (now lens) × (allLegal (length (now ats)) (now words) ≡ true) × (at + length (printWords (now names) (now ats) (now lens) (now words)) ≤ length (now out)) ⌝ }
+    ensures { λ r. ⌜ Put (printWords (now (names .entry)) (now (ats .entry)) (now (lens .entry)) (now (words .entry))) (now (out .entry)) (now (out .exit)) at r ⌝ }
+{
+    let mut next = at;
+    let mut i: usize = 0;
+    while i < words.len() {
+        next = put_type(names, ats, lens, words[i], out, next);
+        i += 1;
+    }
+    next
+}
+
+// The descriptor of a method.
+fn put_method(
+    names: &[u8],
+    ats: &[u64],
+    lens: &[u64],
+    params: &[u64],
+    result: u64,
+    out: &mut [u8],
+) -> usize
+    requires { ⌜ Checked (now names) (now ats) (now lens) × (allLegal (length (now ats)) (now params) ≡ true) × (legalWord (length (now ats)) result ≡ true) × (length (printMethodWords (now names) (now ats) (now lens) (now params) result) ≤ length (now out)) ⌝ }
+    ensures { λ r. ⌜ Put (printMethodWords (now (names .entry)) (now (ats .entry)) (now (lens .entry)) (now (params .entry)) result) (now (out .entry)) (now (out .exit)) 0 r ⌝ }
+{
+    out[0] = b'(';
+    let close = put_types(names, ats, lens, params, out, 1);
+    out[close] = b')';
+    put_type(names, ats, lens, result, out, close + 1)
+}
+
+// ---- the writers, over names that were checked
+
+fn refused(code: u64) -> Written
+    ensures { λ r. ⌜ r ≡ record { refusal = code; «length» = 0 } ⌝ }
+{
+    Written {
+        refusal: code,
+        length: 0,
+    }
+}
+
+fn write_checked_type(names: &[u8], ats: &[u64], lens: &[u64], word: u64, out: &mut [u8]) -> Written
+    requires { ⌜ Checked (now names) (now ats) (now lens) ⌝ }
+    ensures { λ r. ⌜ Wrote (checkedTypeRefusal (now (names .entry)) (now (ats .entry)) (now (lens .entry)) word (length (now (out .entry)))) (printWord (now (names .entry)) (now (ats .entry)) (now (lens .entry)) word) (now (out .entry)) (now (out .exit)) r ⌝ }
+{
+    if !is_legal(word, ats.len() as u64) {
+        return refused(7);
+    }
+    if (out.len() as u64) < type_length(lens, word) {
+        return refused(22);
+    }
+    let end = put_type(names, ats, lens, word, out, 0);
+    Written {
+        refusal: 0,
+        length: end as u64,
+    }
+}
+
+fn write_checked_method(
+    names: &[u8],
+    ats: &[u64],
+    lens: &[u64],
+    params: &[u64],
+    result: u64,
+    out: &mut [u8],
+) -> Written
+    requires { ⌜ Checked (now names) (now ats) (now lens) ⌝ }
+    ensures { λ r. ⌜ Wrote (checkedMethodRefusal (now (names .entry)) (now (ats .entry)) (now (lens .entry)) (now (params .entry)) result (length (now (out .entry)))) (printMethodWords (now (names .entry)) (now (ats .entry)) (now (lens .entry)) (now (params .entry)) result) (now (out .entry)) (now (out .exit)) r ⌝ }
+{
+    if 255 < params.len() {
+        return refused(8);
+    }
+    let n = ats.len() as u64;
+    if !are_legal(params, n) {
+        return refused(7);
+    }
+    if !is_legal(result, n) {
+        return refused(7);
+    }
+    if (out.len() as u64) < method_length(lens, params, result) {
+        return refused(22);
+    }
+    let end = put_method(names, ats, lens, params, result, out);
+    Written {
+        refusal: 0,
+        length: end as u64,
+    }
+}
+
+// ---- the writers
+
+// The descriptor of a word's type over a table of names.
+pub fn write_type(names: &[u8], ats: &[u64], lens: &[u64], word: u64, out: &mut [u8]) -> Written
+    ensures { λ r. ⌜ Wrote (typeRefusal (now (names .entry)) (now (ats .entry)) (now (lens .entry)) word (length (now (out .entry)))) (printWord (now (names .entry)) (now (ats .entry)) (now (lens .entry)) word) (now (out .entry)) (now (out .exit)) r ⌝ }
+{
+    let refusal = check_names(names, ats, lens);
+    if refusal != 0 {
+        return refused(refusal);
+    }
+    write_checked_type(names, ats, lens, word, out)
+}
+
+// The descriptor of a method, its parameters and its result as words.
+pub fn write_method(
+    names: &[u8],
+    ats: &[u64],
+    lens: &[u64],
+    params: &[u64],
+    result: u64,
+    out: &mut [u8],
+) -> Written
+    ensures { λ r. ⌜ Wrote (methodRefusal (now (names .entry)) (now (ats .entry)) (now (lens .entry)) (now (params .entry)) result (length (now (out .entry)))) (printMethodWords (now (names .entry)) (now (ats .entry)) (now (lens .entry)) (now (params .entry)) result) (now (out .entry)) (now (out .exit)) r ⌝ }
+{
+    let refusal = check_names(names, ats, lens);
+    if refusal != 0 {
+        return refused(refusal);
+    }
+    write_checked_method(names, ats, lens, params, result, out)
+}
