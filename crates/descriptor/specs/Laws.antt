@@ -2,12 +2,12 @@
 use mathlib.Core.Path.{_≡_, refl, sym, ap, subst, _∙_}
 use mathlib.Core.Bool.{Bool, true, false}
 use mathlib.Core.List.{List, [], _∷_}
-use Prim.Native.Nat.{ℕ, zero, suc, _+_, _≤_, _<_}
+use Prim.Native.Nat.{ℕ, zero, suc, _+_, _-_, _≤_, _<_}
 use native.Mathlib.Omega.{arith}
 use lib.Dec.{eqb, leb, ltb}
 use lib.ListN.{length, take, drop, getD, length-take, length-drop}
 use lib.Seq.{getD-drop}
-use borrow.Author.Tests.{eqb-true, eqb-false, leb-true, leb-false, ltb-true, ltb-false, eq-eqb}
+use borrow.Author.Tests.{eqb-true, eqb-false, leb-true, leb-false, ltb-true, ltb-false, eq-eqb, ne-eqb}
 use Rattle.utf8.specs.Utf8.{validPrefix, wellFormed}
 use Rattle.utf8.specs.Laws.{prefix-le}
 use Rattle.descriptor.specs.declared.Base.{Base}
@@ -30,6 +30,23 @@ abbrev pub BaseTells : List ℕ → ℕ → Base → ℕ → Type 0
 BaseTells s at (Simple k) next = k ≤ 8
 BaseTells s at (Class p n) next = NameTells s at p n next
 
+-- a name stands after the brackets and its 'L'
+abbrev pub Behind : ℕ → ℕ → ℕ → Base → Type 0
+Behind at dims d (Simple k) = Unit {0}
+Behind at dims d (Class p n) = p + dims ≡ at + d + 1
+
+abbrev pub byteIf : Bool → ℕ → ℕ
+byteIf true b = b
+byteIf false b = 0
+
+-- a refusal of a type read from `at` on: for 12 it names the byte at its offset
+pub record RefusedTells (s : List ℕ) (at code o byte : ℕ) : Type 0 where
+  pub least : 11 ≤ code
+  pub most : code ≤ 24
+  pub onward : at ≤ o
+  pub inside : code ≡ 12 → o < length s
+  pub names : byte ≡ byteIf (eqb code 12) (getD s o 0)
+
 -- a type of d dimensions, read from `at` on after `dims` brackets
 pub record FoundTells (s : List ℕ) (at dims d : ℕ) (base : Base) (next : ℕ) : Type 0 where
   pub forward : at < next
@@ -37,20 +54,24 @@ pub record FoundTells (s : List ℕ) (at dims d : ℕ) (base : Base) (next : ℕ
   pub deeper : dims ≤ d
   pub shallow : d ≤ 255
   pub made : BaseTells s at base next
+  pub behind : Behind at dims d base
 
 abbrev pub Tells : List ℕ → ℕ → ℕ → Read → Type 0
 Tells s at dims (Found d base next) = FoundTells s at dims d base next
-Tells s at dims (Refused code o byte) = (11 ≤ code) × (at ≤ o)
+Tells s at dims (Refused code o byte) = RefusedTells s at code o byte
 
 module _ (s : List ℕ) where
   either : (at dims : ℕ) (t : Bool) (a b : Read) → (t ≡ true → Tells s at dims a) → (t ≡ false → Tells s at dims b) → Tells s at dims (pickR t a b)
   either at dims true a b f g = f refl
   either at dims false a b f g = g refl
 
+  plain : (at code o : ℕ) → 11 ≤ code → code ≤ 24 → (code ≡ 12 → ⊥) → at ≤ o → RefusedTells s at code o 0
+  plain at code o l m n h = record { least = l; most = m; onward = h; inside = λ e. absurd (n e); names = rw (ne-eqb code 12 n) }
+
   -- one byte earlier, under one bracket less
   earlier : (at dims : ℕ) (r : Read) → Tells s (at + 1) (dims + 1) r → Tells s at dims r
   earlier at dims (Found d (Simple k) next) h =
-      record { forward = omega arith; within = h .within; deeper = omega arith; shallow = h .shallow; made = h .made }
+      record { forward = omega arith; within = h .within; deeper = omega arith; shallow = h .shallow; made = h .made; behind = tt }
   earlier at dims (Found d (Class p n) next) h =
       record {
         forward = omega arith;
@@ -58,8 +79,9 @@ module _ (s : List ℕ) where
         deeper = omega arith;
         shallow = h .shallow;
         made = record { after = let q = h .made .after in omega arith; some = h .made .some; within = h .made .within; ends = h .made .ends; first = h .made .first; valid = h .made .valid };
+        behind = let b = h .behind in omega arith;
       }
-  earlier at dims (Refused code o byte) h = (h .0, omega arith)
+  earlier at dims (Refused code o byte) h = record { least = h .least; most = h .most; onward = omega arith; inside = h .inside; names = h .names }
 
   module _ (at dims : ℕ) (h : at < length s) (l : dims ≤ 255) where
     name-tells : Tells s at dims (readName (drop (at + 1) s) at dims)
@@ -69,10 +91,14 @@ module _ (s : List ℕ) where
         let n = indexOf 59 bs in
         let v = validPrefix (take n bs) in
         let m = length-drop (at + 1) s in
-        either at dims (leb (length bs) n) _ _ (λ e. (omega arith, omega arith)) λ e.
-        either at dims (eqb n 0) _ _ (λ f. (omega arith, omega arith)) λ f.
-        either at dims (ltb v n) _ _ (λ g. (omega arith, omega arith)) λ g.
+        either at dims (leb (length bs) n) _ _ (λ e. plain at 11 _ (omega arith) (omega arith) (λ z. omega arith) (omega arith)) λ e.
         let e′ = leb-false (length bs) n e in
+        either at dims (eqb n 0) _ _ (λ f. plain at 14 _ (omega arith) (omega arith) (λ z. omega arith) (omega arith)) λ f.
+        either at dims (ltb v n) _ _
+        (λ g.
+        let g′ = ltb-true v n g in
+        record { least = omega arith; most = omega arith; onward = omega arith; inside = λ z. omega arith; names = getD-drop (at + 1) s v 0 })
+        λ g.
         let f′ = eqb-false n 0 f in
         let g′ = ltb-false v n g in
         let t = length-take n bs in
@@ -83,34 +109,36 @@ module _ (s : List ℕ) where
           deeper = omega arith;
           shallow = l;
           made = record { after = omega arith; some = omega arith; within = omega arith; ends = refl; first = refl; valid = eq-eqb v (length (take n bs)) (omega arith) };
+          behind = omega arith;
         }
 
-    choose-tells : (k b : ℕ) (void : Bool) (inner : Read) → (dims < 255 → Tells s (at + 1) (dims + 1) inner) → Tells s at dims (choose k b (drop (at + 1) s) at void dims inner)
-    choose-tells k b void inner deeper =
+    choose-tells : (k : ℕ) (void : Bool) (inner : Read) → (dims < 255 → Tells s (at + 1) (dims + 1) inner)
+        → Tells s at dims (choose k (getD s at 0) (drop (at + 1) s) at void dims inner)
+    choose-tells k void inner deeper =
         either at dims (eqb k 0) _ _
-        (λ e. either at dims void _ _ (λ f. simple 0 (omega arith)) (λ f. (omega arith, omega arith)))
+        (λ e. either at dims void _ _ (λ f. simple 0 (omega arith)) (λ f. plain at 13 at (omega arith) (omega arith) (λ z. omega arith) (omega arith)))
         λ e. either at dims (ltb k 9) _ _ (λ f. simple k (let g = ltb-true k 9 f in omega arith))
         λ f. either at dims (eqb k 9) _ _ (λ g. name-tells)
         λ g. either at dims (eqb k 10) _ _
-        (λ i. either at dims (leb 255 dims) _ _ (λ j. (omega arith, omega arith)) (λ j. earlier at dims inner (deeper (leb-false 255 dims j))))
-        λ i. (omega arith, omega arith)
+        (λ i. either at dims (leb 255 dims) _ _ (λ j. plain at 18 at (omega arith) (omega arith) (λ z. omega arith) (omega arith)) (λ j. earlier at dims inner (deeper (leb-false 255 dims j))))
+        λ i. record { least = omega arith; most = omega arith; onward = omega arith; inside = λ z. h; names = refl }
       where
         simple : (c : ℕ) → c ≤ 8 → Tells s at dims (Found dims (Simple c) (at + 1))
-        simple c i = record { forward = omega arith; within = omega arith; deeper = omega arith; shallow = l; made = i }
+        simple c i = record { forward = omega arith; within = omega arith; deeper = omega arith; shallow = l; made = i; behind = tt }
 
   turns-tell : (turns at : ℕ) (void : Bool) (dims : ℕ) → length s ≤ turns + at → dims ≤ 255 → Tells s at dims (readType (drop at s) at void dims)
-  turns-tell zero at void dims m l = subst (Tells s at dims) (sym (read-end s at void dims (omega arith))) (omega arith, omega arith)
+  turns-tell zero at void dims m l = subst (Tells s at dims) (sym (read-end s at void dims (omega arith))) (plain at 11 at (omega arith) (omega arith) (λ z. omega arith) (omega arith))
   turns-tell (suc turns) at void dims m l = go (leb (length s) at) refl (λ i. turns-tell turns (at + 1) false (dims + 1) (omega arith) (omega arith))
     where
       inner : Read
       inner = readType (drop (at + 1) s) (at + 1) false (dims + 1)
 
       go : (t : Bool) → leb (length s) at ≡ t → (dims < 255 → Tells s (at + 1) (dims + 1) inner) → Tells s at dims (readType (drop at s) at void dims)
-      go true e f = subst (Tells s at dims) (sym (read-end s at void dims (leb-true (length s) at e))) (omega arith, omega arith)
+      go true e f = subst (Tells s at dims) (sym (read-end s at void dims (leb-true (length s) at e))) (plain at 11 at (omega arith) (omega arith) (λ z. omega arith) (omega arith))
       go false e f =
           let h = leb-false (length s) at e in
           subst (Tells s at dims) (sym (read-at s at void dims h (letterOf (getD s at 0)) refl))
-          (choose-tells at dims h l (letterOf (getD s at 0)) (getD s at 0) void inner f)
+          (choose-tells at dims h l (letterOf (getD s at 0)) void inner f)
 
   -- what is told of the type at an offset
   pub read-tells : (at : ℕ) (void : Bool) (dims : ℕ) → dims ≤ 255 → Tells s at dims (readType (drop at s) at void dims)
@@ -119,7 +147,7 @@ module _ (s : List ℕ) where
   -- what is refused after a type
   pub finish-tells : (at dims : ℕ) (r : Read) → Tells s at dims r → Tells s at dims (finish s r)
   unfolding finish
-  finish-tells at dims (Found d base next) h = either at dims (eqb next (length s)) _ _ (λ e. h) (λ e. (omega arith, let f = h .forward in omega arith))
+  finish-tells at dims (Found d base next) h = either at dims (eqb next (length s)) _ _ (λ e. h) (λ e. plain at 15 next (omega arith) (omega arith) (λ z. omega arith) (let f = h .forward in omega arith))
   finish-tells at dims (Refused code o byte) h = h
 
   -- what is told of a type holds of it judged strictly
@@ -127,7 +155,7 @@ module _ (s : List ℕ) where
   unfolding strictly
   strictly-tells at dims (Found d (Simple k) next) h = h
   strictly-tells at dims (Found d (Class p n) next) h =
-      either at dims (strictName (take n (drop p s))) _ _ (λ e. h) (λ e. (omega arith, let a = h .made .after in omega arith))
+      either at dims (strictName (take n (drop p s))) _ _ (λ e. h) (λ e. plain at 24 (p - 1) (omega arith) (omega arith) (λ z. omega arith) (let a = h .made .after in omega arith))
   strictly-tells at dims (Refused code o byte) h = h
 
   -- a class's name lies within the bytes

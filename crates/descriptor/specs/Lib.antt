@@ -4,6 +4,7 @@ pub mod Method
 pub mod Answers
 pub mod Steps
 pub mod Laws
+pub mod Core
 pub mod Params
 pub mod Filled
 pub mod Examples

@@ -2,12 +2,12 @@
 use mathlib.Core.Path.{_≡_, refl, sym, ap, ap₂, _∙_}
 use mathlib.Core.Bool.{Bool, true, false, not}
 use mathlib.Core.List.{List, [], _∷_}
-use Prim.Native.Nat.{ℕ, suc, _+_, _-_, _≤_, _<_}
+use Prim.Native.Nat.{ℕ, zero, suc, _+_, _-_, _≤_, _<_}
 use native.Mathlib.Numerals.{add-one}
 use native.Mathlib.Omega.{arith}
 use lib.Dec.{eqb, leb}
 use lib.ListN.{length, take, drop, getD, length-drop, drop-of-length-le}
-use lib.Seq.{drop-cons, getD-drop}
+use lib.Seq.{drop-cons, drop-drop, getD-drop}
 use borrow.Author.Tests.{eq-eqb, ne-eqb, le-leb, lt-leb, lt-ltb, le-ltb}
 use Rattle.utf8.specs.Utf8.{validPrefix}
 use Rattle.descriptor.specs.declared.Base.{Base}
@@ -27,6 +27,18 @@ index-le x (b ∷ bs) = go (eqb b x) refl (index-le x bs)
     go true e h = rw e (omega arith)
     go false e h = rw e (omega arith)
 
+-- a search that passes n bytes goes on after them
+pub index-skip : (x n : ℕ) (bs : List ℕ) → n ≤ indexOf x bs → indexOf x bs ≡ n + indexOf x (drop n bs)
+unfolding indexOf
+index-skip x zero bs h = omega arith
+index-skip x (suc n) [] h = absurd (omega arith)
+index-skip x (suc n) (b ∷ bs) h = go (eqb b x) refl h (index-skip x n bs)
+  where
+    go : (t : Bool) → eqb b x ≡ t → suc n ≤ indexOf x (b ∷ bs) → (n ≤ indexOf x bs → indexOf x bs ≡ n + indexOf x (drop n bs))
+        → indexOf x (b ∷ bs) ≡ suc n + indexOf x (drop n bs)
+    go true e h ih = absurd (omega (arith, rw e at h))
+    go false e h ih = rw e (omega (arith, ih (omega (arith, rw e at h))))
+
 module _ (x : ℕ) (s : List ℕ) (i : ℕ) where
   pub index-end : length s ≤ i → i + indexOf x (drop i s) ≡ i
   unfolding indexOf
@@ -41,6 +53,9 @@ module _ (x : ℕ) (s : List ℕ) (i : ℕ) where
   index-later h e =
       rw (drop-cons s i 0, ne-eqb (getD s i 0) x e, add-one i)
       (let z : i + suc (indexOf x (drop (suc i) s)) ≡ suc i + indexOf x (drop (suc i) s) = omega arith in z)
+
+  pub index-past : (k : ℕ) → k ≤ indexOf x (drop i s) → i + indexOf x (drop i s) ≡ i + k + indexOf x (drop (i + k) s)
+  index-past k h = omega (arith, rw (drop-drop k i s) at (index-skip x k (drop i s) h))
 
 -- ---- a class name, whose ';' was sought from at + 1 on and found at e
 

@@ -1,10 +1,11 @@
 // Type and method descriptors of ty.rs: read from bytes, ordinary and strict.
 ghost use mathlib.Core.Path.{_≡_};
 ghost use Prim.Native.Nat.{_+_, _-_, _≤_, _<_};
-ghost use lib.Dec.{eqb};
+ghost use lib.Dec.{eqb, ltb};
 ghost use lib.ListN.{length, take, drop, set};
 ghost use Rattle.descriptor.specs.declared.Read.the-variants.{Refused};
 ghost use Rattle.descriptor.specs.Read.{letterOf, indexOf, readName, readType, finish, readWhole, strictName, strictly, readStrict};
+ghost use Rattle.descriptor.specs.Core.{coreOf};
 ghost use Rattle.descriptor.specs.Answers.{answerOf, refusedMethod, methodOf, methodAnswer, paramsAfter};
 ghost use Rattle.descriptor.specs.Steps.{stopsAt, Placed, refusedAt, firstBad, closing};
 ghost use Rattle.descriptor.specs.Params.{ending, methodFrom};
@@ -20,6 +21,13 @@ pub enum Base {
 pub enum Read {
     Found { dims: u64, base: Base, next: usize },
     Refused { code: u64, at: usize, byte: u64 },
+}
+
+// The same in two words, cheaper to hand back at each bracket: a refusal's code and offset; or 256, 1024 for each dimension
+// and the category (9 for a class), and the offset after the type. The rest of a Read follows from the bytes.
+struct Core {
+    pub what: u64,
+    pub at: usize,
 }
 
 // A method's number of parameters, the offset of its return type, and that type; or a refusal, with zeros in the other fields.
@@ -71,12 +79,44 @@ fn letter(b: u8) -> u64
     }
 }
 
+// Whether a ';' stands among the eight bytes from i on. None ends the loop early, so that the machine tests them at once.
+fn ends_in_block(s: &[u8], i: usize) -> bool
+    requires { ⌜ i + 8 ≤ length (now s) ⌝ }
+    ensures { λ r. ⌜ r ≡ ltb (indexOf 59 (drop i (now (s .entry)))) 8 ⌝ }
+{
+    let mut found = false;
+    let mut k = 0;
+    while k < 8 {
+        if s[i + k] == b';' {
+            found = true;
+        }
+        k += 1;
+    }
+    found
+}
+
+// Passes blocks of eight bytes without a ';': the first one is the same from the result on.
+fn skip_blocks(s: &[u8], from: usize) -> usize
+    requires { ⌜ from ≤ length (now s) ⌝ }
+    ensures { λ r. ⌜ (r ≤ length (now (s .entry)))
+        × (from + indexOf 59 (drop from (now (s .entry))) ≡ r + indexOf 59 (drop r (now (s .entry)))) ⌝ }
+{
+    let mut i = from;
+    while 8 <= s.len() - i {
+        if ends_in_block(s, i) {
+            return i;
+        }
+        i += 8;
+    }
+    i
+}
+
 // Where the first ';' stands at or after `from`; the length where there is none.
 fn find_end(s: &[u8], from: usize) -> usize
     requires { ⌜ from ≤ length (now s) ⌝ }
     ensures { λ r. ⌜ r ≡ from + indexOf 59 (drop from (now (s .entry))) ⌝ }
 {
-    let mut i = from;
+    let mut i = skip_blocks(s, from);
     while i < s.len() {
         if s[i] == b';' {
             return i;
@@ -87,65 +127,96 @@ fn find_end(s: &[u8], from: usize) -> usize
 }
 
 // The class whose 'L' stands at `at`.
-fn read_name(s: &[u8], at: usize, dims: u64) -> Read
-    requires { ⌜ at < length (now s) ⌝ }
-    ensures { λ r. ⌜ r ≡ readName (drop (at + 1) (now (s .entry))) at dims ⌝ }
+fn name_core(s: &[u8], at: usize, dims: u64) -> Core
+    requires { ⌜ (at < length (now s)) × (dims ≤ 255) ⌝ }
+    ensures { λ r. ⌜ r ≡ coreOf (readName (drop (at + 1) (now (s .entry))) at dims) ⌝ }
 {
     let from = at + 1;
     let end = find_end(s, from);
     if end == s.len() {
-        return refuse(11, end, 0);
+        return Core { what: 11, at: end };
     }
     if end == from {
-        return refuse(14, at, 0);
+        return Core { what: 14, at: at };
     }
     let valid = utf8::valid_up_to(s, from, end);
     if valid < end {
-        return refuse(12, valid, wide(s[valid]));
+        return Core {
+            what: 12,
+            at: valid,
+        };
     }
-    Read::Found {
-        dims: dims,
-        base: Base::Class(from, end - from),
-        next: end + 1,
+    Core {
+        what: 265 + 1024 * dims,
+        at: end + 1,
     }
 }
 
 // The type at `at`, after `dims` brackets. Each '[' asks for one more type from the bytes after it, Void no longer allowed.
-pub fn read_type(s: &[u8], at: usize, void: bool, dims: u64) -> Read
-    ensures { λ r. ⌜ r ≡ readType (drop at (now (s .entry))) at void dims ⌝ }
+fn read_core(s: &[u8], at: usize, void: bool, dims: u64) -> Core
+    requires { ⌜ dims ≤ 255 ⌝ }
+    ensures { λ r. ⌜ r ≡ coreOf (readType (drop at (now (s .entry))) at void dims) ⌝ }
 {
     if s.len() <= at {
-        return refuse(11, at, 0);
+        return Core { what: 11, at: at };
     }
-    let b = s[at];
-    let k = letter(b);
+    let k = letter(s[at]);
     if k == 0 {
         if void {
-            return Read::Found {
-                dims: dims,
-                base: Base::Simple(0),
-                next: at + 1,
+            return Core {
+                what: 256 + 1024 * dims,
+                at: at + 1,
             };
         }
-        return refuse(13, at, 0);
+        return Core { what: 13, at: at };
     }
     if k < 9 {
-        return Read::Found {
-            dims: dims,
-            base: Base::Simple(k),
-            next: at + 1,
+        return Core {
+            what: 256 + k + 1024 * dims,
+            at: at + 1,
         };
     }
     if k == 9 {
-        return read_name(s, at, dims);
+        return name_core(s, at, dims);
     }
     if k == 10 {
         if 255 <= dims {
-            return refuse(18, at, 0);
+            return Core { what: 18, at: at };
         }
-        return read_type(s, at + 1, false, dims + 1);
+        return read_core(s, at + 1, false, dims + 1);
     }
-    refuse(12, at, wide(b))
+    Core { what: 12, at: at }
+}
+
+// The type at `at`, after `dims` brackets: its core, and what follows from that.
+pub fn read_type(s: &[u8], at: usize, void: bool, dims: u64) -> Read
+    requires { ⌜ dims ≤ 255 ⌝ }
+    ensures { λ r. ⌜ r ≡ readType (drop at (now (s .entry))) at void dims ⌝ }
+{
+    let c = read_core(s, at, void, dims);
+    let what = c.what;
+    let next = c.at;
+    if what == 12 {
+        return refuse(12, next, wide(s[next]));
+    }
+    if what < 256 {
+        return refuse(what, next, 0);
+    }
+    let found = what / 1024;
+    let k = what % 256;
+    if k < 9 {
+        return Read::Found {
+            dims: found,
+            base: Base::Simple(k),
+            next: next,
+        };
+    }
+    let from = at + (found - dims) as usize + 1;
+    Read::Found {
+        dims: found,
+        base: Base::Class(from, next - from - 1),
+        next: next,
+    }
 }
 
 // A type has to end where the bytes do.

@@ -30,3 +30,16 @@ pub fn flag(said: &mut [u64], yes: bool) -> Said {
     }
     one(said, 0)
 }
+
+// An answer and the length of a list, before its members, which stand there from the third word on.
+pub fn head(said: &mut [u64], answer: u64, n: usize) -> Said {
+    if said.len() < 2 {
+        return Said::Unreadable;
+    }
+    if said.len() - 2 < n {
+        return Said::Unreadable;
+    }
+    said[0] = answer;
+    said[1] = n as u64;
+    Said::Words(2 + n)
+}

@@ -1,4 +1,5 @@
-// A case: `name arguments = answers`, one blank between, each number at most 16 lower-case hex digits.
+// A case: `name arguments = answers`, one blank between. A number has at most 16 lower-case hex digits. Bytes are one word,
+// x and two digits a byte, and stand for the list of them: their number, then each.
 use crate::text;
 use crate::text::Number;
 ghost use Prim.Native.Nat.{_+_, _≤_};
@@ -44,14 +45,8 @@ impl Reading {
     }
 }
 
-// One word after the name.
-fn field(r: Reading, word: &[u8], numbers: &mut [u64]) -> Reading {
-    if is_equals(word) {
-        return r.equals();
-    }
-    let Number::Is(n) = text::hex_number(word) else {
-        return r.bad();
-    };
+// One more number.
+fn push(r: Reading, n: u64, numbers: &mut [u64]) -> Reading {
     let at = r.count;
     if numbers.len() <= at {
         return r.bad();
@@ -63,6 +58,39 @@ fn field(r: Reading, word: &[u8], numbers: &mut [u64]) -> Reading {
         halved: r.halved,
         good: r.good,
     }
+}
+
+fn number(r: Reading, digits: &[u8], numbers: &mut [u64]) -> Reading {
+    let Number::Is(n) = text::hex_number(digits) else {
+        return r.bad();
+    };
+    push(r, n, numbers)
+}
+
+// The bytes of a word that starts with x, as a list.
+fn bytes(r: Reading, word: &[u8], numbers: &mut [u64]) -> Reading {
+    if word.len() % 2 == 0 {
+        return r.bad();
+    }
+    let mut all = push(r, (word.len() / 2) as u64, numbers);
+    let mut i: usize = 1;
+    while i + 1 < word.len() {
+        let e = i + 2;
+        all = number(all, &word[i..e], numbers);
+        i = e;
+    }
+    all
+}
+
+// One word after the name.
+fn field(r: Reading, word: &[u8], numbers: &mut [u64]) -> Reading {
+    if is_equals(word) {
+        return r.equals();
+    }
+    if 0 < word.len() && word[0] == b'x' {
+        return bytes(r, word, numbers);
+    }
+    number(r, word, numbers)
 }
 
 // All words from `from` on.

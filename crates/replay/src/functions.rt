@@ -1,12 +1,14 @@
 // The functions that are replayed. To add one: UNREAD one higher, its name before the last, and its call.
 use crate::answers::Said;
+use crate::on_descriptors;
+use crate::on_names;
 use crate::on_sets;
 use crate::on_tables;
 use crate::on_types;
 use crate::text;
 
 // The place of the last name, which stands for the lines that are no case.
-pub const UNREAD: usize = 22;
+pub const UNREAD: usize = 30;
 
 // The names, in the order in which they are printed.
 pub const NAMES: [[u8; 8]; UNREAD + 1] = [
@@ -32,6 +34,14 @@ pub const NAMES: [[u8; 8]; UNREAD + 1] = [
     *b"  t_find",
     *b"   t_put",
     *b"   t_run",
+    *b"  d_type",
+    *b"d_strict",
+    *b"d_method",
+    *b"m_strict",
+    *b"  w_type",
+    *b"w_method",
+    *b"  lookup",
+    *b"    utf8",
     *b"  unread",
 ];
 
@@ -72,6 +82,14 @@ pub fn call(place: usize, a: &[u64], said: &mut [u64]) -> Said {
         19 => on_tables::find(a, said),
         20 => on_tables::insert(a, said),
         21 => on_tables::run(a, said),
+        22 => on_descriptors::of_type(a, said),
+        23 => on_descriptors::of_type_strict(a, said),
+        24 => on_descriptors::of_method(a, said),
+        25 => on_descriptors::of_method_strict(a, said),
+        26 => on_names::write_type(a, said),
+        27 => on_names::write_method(a, said),
+        28 => on_names::lookup(a, said),
+        29 => on_descriptors::valid_prefix(a, said),
         _ => Said::Unreadable,
     }
 }

@@ -1,9 +1,10 @@
 // Lists among the arguments: the length, then the members.
+use crate::text;
 ghost use Prim.Native.Nat.{_-_, _≤_};
 ghost use lib.ListN.{length};
 
 // The end of the list at `at`; 0 where there is no whole list.
-fn end(a: &[u64], at: usize) -> usize
+pub fn end(a: &[u64], at: usize) -> usize
     ensures { λ r. ⌜ r ≤ length (now (a .entry)) ⌝ }
 {
     if a.len() <= at {
@@ -39,4 +40,42 @@ pub fn end_of_first(a: &[u64]) -> usize
         return 0;
     }
     e
+}
+
+// The end of the list of bytes at `at`, which are put at the same places of `to`; 0 where there is no such list or no room.
+pub fn bytes_end(a: &[u64], at: usize, to: &mut [u8]) -> usize
+    ensures { λ r. ⌜ (r ≤ length (now (a .entry))) × (r ≤ length (now (to .entry))) ⌝ }
+{
+    let e = end(a, at);
+    if e <= at || to.len() < e {
+        return 0;
+    }
+    let mut i = at + 1;
+    while i < e {
+        let byte = a[i];
+        if 255 < byte {
+            return 0;
+        }
+        to[i] = byte as u8;
+        i += 1;
+    }
+    e
+}
+
+// Copies as many as there is room for.
+pub fn copy(entries: &[u64], to: &mut [u64]) {
+    let mut i: usize = 0;
+    while i < entries.len() && i < to.len() {
+        to[i] = entries[i];
+        i += 1;
+    }
+}
+
+// The same of bytes.
+pub fn copy_bytes(bytes: &[u8], to: &mut [u64]) {
+    let mut i: usize = 0;
+    while i < to.len() && i < bytes.len() {
+        to[i] = text::wide(bytes[i]);
+        i += 1;
+    }
 }

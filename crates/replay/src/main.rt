@@ -5,6 +5,8 @@ mod answers;
 mod cases;
 mod functions;
 mod lists;
+mod on_descriptors;
+mod on_names;
 mod on_sets;
 mod on_tables;
 mod on_types;

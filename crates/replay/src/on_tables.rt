@@ -26,27 +26,6 @@ pub fn run(a: &[u64], said: &mut [u64]) -> Said {
     answers::two(said, s.first as u64, s.past as u64)
 }
 
-fn copy(entries: &[u64], to: &mut [u64]) {
-    let mut i: usize = 0;
-    while i < entries.len() && i < to.len() {
-        to[i] = entries[i];
-        i += 1;
-    }
-}
-
-// The answer of an insertion and the number of entries, before the entries themselves.
-fn head(said: &mut [u64], answer: u64, n: usize) -> Said {
-    if said.len() < 2 {
-        return Said::Unreadable;
-    }
-    if said.len() - 2 < n {
-        return Said::Unreadable;
-    }
-    said[0] = answer;
-    said[1] = n as u64;
-    Said::Words(2 + n)
-}
-
 // Inserts x into a table that takes up the slice for answers from its third word on.
 fn insert_in(entries: &[u64], room: usize, x: u64, said: &mut [u64]) -> Said {
     let n = entries.len();
@@ -57,12 +36,12 @@ fn insert_in(entries: &[u64], room: usize, x: u64, said: &mut [u64]) -> Said {
         return Said::Unreadable;
     }
     let end = 2 + room;
-    copy(entries, &mut said[2..end]);
+    lists::copy(entries, &mut said[2..end]);
     let p = sorted::insert(&mut said[2..end], n, x);
     match p {
-        Put::Old => head(said, 0, n),
-        Put::New => head(said, 1, n + 1),
-        Put::Full => head(said, 2, n),
+        Put::Old => answers::head(said, 0, n),
+        Put::New => answers::head(said, 1, n + 1),
+        Put::Full => answers::head(said, 2, n),
     }
 }
 

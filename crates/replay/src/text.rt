@@ -7,7 +7,7 @@ pub enum Number {
     Bad,
 }
 
-fn wide(b: u8) -> u64 {
+pub fn wide(b: u8) -> u64 {
     b as u64
 }
 

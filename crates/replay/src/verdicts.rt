@@ -80,8 +80,8 @@ pub fn record(counts: &mut [u64], v: Verdict) {
 
 // The verdict on a line that is to be a case.
 pub fn of(line: &[u8]) -> Verdict {
-    let mut numbers = [0u64; 64];
-    let mut said = [0u64; 64];
+    let mut numbers = [0u64; 512];
+    let mut said = [0u64; 1024];
     let c = cases::read(line, &mut numbers);
     called(c, &numbers, &mut said)
 }

@@ -9,10 +9,10 @@ use native.Mathlib.Omega.{arith}
 use lib.Dec.{eqb}
 use lib.ListN.{length, getD, take, drop, length-drop, drop-of-length-le}
 use lib.Seq.{slice, slice-cons, length-slice, drop-drop, take-nil, length-take-le}
-use borrow.Author.Tests.{eq-eqb, ne-eqb, eqb-true, eqb-false}
-use Rattle.utf8.specs.Utf8.{Range, table, matches, within, sequence, validPrefix, wellFormed}
+use borrow.Author.Tests.{eq-eqb, ne-eqb, eqb-true, eqb-false, lt-ltb, le-ltb}
+use Rattle.utf8.specs.Utf8.{Range, table, matches, within, sequence, validPrefix, ascii, wellFormed}
 use Rattle.utf8.specs.Rows.{matches-le, sequence-row, sequence-le}
-use Rattle.utf8.specs.Laws.{prefix-step, prefix-stop, prefix-le}
+use Rattle.utf8.specs.Laws.{prefix-step, prefix-stop, prefix-le, ascii-whole}
 
 -- the part, taken either way
 pub part-slice : (from to : ℕ) (s : List ℕ) → from ≤ to → take (to - from) (drop from s) ≡ slice from to s
@@ -85,6 +85,26 @@ module _ (s : List ℕ) (i to : ℕ) (fits : to ≤ length s) where
 
   pub pass-end : to ≤ i → i + validPrefix (slice i to s) ≡ i
   pass-end h = omega (arith, prefix-le (slice i to s), length-slice i to s fits)
+
+-- ---- bytes below 80 from i on
+
+module _ (s : List ℕ) (i to : ℕ) (fits : to ≤ length s) where
+  pub ascii-low : i < to → getD s i 0 < 0x80 → ascii (slice i to s) ≡ ascii (slice (i + 1) to s)
+  unfolding ascii
+  ascii-low h b = rw (part-cons i to s h fits, lt-ltb (getD s i 0) 0x80 b)
+
+  pub ascii-high : i < to → 0x80 ≤ getD s i 0 → ascii (slice i to s) ≡ false
+  unfolding ascii
+  ascii-high h b = rw (part-cons i to s h fits, le-ltb (getD s i 0) 0x80 b)
+
+  pub ascii-end : to ≤ i → ascii (slice i to s) ≡ true
+  unfolding ascii
+  ascii-end h = rw (drop-of-length-le (take to s) {i = i} (omega (arith, length-take-le to s fits)))
+
+pub ascii-part : (s : List ℕ) (from to : ℕ) → from ≤ to → to ≤ length s → ascii (slice from to s) ≡ true
+    → from + validPrefix (take (to - from) (drop from s)) ≡ to
+ascii-part s from to h fits e =
+    rw (part-slice from to s h) (omega (arith, ascii-whole (slice from to s) e, length-slice from to s fits))
 
 -- ---- the part is well-formed where its valid prefix ends it
 

@@ -1,5 +1,5 @@
 -- Laws of well-formed UTF-8: the computation decides the relation, the valid prefix is the longest, ASCII bytes stand alone. Assumes nothing.
-use mathlib.Core.Path.{_≡_, refl, sym, ap, subst}
+use mathlib.Core.Path.{_≡_, refl, sym, ap, subst, _∙_}
 use mathlib.Core.Bool.{true}
 use mathlib.Core.List.{List, [], _∷_, _++_, List·Memᴰ, List·Memᴰ·head, List·Memᴰ·tail, append-assoc, append-nil}
 use mathlib.Core.Logic.{_↔_}
@@ -7,10 +7,11 @@ use Prim.Native.Nat.{ℕ, zero, suc, _+_, _≤_, _<_}
 use native.Mathlib.Omega.{arith}
 use lib.ListN.{length, take, drop, length-append, take-append-drop}
 use lib.Seq.{length-take-le, take-all, take-take, drop-append-seam}
-use borrow.Author.Tests.{eqb-true, eq-eqb}
-use Rattle.utf8.specs.Utf8.{_‥_, table, matches, sequence, passing, scan, validPrefix, wellFormed}
+use lib.Dec.{ltb}
+use borrow.Author.Tests.{eqb-true, eq-eqb, ltb-true}
+use Rattle.utf8.specs.Utf8.{_‥_, table, matches, sequence, passing, scan, validPrefix, ascii, wellFormed}
 use Rattle.utf8.specs.Utf8.{Fits, Fits.done, Fits.next, WellFormed, WellFormed.empty, WellFormed.more}
-use Rattle.utf8.specs.Rows.{fits-some, sequence-row, sequence-fits, sequence-found, sequence-le, long-high}
+use Rattle.utf8.specs.Rows.{and-parts, fits-some, sequence-row, sequence-fits, sequence-found, sequence-le, long-high}
 
 -- ---- the valid prefix
 
@@ -126,6 +127,15 @@ ascii-more {b} h w = more (List·Memᴰ·head refl) (next {r = 0x00 ‥ 0x7F} {b
 
 pub ascii-prefix : (b : ℕ) (bs : List ℕ) → b < 0x80 → validPrefix (b ∷ bs) ≡ suc (validPrefix bs)
 ascii-prefix b bs h = omega (arith, prefix-step (b ∷ bs) 1 (ascii-sequence b bs h) (λ e. omega (arith, e)))
+
+-- WHERE ALL BYTES ARE BELOW 80, THE VALID PREFIX IS THE WHOLE LIST
+pub ascii-whole : (bs : List ℕ) → ascii bs ≡ true → validPrefix bs ≡ length bs
+unfolding ascii
+ascii-whole [] e = omega (arith, prefix-le [])
+ascii-whole (b ∷ bs) e =
+    let p = and-parts (ltb b 0x80) (ascii bs) e in
+    let h = ltb-true b 0x80 (p .0) in
+    ascii-prefix b bs h ∙ ap suc (ascii-whole bs (p .1))
 
 -- bytes of 80 and above at the front stand wholly before a byte below 80
 cut-high : (us xs : List ℕ) {vs ys : List ℕ} {b : ℕ} → ((x : ℕ) → List·Memᴰ x us → 0x80 ≤ x) → b < 0x80 → us ++ vs ≡ xs ++ (b ∷ ys)

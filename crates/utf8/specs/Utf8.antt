@@ -2,7 +2,7 @@
 use mathlib.Core.Bool.{Bool, true, false, cond, _&&_}
 use mathlib.Core.List.{List, [], _∷_, _++_, List·Memᴰ}
 use Prim.Native.Nat.{ℕ, zero, suc, _≤_}
-use lib.Dec.{eqb, leb}
+use lib.Dec.{eqb, leb, ltb}
 use lib.ListN.{length}
 
 infix 70 _‥_
@@ -62,6 +62,11 @@ scan (b ∷ bs) (suc k) = suc (scan bs k)
 -- the length of the longest prefix of whole sequences
 unfoldable pub validPrefix : List ℕ → ℕ
 validPrefix bs = scan bs 0
+
+-- whether all bytes are below 80
+unfoldable pub ascii : List ℕ → Bool
+ascii [] = true
+ascii (b ∷ bs) = ltb b 0x80 && ascii bs
 
 unfoldable pub wellFormed : List ℕ → Bool
 wellFormed bs = eqb (validPrefix bs) (length bs)

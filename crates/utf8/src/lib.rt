@@ -5,7 +5,7 @@ ghost use mathlib.Core.List.{[], _∷_};
 ghost use Prim.Native.Nat.{_+_, _-_, _≤_, _<_};
 ghost use lib.ListN.{length, take, drop};
 ghost use lib.Seq.{slice};
-ghost use Rattle.utf8.specs.Utf8.{_‥_, matches, sequence, validPrefix, wellFormed};
+ghost use Rattle.utf8.specs.Utf8.{_‥_, matches, sequence, ascii, validPrefix, wellFormed};
 
 // Whether the byte at i stands before `to` and lies in lo..=hi.
 fn one(s: &[u8], i: usize, to: usize, lo: u8, hi: u8) -> bool
@@ -81,11 +81,30 @@ fn sequence_at(s: &[u8], i: usize, to: usize) -> usize
     longer(first, s, i + 1, to)
 }
 
+// Whether the bytes of s[from..to] are all below 0x80. None ends the loop early, so that the machine tests many at a time.
+fn is_ascii(s: &[u8], from: usize, to: usize) -> bool
+    requires { ⌜ (from ≤ to) × (to ≤ length (now s)) ⌝ }
+    ensures { λ r. ⌜ r ≡ ascii (slice from to (now (s .entry))) ⌝ }
+{
+    let mut plain = true;
+    let mut i = from;
+    while i < to {
+        if 0x80 <= s[i] {
+            plain = false;
+        }
+        i += 1;
+    }
+    plain
+}
+
 // Where the first byte of s[from..to] stands that no whole valid prefix holds; `to` where all of it is well-formed.
 pub fn valid_up_to(s: &[u8], from: usize, to: usize) -> usize
     requires { ⌜ (from ≤ to) × (to ≤ length (now s)) ⌝ }
     ensures { λ r. ⌜ r ≡ from + validPrefix (take (to - from) (drop from (now (s .entry)))) ⌝ }
 {
+    if is_ascii(s, from, to) {
+        return to;
+    }
     let mut i = from;
     while i < to {
         let n = sequence_at(s, i, to);

@@ -1,17 +1,19 @@
-//! `recorder SEED [SIZE [FILE]]` writes test vectors to a file or to standard output.
+//! `recorder leaves|descriptors SEED [SIZE [PATH]]` writes test vectors to a file or to standard output.
 
 use std::io::Write;
 use std::process::ExitCode;
 use std::{env, fs, io};
 
+use recorder::{File, FILES};
+
 fn main() -> ExitCode {
     let arguments: Vec<String> = env::args().skip(1).collect();
-    let Some((seed, size, file)) = read(&arguments) else {
-        eprintln!("usage: recorder SEED [SIZE [FILE]]");
+    let Some((file, seed, size, path)) = read(&arguments) else {
+        eprintln!("usage: recorder leaves|descriptors SEED [SIZE [PATH]]");
         return ExitCode::from(2);
     };
-    let text = recorder::record(seed, size);
-    let written = match file {
+    let text = recorder::record(file, seed, size);
+    let written = match path {
         Some(path) => fs::write(path, text),
         None => io::stdout().write_all(text.as_bytes()),
     };
@@ -24,11 +26,14 @@ fn main() -> ExitCode {
     }
 }
 
-fn read(arguments: &[String]) -> Option<(u64, u64, Option<&String>)> {
-    let seed = arguments.first()?.parse().ok()?;
-    let size = match arguments.get(1) {
+fn read(arguments: &[String]) -> Option<(&'static File, u64, u64, Option<&String>)> {
+    let file = FILES
+        .iter()
+        .find(|file| Some(file.name) == arguments.first().map(String::as_str))?;
+    let seed = arguments.get(1)?.parse().ok()?;
+    let size = match arguments.get(2) {
         Some(size) => size.parse().ok()?,
         None => 1,
     };
-    (arguments.len() <= 3).then_some((seed, size, arguments.get(2)))
+    (arguments.len() <= 4).then_some((file, seed, size, arguments.get(3)))
 }

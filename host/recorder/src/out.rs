@@ -5,21 +5,20 @@ use std::collections::HashSet;
 /// No line is longer, so that a reader can have a fixed buffer.
 pub const MAX_BYTES: usize = 400;
 
-/// No line has more numbers, arguments and answers together.
-pub const MAX_NUMBERS: usize = 40;
-
 pub struct Out {
     name: &'static str,
     size: u64,
+    most_tokens: usize,
     lines: Vec<String>,
     seen: HashSet<String>,
 }
 
 impl Out {
-    pub fn new(name: &'static str, size: u64) -> Self {
+    pub fn new(name: &'static str, size: u64, most_tokens: usize) -> Self {
         Self {
             name,
             size,
+            most_tokens,
             lines: Vec::new(),
             seen: HashSet::new(),
         }
@@ -32,22 +31,31 @@ impl Out {
 
     /// Writes one case; one that was written before is left out.
     pub fn case(&mut self, arguments: &[u64], answer: &[u64]) {
-        assert!(
-            fits(self.name, arguments, answer),
-            "{} {arguments:x?}",
-            self.name
-        );
-        let line = line(self.name, arguments, answer);
-        if self.seen.insert(line.clone()) {
-            self.lines.push(line);
-        }
+        let fits = self.tokens_if_short(&numbers(arguments), &numbers(answer));
+        assert!(fits, "{} {arguments:x?}", self.name);
     }
 
     /// Writes one case unless it would make too long a line.
     pub fn case_if_short(&mut self, arguments: &[u64], answer: &[u64]) {
-        if fits(self.name, arguments, answer) {
-            self.case(arguments, answer);
+        self.tokens_if_short(&numbers(arguments), &numbers(answer));
+    }
+
+    /// Writes one case of tokens unless it would make too long a line; whether it fits.
+    pub fn tokens_if_short(&mut self, arguments: &[String], answer: &[String]) -> bool {
+        let line = format!(
+            "{} {} = {}\n",
+            self.name,
+            arguments.join(" "),
+            answer.join(" ")
+        );
+        // The line break counts.
+        if arguments.len() + answer.len() > self.most_tokens || line.len() > MAX_BYTES {
+            return false;
         }
+        if self.seen.insert(line.clone()) {
+            self.lines.push(line);
+        }
+        true
     }
 
     pub fn lines(self) -> String {
@@ -55,20 +63,15 @@ impl Out {
     }
 }
 
-fn fits(name: &str, arguments: &[u64], answer: &[u64]) -> bool {
-    // The line break counts.
-    arguments.len() + answer.len() <= MAX_NUMBERS
-        && line(name, arguments, answer).len() <= MAX_BYTES
+/// Numbers as tokens: hex digits.
+pub fn numbers(numbers: &[u64]) -> Vec<String> {
+    numbers.iter().map(|number| format!("{number:x}")).collect()
 }
 
-fn line(name: &str, arguments: &[u64], answer: &[u64]) -> String {
-    let hex = |numbers: &[u64]| {
-        numbers
-            .iter()
-            .map(|n| format!(" {n:x}"))
-            .collect::<String>()
-    };
-    format!("{name}{} ={}\n", hex(arguments), hex(answer))
+/// A byte string as one token: `x` and two hex digits a byte.
+pub fn bytes(bytes: &[u8]) -> String {
+    let digits = bytes.iter().map(|byte| format!("{byte:02x}"));
+    digits.fold(String::from("x"), |token, byte| token + &byte)
 }
 
 /// A list as numbers: its length, then its members.

@@ -2,26 +2,41 @@
 
 use std::collections::{BTreeMap, BTreeSet};
 
-use recorder::out::{MAX_BYTES, MAX_NUMBERS};
-use recorder::{record, FUNCTIONS};
+use recorder::out::{bytes, MAX_BYTES};
+use recorder::{record, File, FILES};
 
-const STORED: &str = include_str!("../../vectors/leaves.txt");
+fn leaves() -> &'static str {
+    judge::stored::part(0)
+}
+
+fn descriptors() -> &'static str {
+    judge::stored::part(1)
+}
+
+/// Each file with what is stored of it.
+fn stored() -> impl Iterator<Item = (&'static File, &'static str)> {
+    FILES.iter().zip([leaves(), descriptors()])
+}
 
 /// The number in the header line `# name number`.
-fn header_number(name: &str) -> u64 {
+fn header_number(text: &str, name: &str) -> u64 {
     let start = format!("# {name} ");
-    let mut lines = STORED.lines().filter_map(|line| line.strip_prefix(&start));
+    let mut lines = text.lines().filter_map(|line| line.strip_prefix(&start));
     let number = lines.next().expect("a header line with the number");
     number.parse().expect("a number in decimal")
 }
 
+/// The lines of cases.
+fn lines(text: &str) -> impl Iterator<Item = &str> {
+    text.lines().filter(|line| !line.starts_with('#'))
+}
+
 /// Each case as name, arguments, answer.
-fn cases(text: &str) -> impl Iterator<Item = (&str, Vec<u64>, Vec<u64>)> {
-    let lines = text.lines().filter(|line| !line.starts_with('#'));
-    lines.map(|line| {
+fn cases(text: &str) -> impl Iterator<Item = (&str, &str, &str)> {
+    lines(text).map(|line| {
         let (call, answer) = line.split_once(" = ").expect("an answer");
         let (name, arguments) = call.split_once(' ').expect("arguments");
-        (name, numbers(arguments), numbers(answer))
+        (name, arguments, answer)
     })
 }
 
@@ -30,68 +45,130 @@ fn numbers(text: &str) -> Vec<u64> {
     text.split(' ').map(read).collect()
 }
 
+/// A token as it must be written: a number, or bytes after an `x`.
+fn rewritten(token: &str) -> String {
+    let digit_pair = |pair: &[u8]| {
+        let digits = std::str::from_utf8(pair).expect("ASCII");
+        u8::from_str_radix(digits, 16).expect("two hex digits")
+    };
+    match token.strip_prefix('x') {
+        Some(digits) => bytes(
+            &digits
+                .as_bytes()
+                .chunks(2)
+                .map(digit_pair)
+                .collect::<Vec<u8>>(),
+        ),
+        None => format!("{:x}", numbers(token)[0]),
+    }
+}
+
+#[test]
+fn there_is_a_part_for_each_file() {
+    assert_eq!(judge::stored::parts(), FILES.len());
+}
+
 #[test]
 fn the_stored_vectors_are_what_the_recorder_writes() {
-    let written = record(header_number("seed"), header_number("size"));
-    for (number, (stored, written)) in STORED.lines().zip(written.lines()).enumerate() {
-        assert_eq!(stored, written, "line {}", number + 1);
+    for (file, text) in stored() {
+        let (seed, size) = (header_number(text, "seed"), header_number(text, "size"));
+        let written = record(file, seed, size);
+        for (number, (stored, written)) in text.lines().zip(written.lines()).enumerate() {
+            assert_eq!(stored, written, "{} line {}", file.name, number + 1);
+        }
+        assert!(text == written, "one is longer, or the line breaks differ");
     }
-    assert!(
-        STORED == written,
-        "one is longer, or the line breaks differ"
-    );
 }
 
 #[test]
 fn every_line_keeps_the_format() {
-    for line in STORED.lines().filter(|line| !line.starts_with('#')) {
-        let (call, answer) = line.split_once(" = ").expect("an answer");
-        let (name, arguments) = call.split_once(' ').expect("arguments");
-        let rebuilt: Vec<String> = [arguments, answer]
-            .iter()
-            .map(|part| numbers(part).iter().map(|n| format!(" {n:x}")).collect())
-            .collect();
-        assert_eq!(line, format!("{name}{} ={}", rebuilt[0], rebuilt[1]));
-        assert!(numbers(arguments).len() + numbers(answer).len() <= MAX_NUMBERS);
+    for (file, text) in stored() {
+        for line in lines(text) {
+            let (name, tokens) = line.split_once(' ').expect("tokens");
+            let tokens: Vec<&str> = tokens.split(' ').collect();
+            let rebuilt = tokens.iter().map(|token| match *token {
+                "=" => "=".to_string(),
+                token => rewritten(token),
+            });
+            assert_eq!(
+                line,
+                format!("{name} {}", Vec::from_iter(rebuilt).join(" "))
+            );
+            assert_eq!(tokens.iter().filter(|token| **token == "=").count(), 1);
+            assert!(tokens.len() - 1 <= file.most_tokens);
+        }
+        assert!(text
+            .lines()
+            .all(|line| line.starts_with('#') || line.len() < MAX_BYTES));
+        assert!(text.ends_with('\n') && text.is_ascii());
     }
-    assert!(STORED.lines().all(|line| line.len() < MAX_BYTES));
-    assert!(STORED.ends_with('\n') && STORED.is_ascii());
-    assert!(STORED.len() <= 700_000);
+    assert!(leaves().len() <= 700_000);
+    assert!(descriptors().len() <= 500_000);
 }
 
 #[test]
 fn functions_are_grouped_in_the_order_of_the_table() {
-    let mut names: Vec<&str> = cases(STORED).map(|(name, ..)| name).collect();
-    names.dedup();
-    assert_eq!(
-        names,
-        FUNCTIONS
-            .iter()
-            .map(|function| function.name)
-            .collect::<Vec<_>>()
-    );
-    for name in names {
-        assert!((1..=8).contains(&name.len()));
-        assert!(name
-            .bytes()
-            .all(|byte| byte == b'_' || byte.is_ascii_lowercase()));
+    for (file, text) in stored() {
+        let mut names: Vec<&str> = cases(text).map(|(name, ..)| name).collect();
+        names.dedup();
+        let listed = file.functions.iter().map(|function| function.name);
+        assert_eq!(names, listed.collect::<Vec<_>>());
+        for name in names {
+            assert!((1..=8).contains(&name.len()));
+            let is_letter = |byte: u8| byte == b'_' || byte.is_ascii_lowercase();
+            assert!(name
+                .bytes()
+                .all(|byte| is_letter(byte) || byte.is_ascii_digit()));
+        }
     }
 }
 
 #[test]
 fn every_function_has_hundreds_of_cases_and_no_rare_answer() {
-    let mut shares = BTreeMap::<&str, BTreeMap<Vec<u64>, usize>>::new();
-    for (name, _, answer) in cases(STORED) {
-        *shares.entry(name).or_default().entry(answer).or_default() += 1;
+    for (_, text) in stored() {
+        let mut shares = BTreeMap::<&str, BTreeMap<&str, usize>>::new();
+        for (name, _, answer) in cases(text) {
+            *shares.entry(name).or_default().entry(answer).or_default() += 1;
+        }
+        for (name, shares) in shares {
+            assert!(shares.values().sum::<usize>() >= 400, "{name}");
+            assert!(shares.len() >= 2, "{name}");
+            // Seven, since only seven types are wide.
+            let few_answers = shares.len() <= 3;
+            assert!(
+                !few_answers || shares.values().all(|share| *share >= 7),
+                "{name}: {shares:?}"
+            );
+        }
     }
-    for (name, shares) in shares {
-        assert!(shares.values().sum::<usize>() >= 400, "{name}");
-        assert!(shares.len() >= 2, "{name}");
-        // Seven, since only seven types are wide.
-        let few_answers = shares.len() <= 3;
+}
+
+/// The refusals that a function of descriptors can give in a line, each more than once.
+#[test]
+fn every_refusal_occurs() {
+    let expected = [
+        ("d_type", "0 b c d e f"),
+        ("d_strict", "0 b c d e f 18"),
+        ("d_method", "0 b c d e f 10 11 16"),
+        ("m_strict", "0 b c d e f 10 11 16 18"),
+        ("w_type", "0 3 5 7 a 16"),
+        ("w_method", "0 3 5 7 a 16"),
+        ("lookup", "0 3 5 a 17"),
+    ];
+    for (function, refusals) in expected {
+        let mut shares = BTreeMap::<u64, usize>::new();
+        for (_, _, answer) in cases(descriptors()).filter(|(name, ..)| *name == function) {
+            let refusal = answer.split(' ').next().expect("a refusal");
+            *shares.entry(numbers(refusal)[0]).or_default() += 1;
+        }
+        assert_eq!(
+            Vec::from_iter(shares.keys().copied()),
+            numbers(refusals),
+            "{function}"
+        );
         assert!(
-            !few_answers || shares.values().all(|share| *share >= 7),
-            "{name}: {shares:?}"
+            shares.values().all(|share| *share >= 2),
+            "{function}: {shares:?}"
         );
     }
 }
@@ -99,7 +176,8 @@ fn every_function_has_hundreds_of_cases_and_no_rare_answer() {
 #[test]
 fn sets_and_entries_are_ascending() {
     let is_list = |list: &[u64]| list.windows(2).all(|pair| pair[0] < pair[1]);
-    for (name, arguments, _) in cases(STORED) {
+    for (name, arguments, _) in cases(leaves()) {
+        let arguments = numbers(arguments);
         let start = match name {
             "t_put" => 1,
             _ if name.starts_with("s_") || name.starts_with("t_") => 0,
@@ -116,8 +194,9 @@ fn sets_and_entries_are_ascending() {
 #[test]
 fn the_order_recorded_is_an_order() {
     let mut answers = BTreeMap::new();
-    for (_, arguments, answer) in cases(STORED).filter(|(name, ..)| *name == "order") {
-        answers.insert((arguments[0], arguments[1]), answer[0]);
+    for (_, arguments, answer) in cases(leaves()).filter(|(name, ..)| *name == "order") {
+        let arguments = numbers(arguments);
+        answers.insert((arguments[0], arguments[1]), numbers(answer)[0]);
     }
     for ((left, right), answer) in &answers {
         assert_eq!(*answer == 1, left == right);
@@ -129,7 +208,7 @@ fn the_order_recorded_is_an_order() {
 
 #[test]
 fn telling_lines_are_there() {
-    let lines: BTreeSet<&str> = STORED.lines().collect();
+    let lines: BTreeSet<&str> = leaves().lines().chain(descriptors().lines()).collect();
     let expected = [
         // [[I before [Unknown[]; Unknown[Int] after Unknown[Boolean, Int]
         "order 200000000000005 102000000000000 = 0",
@@ -158,6 +237,24 @@ fn telling_lines_are_there() {
         "s_low 0 = 400",
         "t_find 0 0 = 0 0",
         "t_run 2 0 ffffffffffffffff 400 ffffffffffffffff = 2 2",
+        // [V is 13 at 1, L; 14 at 0, L ff without ';' 11 at its end
+        "d_type x5b56 = d 1 0 0 0 0 0 0",
+        "d_type x4c3b = e 0 0 0 0 0 0 0",
+        "d_type x4cff = b 2 0 0 0 0 0 0",
+        // La.b; is 24 at 0, [La.b; at 1; La.b;I is 15 at 5
+        "d_strict x4c612e623b = 18 0 0 0 0 0 0 0",
+        "d_strict x5b4c612e623b = 18 1 0 0 0 0 0 0",
+        "d_strict x4c612e623b49 = f 5 0 0 0 0 0 0",
+        // () is 11 at 2; 254 entries are 22, even for no bytes
+        "d_method x2829 ff = b 2 0 0 0 0 0 0 0 0",
+        "d_method x fe = 16 0 0 0 0 0 0 0 0 0",
+        "d_method x ff = 10 0 0 0 0 0 0 0 0 0",
+        // (La.b; is 17 at 6
+        "m_strict x284c612e623b ff = 11 6 0 0 0 0 0 0 0 0",
+        // a place that would overflow
+        "w_type x6162 1 ffffffffffffffff 1 2 5 28 = 3 x",
+        "lookup x 0 0 x = 17 0",
+        "utf8 xeda080 = 0",
     ];
     for line in expected {
         assert!(lines.contains(line), "{line}");
@@ -167,7 +264,9 @@ fn telling_lines_are_there() {
 #[test]
 fn seed_and_size_decide_the_lines() {
     let count = |text: &str| cases(text).count();
-    assert!(record(2, 1) == record(2, 1));
-    assert!(record(2, 1) != record(3, 1));
-    assert!(count(&record(1, 3)) > count(STORED));
+    for (file, text) in stored() {
+        assert!(record(file, 2, 1) == record(file, 2, 1));
+        assert!(record(file, 2, 1) != record(file, 3, 1));
+        assert!(count(&record(file, 1, 3)) > count(text));
+    }
 }

@@ -1,6 +1,6 @@
 -- The search for a ';' meets its contract: what is left of the search from `from` is the search from `i`. Assumes nothing.
 use borrow.Author.Needs.{needs}
-use mathlib.Core.Path.{_≡_, refl, sym, _∙_}
+use mathlib.Core.Path.{_≡_, sym, _∙_}
 use Prim.Native.Nat.{_+_, _-_, _≤_}
 use native.Mathlib.Omega.{arith}
 use lib.ListN.{length, drop}
@@ -15,8 +15,11 @@ Inv-loop s from i₀ i = (i ≤ length s) × (from + indexOf 59 (drop from s) �
 abbrev μ-loop : tie.MeasureT-loop
 μ-loop s from i₀ i = length s - i
 
+skip-blocks-requires : tie.Need-skip-blocks-requires Inv-loop μ-loop
+skip-blocks-requires c κs = search needs
+
 loop-holds : tie.Need-loop-holds Inv-loop μ-loop
-loop-holds c = (c .pre, refl)
+loop-holds c = c .skip-blocks .ensures
 
 shared-slice-read-if1 : tie.Need-shared-slice-read-if1 Inv-loop μ-loop
 shared-slice-read-if1 c = search needs
@@ -24,7 +27,7 @@ shared-slice-read-if1 c = search needs
 returns : tie.Need-returns Inv-loop μ-loop
 returns c =
     let l = c .before .before .before .loop in
-    sym (l .inv .1 ∙ index-here 59 (c .before .before .before .before .args .s .now) (l .i) (omega arith) (c .if1 .taken))
+    sym (l .inv .1 ∙ index-here 59 (c .before .before .before .before .before .before .args .s .now) (l .i) (omega arith) (c .if1 .taken))
 
 add-i : tie.Need-add-i Inv-loop μ-loop
 add-i c = search needs
@@ -35,12 +38,12 @@ loop-less c = search needs
 loop-again : tie.Need-loop-again Inv-loop μ-loop
 loop-again c =
     let l = c .before .before .before .loop in
-    (omega arith, l .inv .1 ∙ index-later 59 (c .before .before .before .before .args .s .now) (l .i) (omega arith) (c .if1 .left))
+    (omega arith, l .inv .1 ∙ index-later 59 (c .before .before .before .before .before .before .args .s .now) (l .i) (omega arith) (c .if1 .left))
 
 returns-2 : tie.Need-returns-2 Inv-loop μ-loop
 returns-2 c =
     let l = c .before .loop in
-    sym (l .inv .1 ∙ index-end 59 (c .before .before .args .s .now) (l .i) (omega arith))
+    sym (l .inv .1 ∙ index-end 59 (c .before .before .before .before .args .s .now) (l .i) (omega arith))
 
 pub find-end-spec : {M : Type 1} → statement M
 find-end-spec =
@@ -48,6 +51,7 @@ find-end-spec =
     (tie.spec
     Inv-loop
     μ-loop
+    skip-blocks-requires
     loop-holds
     shared-slice-read-if1
     returns

@@ -8,7 +8,7 @@ use native.Mathlib.Omega.{arith}
 use lib.ListN.{length, take, drop}
 use lib.Seq.{slice}
 use Rattle.utf8.specs.Utf8.{validPrefix}
-use Rattle.utf8.proofs.Part.{part-slice, pass-in, pass-step, pass-stop, pass-end}
+use Rattle.utf8.proofs.Part.{part-slice, ascii-part, pass-in, pass-step, pass-stop, pass-end}
 use Rattle.utf8.proofs.valid_up_to.Statement.{statement}
 use Rattle.utf8.proofs.valid_up_to.Tie as tie
 
@@ -18,23 +18,33 @@ Inv-loop s from to i₀ i = (i ≤ to) × (to ≤ length s) × (from + validPref
 abbrev μ-loop : tie.MeasureT-loop
 μ-loop s from to i₀ i = to - i
 
+is-ascii-requires : tie.Need-is-ascii-requires Inv-loop μ-loop
+is-ascii-requires c κs = search needs
+
+returns : tie.Need-returns Inv-loop μ-loop
+returns c =
+    let b = c .before .before .before in
+    let a = b .args in
+    sym (ascii-part (a .s .now) (a .from) (a .to) (b .pre .0) (b .pre .1) (sym (c .before .is-ascii .ensures) ∙ c .if1 .taken))
+
 loop-holds : tie.Need-loop-holds Inv-loop μ-loop
 loop-holds c =
-    let a = c .before .args in
-    (c .before .pre .0, c .before .pre .1, ap (λ (l : List ℕ). a .from + validPrefix l) (part-slice (a .from) (a .to) (a .s .now) (c .before .pre .0)))
+    let b = c .before .before .before in
+    let a = b .args in
+    (b .pre .0, b .pre .1, ap (λ (l : List ℕ). a .from + validPrefix l) (part-slice (a .from) (a .to) (a .s .now) (b .pre .0)))
 
 sequence-at-requires : tie.Need-sequence-at-requires Inv-loop μ-loop
 sequence-at-requires c κs = search needs
 
-returns : tie.Need-returns Inv-loop μ-loop
-returns c =
-    let a = c .before .before .before .before .before .args in
+returns-2 : tie.Need-returns-2 Inv-loop μ-loop
+returns-2 c =
+    let a = c .before .before .before .before .before .before .before .args in
     let l = c .before .before .before .loop in
-    sym (l .inv .2 ∙ pass-stop (a .s .now) (l .i) (a .to) (l .inv .1) (c .before .sequence-at .ensures) (c .if1 .taken))
+    sym (l .inv .2 ∙ pass-stop (a .s .now) (l .i) (a .to) (l .inv .1) (c .before .sequence-at .ensures) (c .if2 .taken))
 
 add-i : tie.Need-add-i Inv-loop μ-loop
 add-i c =
-    let a = c .before .before .before .before .before .args in
+    let a = c .before .before .before .before .before .before .before .args in
     let l = c .before .before .before .loop in
     let h = pass-in (a .s .now) (l .i) (a .to) (l .inv .1) (l .inv .0) (c .before .sequence-at .ensures) in
     omega arith
@@ -44,17 +54,17 @@ loop-less c = search needs
 
 loop-again : tie.Need-loop-again Inv-loop μ-loop
 loop-again c =
-    let a = c .before .before .before .before .before .args in
+    let a = c .before .before .before .before .before .before .before .args in
     let l = c .before .before .before .loop in
     let e = c .before .sequence-at .ensures in (
       pass-in (a .s .now) (l .i) (a .to) (l .inv .1) (l .inv .0) e,
       l .inv .1,
-      l .inv .2 ∙ pass-step (a .s .now) (l .i) (a .to) (l .inv .1) e (c .if1 .left),
+      l .inv .2 ∙ pass-step (a .s .now) (l .i) (a .to) (l .inv .1) e (c .if2 .left),
     )
 
-returns-2 : tie.Need-returns-2 Inv-loop μ-loop
-returns-2 c =
-    let a = c .before .before .before .args in
+returns-3 : tie.Need-returns-3 Inv-loop μ-loop
+returns-3 c =
+    let a = c .before .before .before .before .before .args in
     let l = c .before .loop in
     sym (l .inv .2 ∙ pass-end (a .s .now) (l .i) (a .to) (l .inv .1) (search needs))
 
@@ -64,10 +74,12 @@ valid-up-to-spec =
     (tie.spec
     Inv-loop
     μ-loop
+    is-ascii-requires
+    returns
     loop-holds
     sequence-at-requires
-    returns
+    returns-2
     add-i
     loop-less
     loop-again
-    returns-2)
+    returns-3)

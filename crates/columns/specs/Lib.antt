@@ -1,0 +1,6 @@
+-- What the contracts of this crate cite, and the laws that other crates may cite.
+pub mod Columns
+pub mod Laws
+pub mod Names
+pub mod Fold
+pub mod Examples

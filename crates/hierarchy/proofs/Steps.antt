@@ -1,0 +1,100 @@
+-- One step of each loop, as the code meets it. Assumes nothing.
+use mathlib.Core.Path.{_≡_, refl, sym, ap, _∙_}
+use mathlib.Core.Bool.{Bool, true, false, cond}
+use mathlib.Core.List.{List, [], _∷_}
+use Prim.Native.Nat.{ℕ, suc, _+_, _-_, _*_, _%_, _≤_, _<_}
+use native.Mathlib.Decide.{ℕ-discrete}
+use native.Mathlib.Omega.{arith}
+use native.Mathlib.Numerals.{add-one}
+use lib.Dec.{ltb}
+use lib.ListN.{length, take, drop, getD, set, length-take, length-set}
+use lib.Seq.{drop-cons, getD-take, getD-set-same, getD-set-other, ext-getD, length-take-le}
+use Rattle.sets.specs.Sets.{at, insert, remove, members, first}
+use Rattle.sets.specs.Bits.{first-le}
+use Rattle.sorted.specs.Sorted.{runOf}
+use Rattle.sorted.specs.Places.{place-le}
+use Rattle.hierarchy.specs.View.{View, reach, insertAll, withParents}
+use Rattle.hierarchy.specs.Frontier.{members-pop, members-none}
+use Rattle.hierarchy.specs.Lows.{strip}
+use Rattle.hierarchy.specs.Table.{parentsIn, between, mark}
+
+-- ---- with_parents: the keys of the run, one by one
+
+between-none : (i past : ℕ) (l : List ℕ) → past ≤ i → between i past l ≡ []
+between-none i past l h = ap (λ (n : ℕ). take n (drop i l)) (let e : past - i ≡ 0 = omega arith in e)
+
+between-step : (i past : ℕ) (l : List ℕ) → i < past → i < length l → between i past l ≡ getD l i 0 ∷ between (i + 1) past l
+between-step i past l h k =
+    ap (λ (n : ℕ). take n (drop i l)) (let e : past - i ≡ suc (past - (i + 1)) = omega arith in e)
+    ∙ ap (take (suc (past - (i + 1)))) (drop-cons l i 0 k ∙ ap (λ (n : ℕ). getD l i 0 ∷ drop n l) (sym (add-one i)))
+
+pub parents-end : (names i past : ℕ) (l s : List ℕ) → past ≤ i → insertAll s (parentsIn names (between i past l)) ≡ s
+unfolding insertAll parentsIn
+parents-end names i past l s h = ap (λ (b : List ℕ). insertAll s (parentsIn names b)) (between-none i past l h)
+
+parents-cons : (names e : ℕ) (s es : List ℕ)
+    → insertAll s (parentsIn names (e ∷ es)) ≡ insertAll (cond (ltb (e % 1024) names) (insert s (e % 1024)) s) (parentsIn names es)
+unfolding insertAll parentsIn
+parents-cons names e s es = go (ltb (e % 1024) names)
+  where
+    go : (t : Bool) → insertAll s (cond t (e % 1024 ∷ parentsIn names es) (parentsIn names es)) ≡ insertAll (cond t (insert s (e % 1024)) s) (parentsIn names es)
+    go true = refl
+    go false = refl
+
+pub parents-step : (names i past n : ℕ) (a s : List ℕ) → i < past → past ≤ length (take n a)
+    → insertAll s (parentsIn names (between i past (take n a)))
+    ≡ insertAll (cond (ltb (getD a i 0 % 1024) names) (insert s (getD a i 0 % 1024)) s) (parentsIn names (between (i + 1) past (take n a)))
+parents-step names i past n a s h k =
+    ap (λ (b : List ℕ). insertAll s (parentsIn names b))
+    (between-step i past (take n a) h (omega arith) ∙ ap (λ (e : ℕ). e ∷ between (i + 1) past (take n a)) (getD-take n a i 0 (let e = length-take n a in omega arith)))
+    ∙ parents-cons names (getD a i 0) s (between (i + 1) past (take n a))
+
+-- the run ends inside the entries, on any contents
+pub run-past : (c n : ℕ) (a : List ℕ) → (runOf 1024 c (take n a) .past ≤ length a) × (runOf 1024 c (take n a) .past ≤ length (take n a))
+unfolding runOf
+run-past c n a = let h = place-le (c * 1024 + 1024) (take n a) in let e = length-take n a in (omega arith, h)
+
+-- ---- recorded: the words, one by one
+
+abbrev pub Copied : List ℕ → List ℕ → ℕ → Type 0
+Copied a words i = (i ≤ 16) × (length words ≡ 16) × ((j : ℕ) → j < i → getD words j 0 ≡ getD a j 0)
+
+pub copied-more : (a words : List ℕ) (i : ℕ) → Copied a words i → i < 16 → Copied a (set words i (getD a i 0)) (i + 1)
+copied-more a words i c h = (omega arith, length-set words i (getD a i 0) ∙ c .1, λ j l. go j l (ℕ-discrete j i))
+  where
+    go : (j : ℕ) → j < i + 1 → Dec (j ≡ i) → getD (set words i (getD a i 0)) j 0 ≡ getD a j 0
+    go j l (yes e) = ap (λ (k : ℕ). getD (set words i (getD a i 0)) k 0) e ∙ getD-set-same words i (getD a i 0) 0 (let n = c .1 in omega arith) ∙ ap (λ (k : ℕ). getD a k 0) (sym e)
+    go j l (no n) = getD-set-other words i j (getD a i 0) 0 n ∙ c .2 j (omega arith)
+
+pub copied-all : (a words : List ℕ) (i : ℕ) → Copied a words i → 16 ≤ i → length a ≡ 64 → words ≡ mark a 0
+unfolding mark
+copied-all a words i c h l =
+    ext-getD 0 words (take 16 a) (c .1 ∙ sym (length-take-le 16 a (omega arith))) (λ j k. let n = c .1 in c .2 j (omega arith) ∙ sym (getD-take 16 a j 0 (omega arith)))
+
+-- ---- expand: the members of the front, the least first
+
+pub expand-step : (v : View) (s f : List ℕ) (c : ℕ) → c ≡ first (at f) 1024 → c < 1024
+    → withParents v s (members (at f) 0 1024) ≡ withParents v (insertAll s (v .parents c)) (members (at (remove f c)) 0 1024)
+unfolding withParents
+expand-step v s f c e h = ap (withParents v s) (members-pop f c e h)
+
+pub expand-end : (v : View) (s f : List ℕ) (c : ℕ) → c ≡ first (at f) 1024 → 1024 ≤ c → withParents v s (members (at f) 0 1024) ≡ s
+unfolding withParents
+expand-end v s f c e h = ap (withParents v s) (members-none f (let l = first-le (at f) 1024 in omega arith))
+
+-- ---- not_reaching: the same
+
+pub strip-step : (v : View) (d : ℕ) (s f : List ℕ) (c : ℕ) → c ≡ first (at f) 1024 → c < 1024
+    → strip v d s (members (at f) 0 1024) ≡ strip v d (cond (reach v c d) (remove s c) s) (members (at (remove f c)) 0 1024)
+unfolding strip
+strip-step v d s f c e h = ap (strip v d s) (members-pop f c e h)
+
+pub strip-end : (v : View) (d : ℕ) (s f : List ℕ) (c : ℕ) → c ≡ first (at f) 1024 → 1024 ≤ c → strip v d s (members (at f) 0 1024) ≡ s
+unfolding strip
+strip-end v d s f c e h = ap (strip v d s) (members-none f (let l = first-le (at f) 1024 in omega arith))
+
+-- ---- what is left of a set, one less with each turn
+
+pub left-less : (f : List ℕ) (c : ℕ) (next : List ℕ) → c ≡ first (at f) 1024 → c < 1024 → next ≡ remove f c
+    → length (members (at next) 0 1024) < length (members (at f) 0 1024)
+left-less f c next e h q = let m = ap length (members-pop f c e h) in let w = ap (λ (s : List ℕ). length (members (at s) 0 1024)) q in omega arith

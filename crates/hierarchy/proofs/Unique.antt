@@ -1,0 +1,41 @@
+-- The contract of each public function, as the check reads it, allows one result. Assumes nothing.
+use mathlib.Core.Path.{_≡_, sym, _∙_}
+use borrow.Fn.Kinds.{Dens, resT, endedOf}
+use denote.Triple.Clauses.{AtExit}
+use contract.Lifetimes.{Lfts}
+use Rattle.hierarchy.proofs.reached.Reads as reached-reads
+use Rattle.hierarchy.proofs.reached.Kinds as reached-kinds
+use Rattle.hierarchy.proofs.ancestors.Reads as ancestors-reads
+use Rattle.hierarchy.proofs.ancestors.Kinds as ancestors-kinds
+use Rattle.hierarchy.proofs.distance.Reads as distance-reads
+use Rattle.hierarchy.proofs.distance.Kinds as distance-kinds
+use Rattle.hierarchy.proofs.subtype_relation.Reads as subtype-relation-reads
+use Rattle.hierarchy.proofs.subtype_relation.Kinds as subtype-relation-kinds
+use Rattle.hierarchy.proofs.cast.Reads as cast-reads
+use Rattle.hierarchy.proofs.cast.Kinds as cast-kinds
+use Rattle.hierarchy.proofs.supertype.Reads as supertype-reads
+use Rattle.hierarchy.proofs.supertype.Kinds as supertype-kinds
+
+pub reached-one : (κs : Lfts 1) (a : Dens κs reached-kinds.ps) (r₁ r₂ : resT reached-kinds.r κs .Denot) (x₁ x₂ : AtExit (endedOf 1 reached-kinds.ps reached-kinds.r) κs)
+    → reached-reads.Post κs a r₁ x₁ → reached-reads.Post κs a r₂ x₂ → r₁ ≡ r₂
+reached-one κs a r₁ r₂ x₁ x₂ p q = λ i. record { words = (p ∙ sym q) i }
+
+pub ancestors-one : (κs : Lfts 1) (a : Dens κs ancestors-kinds.ps) (r₁ r₂ : resT ancestors-kinds.r κs .Denot) (x₁ x₂ : AtExit (endedOf 1 ancestors-kinds.ps ancestors-kinds.r) κs)
+    → ancestors-reads.Post κs a r₁ x₁ → ancestors-reads.Post κs a r₂ x₂ → r₁ ≡ r₂
+ancestors-one κs a r₁ r₂ x₁ x₂ p q = λ i. record { words = (p ∙ sym q) i }
+
+pub distance-one : (κs : Lfts 1) (a : Dens κs distance-kinds.ps) (r₁ r₂ : resT distance-kinds.r κs .Denot) (x₁ x₂ : AtExit (endedOf 1 distance-kinds.ps distance-kinds.r) κs)
+    → distance-reads.Post κs a r₁ x₁ → distance-reads.Post κs a r₂ x₂ → r₁ ≡ r₂
+distance-one κs a r₁ r₂ x₁ x₂ p q = p ∙ sym q
+
+pub subtype-relation-one : (κs : Lfts 2) (a : Dens κs subtype-relation-kinds.ps) (r₁ r₂ : resT subtype-relation-kinds.r κs .Denot) (x₁ x₂ : AtExit (endedOf 2 subtype-relation-kinds.ps subtype-relation-kinds.r) κs)
+    → subtype-relation-reads.Post κs a r₁ x₁ → subtype-relation-reads.Post κs a r₂ x₂ → r₁ ≡ r₂
+subtype-relation-one κs a r₁ r₂ x₁ x₂ p q = p ∙ sym q
+
+pub cast-one : (κs : Lfts 2) (a : Dens κs cast-kinds.ps) (r₁ r₂ : resT cast-kinds.r κs .Denot) (x₁ x₂ : AtExit (endedOf 2 cast-kinds.ps cast-kinds.r) κs)
+    → cast-reads.Post κs a r₁ x₁ → cast-reads.Post κs a r₂ x₂ → r₁ ≡ r₂
+cast-one κs a r₁ r₂ x₁ x₂ p q = p ∙ sym q
+
+pub supertype-one : (κs : Lfts 1) (a : Dens κs supertype-kinds.ps) (r₁ r₂ : resT supertype-kinds.r κs .Denot) (x₁ x₂ : AtExit (endedOf 1 supertype-kinds.ps supertype-kinds.r) κs)
+    → supertype-reads.Post κs a r₁ x₁ → supertype-reads.Post κs a r₂ x₂ → r₁ ≡ r₂
+supertype-one κs a r₁ r₂ x₁ x₂ p q = p ∙ sym q

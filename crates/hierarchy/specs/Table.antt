@@ -1,0 +1,169 @@
+-- The view that the class tables give: sorted keys class * 1024 + parent, and four sets of sixteen words. Assumes nothing.
+use mathlib.Core.Path.{_≡_, refl, sym, ap, _∙_, subst}
+use mathlib.Core.Bool.{Bool, true, false, cond, _&&_}
+use mathlib.Core.List.{List, [], _∷_, List·Memᴰ, List·Memᴰ·head, List·Memᴰ·tail, List·Memᴰ·not-nil, List·Memᴰ·cases-cons}
+use mathlib.Core.Logic.{_↔_, ⊎-elim}
+use mathlib.Core.Option.{Option, some, none}
+use Prim.Native.Nat.{ℕ, zero, suc, _+_, _-_, _*_, _/_, _%_, _≤_, _<_}
+use native.Mathlib.Omega.{arith}
+use lib.Dec.{ltb}
+use borrow.Author.Tests.{lt-ltb, ltb-true}
+use lib.ListN.{length, take, drop, getD, length-take, length-drop}
+use lib.Seq.{getD-take, getD-drop}
+use Rattle.sets.specs.Sets.{bit, at, member}
+use Rattle.sorted.specs.Sorted.{runOf, Sorted, place, elem}
+use Rattle.sorted.specs.Laws.{elem-get}
+use Rattle.sorted.specs.Places.{run-only, run-all, has-elem, has-get}
+use Rattle.hierarchy.specs.declared.Classes.{Classes}
+use Rattle.hierarchy.specs.View.{View, reached, reach, steps, castByFacts}
+use Rattle.hierarchy.specs.Reach.{Good}
+
+-- the parents that a list of keys names; a number that is no class's is ignored
+unfoldable pub parentsIn : ℕ → List ℕ → List ℕ
+parentsIn names [] = []
+parentsIn names (e ∷ es) = cond (ltb (e % 1024) names) (e % 1024 ∷ parentsIn names es) (parentsIn names es)
+
+-- the keys of a run
+abbrev pub between : ℕ → ℕ → List ℕ → List ℕ
+between first past l = take (past - first) (drop first l)
+
+-- the parents of a class, by the run of its keys
+unfoldable pub parentsOf : ℕ → List ℕ → ℕ → List ℕ
+parentsOf names l c = parentsIn names (between (runOf 1024 c l .first) (runOf 1024 c l .past) l)
+
+-- set k of the four: 0 recorded, 1 declared, 2 interface, 3 final
+unfoldable pub mark : List ℕ → ℕ → List ℕ
+mark marks k = take 16 (drop (16 * k) marks)
+
+pub mark-length : (marks : List ℕ) (k : ℕ) → length marks ≡ 64 → k < 4 → length (mark marks k) ≡ 16
+unfolding mark
+mark-length marks k l h = simp (length-take, length-drop) (omega arith)
+
+-- a digit of a set is one of the table
+pub mark-at : (marks : List ℕ) (k c : ℕ) → c < 1024 → at (mark marks k) c ≡ bit (c % 64) (getD marks (16 * k + c / 64) 0)
+unfolding mark at
+mark-at marks k c h = ap (bit (c % 64)) (getD-take 16 (drop (16 * k) marks) (c / 64) 0 (omega arith) ∙ getD-drop (16 * k) marks (c / 64) 0)
+
+-- THE VIEW of the tables
+abbrev pub viewOf : List ℕ → List ℕ → Classes → View
+viewOf pairs marks t = record {
+  names = t .names;
+  object = t .object;
+  recorded = member (mark marks 0);
+  parents = parentsOf (t .names) (take (t .pairs) pairs);
+  declared = member (mark marks 1);
+  interface = member (mark marks 2);
+  final = member (mark marks 3);
+}
+
+-- the same where only parents are asked: the marks are not read
+abbrev pub parentView : List ℕ → Classes → View
+parentView pairs t = viewOf pairs [] t
+
+-- a distance as a number: all ones for none
+unfoldable pub numberOf : Option ℕ → ℕ
+numberOf none = 18446744073709551615
+numberOf (some n) = n
+
+-- the cast test by the marks of two classes
+unfoldable pub castMarked : List ℕ → ℕ → ℕ → Bool
+castMarked marks source target =
+    (member (mark marks 1) source && member (mark marks 1) target)
+    && castByFacts (member (mark marks 2) source) (member (mark marks 3) source) (member (mark marks 2) target) (member (mark marks 3) target)
+
+-- ---- what a walk from x towards y tells
+
+pub record Walked (v : View) (x y : ℕ) (found : Bool) (level : ℕ) (seen : List ℕ) : Type 0 where
+  -- whether y is reached; then its level, else all that is reached
+  pub tells : found ≡ reach v x y
+  pub at-level : reach v x y ≡ true → level ≡ steps v x y
+  pub has-seen : reach v x y ≡ false → seen ≡ reached v x
+
+-- ---- the parents, on any contents
+
+module _ (names y : ℕ) where
+  in-has : (es : List ℕ) (i : ℕ) → i < length es → getD es i 0 % 1024 ≡ y → y < names → List·Memᴰ y (parentsIn names es)
+  unfolding parentsIn
+  in-has [] i h q l = absurd (omega arith)
+  in-has (e ∷ es) zero h q l = subst (λ (b : Bool). List·Memᴰ y (cond b (e % 1024 ∷ parentsIn names es) (parentsIn names es))) (sym (lt-ltb (e % 1024) names (omega arith))) (List·Memᴰ·head (sym q))
+  in-has (e ∷ es) (suc i) h q l = go (ltb (e % 1024) names) (in-has es i (omega arith) q l)
+    where
+      go : (b : Bool) → List·Memᴰ y (parentsIn names es) → List·Memᴰ y (cond b (e % 1024 ∷ parentsIn names es) (parentsIn names es))
+      go true m = List·Memᴰ·tail m
+      go false m = m
+
+  in-only : (es : List ℕ) → List·Memᴰ y (parentsIn names es) → (y < names) × ((i : ℕ) × (i < length es) × (getD es i 0 % 1024 ≡ y))
+  unfolding parentsIn
+  in-only [] m = absurd (List·Memᴰ·not-nil m)
+  in-only (e ∷ es) m = go (ltb (e % 1024) names) refl m (in-only es)
+    where
+      later : (y < names) × ((i : ℕ) × (i < length es) × (getD es i 0 % 1024 ≡ y)) → (y < names) × ((i : ℕ) × (i < suc (length es)) × (getD (e ∷ es) i 0 % 1024 ≡ y))
+      later w = (w .0, (suc (w .1 .0), omega arith, w .1 .2))
+
+      go : (b : Bool) → ltb (e % 1024) names ≡ b → List·Memᴰ y (cond b (e % 1024 ∷ parentsIn names es) (parentsIn names es))
+          → (List·Memᴰ y (parentsIn names es) → (y < names) × ((i : ℕ) × (i < length es) × (getD es i 0 % 1024 ≡ y)))
+          → (y < names) × ((i : ℕ) × (i < suc (length es)) × (getD (e ∷ es) i 0 % 1024 ≡ y))
+      go true q m ih = ⊎-elim (λ k. let l = ltb-true (e % 1024) names q in (omega arith, (0, omega arith, sym k))) (λ n. later (ih n)) (List·Memᴰ·cases-cons m)
+      go false q m ih = later (ih m)
+
+  -- EVERY PARENT IS A CLASS, and below 1,024
+  pub parents-below : (l : List ℕ) (c : ℕ) → List·Memᴰ y (parentsOf names l c) → (y < names) × (y < 1024)
+  unfolding parentsOf
+  parents-below l c m =
+      let w = in-only (between (runOf 1024 c l .first) (runOf 1024 c l .past) l) m in
+      (w .0, let e = w .1 .2 in omega arith)
+
+  -- ON SORTED KEYS y IS A PARENT OF c EXACTLY IF IT IS A CLASS AND THE KEY OF BOTH IS AN ENTRY
+  pub parents-exactly : (l : List ℕ) (c : ℕ) → Sorted l → y < 1024 → List·Memᴰ y (parentsOf names l c) ↔ ((y < names) × (elem (c * 1024 + y) l ≡ true))
+  unfolding parentsOf
+  parents-exactly l c g h = (only, λ w. has (w .0) (has-get (c * 1024 + y) l (has-elem (c * 1024 + y) l g ∙ w .1)))
+    where
+      first : ℕ
+      first = runOf 1024 c l .first
+
+      past : ℕ
+      past = runOf 1024 c l .past
+
+      -- the keys of the run stand in the list
+      get : (i : ℕ) → i < past - first → getD (between first past l) i 0 ≡ getD l (first + i) 0
+      get i k = getD-take (past - first) (drop first l) i 0 k ∙ getD-drop first l i 0
+
+      only : List·Memᴰ y (parentsIn names (between first past l)) → (y < names) × (elem (c * 1024 + y) l ≡ true)
+      only m =
+          let w = in-only (between first past l) m in
+          let i = w .1 .0 in
+          let r = w .1 .1 in
+          let b = length-take (past - first) (drop first l) in
+          let d = length-drop first l in
+          let e = get i (omega arith) in
+          let q = w .1 .2 in
+          let k = run-only 1024 c l g (omega arith) (first + i) (omega arith) (omega arith) (omega arith) in
+          let z : getD l (first + i) 0 ≡ c * 1024 + y = omega arith in
+          (w .0, subst (λ (x : ℕ). elem x l ≡ true) z (elem-get l (first + i) (omega arith)))
+
+      has : y < names → (place (c * 1024 + y) l < length l) × (getD l (place (c * 1024 + y) l) 0 ≡ c * 1024 + y) → List·Memᴰ y (parentsIn names (between first past l))
+      has n w =
+          let j = place (c * 1024 + y) l in
+          let at-j = w .0 in
+          let is-j = w .1 in
+          let r = run-all 1024 c l g (omega arith) j at-j (let q : getD l j 0 / 1024 ≡ c = omega arith in q) in
+          let from = r .0 in
+          let to = r .1 in
+          let b = length-take (past - first) (drop first l) in
+          let d = length-drop first l in
+          let e : getD (between first past l) (j - first) 0 ≡ getD l j 0 = get (j - first) (omega arith) ∙ ap (λ (i : ℕ). getD l i 0) (let q : first + (j - first) ≡ j = omega arith in q) in
+          in-has (between first past l) (j - first) (omega arith) (let q : getD (between first past l) (j - first) 0 % 1024 ≡ y = omega arith in q) n
+
+  -- and where every key names a class, exactly if the key is an entry
+  pub parents-entry : (l : List ℕ) (c : ℕ) → Sorted l → y < 1024 → ((e : ℕ) → elem e l ≡ true → e % 1024 < names)
+      → List·Memᴰ y (parentsOf names l c) ↔ (elem (c * 1024 + y) l ≡ true)
+  parents-entry l c g h classes =
+      (λ m. parents-exactly l c g h .0 m .1, λ e. parents-exactly l c g h .1 (let k = classes (c * 1024 + y) e in omega arith, e))
+
+-- THE TABLES GIVE A GOOD VIEW, on any contents
+pub view-good : (pairs marks : List ℕ) (t : Classes) → t .names ≤ 1024 → t .object < t .names → Good (viewOf pairs marks t)
+view-good pairs marks t h o = record {
+  few = h;
+  object-in = o;
+  parents-in = λ c p l m. parents-below (t .names) p (take (t .pairs) pairs) c m .0;
+}

@@ -1,0 +1,24 @@
+-- The contract of each public function, as the check reads it, allows one outcome. Assumes nothing.
+use mathlib.Core.Path.{_≡_, sym, _∙_}
+use borrow.Fn.Kinds.{Dens, resT, endedOf}
+use denote.Triple.Clauses.{AtExit}
+use denote.Ref.{now}
+use contract.Lifetimes.{Lfts}
+use Rattle.rows.proofs.add_name.Reads as add-name
+use Rattle.rows.proofs.add_name.Kinds as add-name-kinds
+use Rattle.rows.proofs.add_record.Reads as add-record
+use Rattle.rows.proofs.add_record.Kinds as add-record-kinds
+
+pub add-name-one : (κs : Lfts 2) (a : Dens κs add-name-kinds.ps) (r₁ r₂ : resT add-name-kinds.r κs .Denot)
+    (x₁ x₂ : AtExit (endedOf 2 add-name-kinds.ps add-name-kinds.r) κs) → add-name.Post κs a r₁ x₁ → add-name.Post κs a r₂ x₂ → r₁ ≡ r₂
+add-name-one κs a r₁ r₂ x₁ x₂ p q = p ∙ sym q
+
+-- the fourth and the fifth parameter are lent
+pub add-record-one : (κs : Lfts 3) (a : Dens κs add-record-kinds.ps) (r₁ r₂ : resT add-record-kinds.r κs .Denot)
+    (x₁ x₂ : AtExit (endedOf 3 add-record-kinds.ps add-record-kinds.r) κs) → add-record.Post κs a r₁ x₁ → add-record.Post κs a r₂ x₂
+    → (r₁ ≡ r₂) × (now (x₁ .1 .1 .1 .0) ≡ now (x₂ .1 .1 .1 .0)) × (now (x₁ .1 .1 .1 .1 .0) ≡ now (x₂ .1 .1 .1 .1 .0))
+add-record-one κs a r₁ r₂ x₁ x₂ p q = (
+  p .outcome-is ∙ sym (q .outcome-is),
+  p .pairs-are ∙ sym (q .pairs-are),
+  p .marks-are ∙ sym (q .marks-are),
+)

@@ -1,0 +1,54 @@
+-- Worked examples of rows, by computation. Assumes nothing.
+use mathlib.Core.Path.{_≡_, refl}
+use mathlib.Core.Bool.{true, false}
+use mathlib.Core.List.{List, [], _∷_}
+use Prim.Native.Nat.{ℕ, _-_, _^_}
+use lib.ListN.{replicate}
+use Rattle.ty.specs.Types.{compareNumbers, compareLists}
+use Rattle.utf8.specs.Utf8.{table, within, matches, firstMatch, sequence, scan, validPrefix, wellFormed}
+use Rattle.sets.specs.Sets.{bit, clear, at, member, insert, remove}
+use Rattle.sorted.specs.Sorted.{elem, insertSorted, put}
+use Rattle.names.specs.First.{first}
+use Rattle.names.specs.Names.{nameChecks, checkName}
+use Rattle.rows.specs.declared.Tables.{Tables}
+use Rattle.rows.specs.Rows.{objectName, cloneableName, serializableName, noted, withName, nameRow, isMarked, goodFlags, allBelow, putAll, marked, recordMarks, recordChecks, recordRefusal}
+
+-- with three names before, of 24 bytes
+abbrev pub three : Tables
+three = record { names = 3; bytes = 24; object = 2 ^ 64 - 1; cloneable = 1; serializable = 2 ^ 64 - 1; pairs = 0 }
+
+-- java/lang/Object after a/TrussB is number 3; java/lang/Objec is no one's; a name that is not above the last is refused 5
+pub names :
+    (nameRow (97 ∷ []) objectName three ≡ record { refusal = 0; tables = record { names = 4; bytes = 40; object = 3; cloneable = 1; serializable = 2 ^ 64 - 1; pairs = 0 } })
+    × (nameRow (97 ∷ []) (98 ∷ []) three ≡ record { refusal = 0; tables = record { names = 4; bytes = 25; object = 2 ^ 64 - 1; cloneable = 1; serializable = 2 ^ 64 - 1; pairs = 0 } })
+    × (nameRow (98 ∷ []) (97 ∷ []) three ≡ record { refusal = 5; tables = three })
+unfolding objectName cloneableName serializableName noted withName nameRow nameChecks checkName first compareLists compareNumbers table within matches firstMatch sequence scan validPrefix wellFormed
+names = (refl, refl, refl)
+
+-- of four names, with the pair (1, 0): refused are 255 parents 3; flags 8, 2, 4 and 6, class 4 and parent 4 with 6; repeats count once
+pub refusals :
+    (recordRefusal 4 (1024 ∷ []) 0 0 (replicate 255 3) ≡ 3)
+    × (recordRefusal 4 (1024 ∷ []) 8 0 [] ≡ 6)
+    × (recordRefusal 4 (1024 ∷ []) 2 0 [] ≡ 6)
+    × (recordRefusal 4 (1024 ∷ []) 4 0 [] ≡ 6)
+    × (recordRefusal 4 (1024 ∷ []) 6 0 [] ≡ 6)
+    × (recordRefusal 4 (1024 ∷ []) 0 4 [] ≡ 6)
+    × (recordRefusal 4 (1024 ∷ []) 0 0 (3 ∷ 4 ∷ []) ≡ 6)
+    × (recordRefusal 4 (1024 ∷ []) 7 0 (replicate 254 3) ≡ 0)
+    × (putAll 1 (3 ∷ 0 ∷ 3 ∷ []) (1024 ∷ 2048 ∷ []) ≡ 1024 ∷ 1027 ∷ 2048 ∷ [])
+unfolding recordRefusal recordChecks first goodFlags allBelow putAll put elem insertSorted
+refusals = (refl, refl, refl, refl, refl, refl, refl, refl, refl)
+
+-- the marks of class 65 after a record
+abbrev pub facts : ℕ → List ℕ → List ℕ
+facts flags marks = recordMarks flags 65 marks
+
+-- declared as an interface, then not declared: still an interface; then declared as final: final, and no interface
+pub facts-of-the-last :
+    (facts 0 (facts 3 (replicate 64 0)) ≡ facts 3 (replicate 64 0))
+    × (isMarked 2 65 (facts 3 (replicate 64 0)) ≡ true)
+    × (isMarked 2 65 (facts 5 (facts 0 (facts 3 (replicate 64 0)))) ≡ false)
+    × (isMarked 3 65 (facts 5 (facts 0 (facts 3 (replicate 64 0)))) ≡ true)
+    × (isMarked 1 65 (facts 0 (replicate 64 0)) ≡ false)
+unfolding recordMarks marked member at bit insert remove clear
+facts-of-the-last = (refl, refl, refl, refl, refl)

@@ -1,0 +1,152 @@
+//! Nanoseconds a call of the Rust of docs/src, of the boundary over slices, and of the Rust wrappers over it, in one
+//! run, as a table in Markdown. `cargo run --release --offline -p bench`
+//!
+//! Where the linker puts a loop can move a row by half, the same in every run of one build. A ratio near 1 needs a
+//! second build, or a program with that row alone, before it says anything.
+
+use std::hint::black_box;
+use std::str::FromStr;
+use std::time::{Duration, Instant};
+
+use bracepuffin::{slices, Names};
+use dexdec::{ArgType, MethodDescriptor};
+
+/// Each round takes about so long; the best round counts.
+const ROUND: Duration = Duration::from_millis(4);
+const ROUNDS: usize = 25;
+
+fn main() {
+    println!("| what | Rust ns | boundary ns | Rust / boundary | wrapper ns | Rust / wrapper |");
+    println!("|---|---|---|---|---|---|");
+    let long_name = "com/example/".repeat(20) + "Name";
+    let deep = "[".repeat(255) + "I";
+    for (what, text) in [
+        ("`I`", "I"),
+        ("`[[J`", "[[J"),
+        ("`Ljava/lang/String;`", "Ljava/lang/String;"),
+        ("a name of 244 bytes", &format!("L{long_name};")),
+        (
+            "a name of 99 bytes, not ASCII",
+            &format!("L{};", "\u{65e5}".repeat(33)),
+        ),
+        ("255 dimensions", &deep),
+        ("`[V`, refused", "[V"),
+    ] {
+        parse_type(what, text);
+    }
+    let many = format!("({})V", "Ljava/lang/Object;I[J".repeat(20));
+    for (what, text) in [
+        ("`()V`", "()V"),
+        ("`(ILjava/lang/Object;)Z`", "(ILjava/lang/Object;)Z"),
+        ("60 parameters", &many),
+        ("255 parameters `I`", &format!("({})V", "I".repeat(255))),
+        ("`(ILjava/lang/Object;`, refused", "(ILjava/lang/Object;"),
+    ] {
+        parse_method(what, text);
+    }
+    let few = vec![
+        "java/lang/Object".to_string(),
+        "java/lang/String".to_string(),
+    ];
+    let mut full: Vec<String> = (0..1021)
+        .map(|number| format!("com/example/C{number:04}"))
+        .collect();
+    full.extend_from_slice(&few);
+    full.push(long_name.clone());
+    full.sort();
+    for (what, text, names) in [
+        ("`I`, no names", "I", &vec![]),
+        ("`Ljava/lang/String;`, 2 names", "Ljava/lang/String;", &few),
+        (
+            "a name of 244 bytes, 1 name",
+            &format!("L{long_name};"),
+            &vec![long_name.clone()],
+        ),
+        ("255 dimensions, no names", &deep, &vec![]),
+        (
+            "`Ljava/lang/String;`, 1,024 names",
+            "Ljava/lang/String;",
+            &full,
+        ),
+    ] {
+        write_type(what, text, names);
+    }
+    for (what, text, names) in [
+        ("`()V`, no names", "()V", &vec![]),
+        (
+            "`(ILjava/lang/Object;)Z`, 2 names",
+            "(ILjava/lang/Object;)Z",
+            &few,
+        ),
+        ("60 parameters, 2 names", &many, &few),
+        ("60 parameters, 1,024 names", &many, &full),
+    ] {
+        write_method(what, text, names);
+    }
+}
+
+fn parse_type(what: &str, text: &str) {
+    let rust = best(|| ArgType::from_str(black_box(text)));
+    let boundary = best(|| slices::read_type(black_box(text.as_bytes())));
+    let wrapper = best(|| bracepuffin::read_type(black_box(text.as_bytes())));
+    row(&format!("parse type {what}"), rust, boundary, wrapper);
+}
+
+fn parse_method(what: &str, text: &str) {
+    let rust = best(|| MethodDescriptor::from_str(black_box(text)));
+    let mut params = [0; 255];
+    let boundary = best(|| slices::read_method(black_box(text.as_bytes()), &mut params));
+    let wrapper = best(|| bracepuffin::read_method(black_box(text.as_bytes())));
+    row(&format!("parse method {what}"), rust, boundary, wrapper);
+}
+
+fn write_type(what: &str, text: &str, names: &[String]) {
+    let ty = ArgType::from_str(text).expect("a descriptor");
+    let word = words::word(&ty, names).expect("a type with a word");
+    let names = Names::new(names).expect("a sound table");
+    let mut out = [0; 512];
+    assert_eq!(names.write_type(word).as_deref(), Ok(text));
+    let rust = best(|| black_box(&ty).to_descriptor());
+    let boundary = best(|| slices::write_type(names.columns(), black_box(word), &mut out));
+    let wrapper = best(|| names.write_type(black_box(word)));
+    row(&format!("write type {what}"), rust, boundary, wrapper);
+}
+
+fn write_method(what: &str, text: &str, names: &[String]) {
+    let method = MethodDescriptor::from_str(text).expect("a descriptor");
+    let word = |ty: &ArgType| words::word(ty, names).expect("a type with a word");
+    let params: Vec<u64> = method.parameters.iter().map(word).collect();
+    let result = word(&method.return_type);
+    let names = Names::new(names).expect("a sound table");
+    let mut out = vec![0; 4096];
+    assert_eq!(names.write_method(&params, result).as_deref(), Ok(text));
+    let rust = best(|| black_box(&method).to_string());
+    let boundary =
+        best(|| slices::write_method(names.columns(), black_box(&params), result, &mut out));
+    let wrapper = best(|| names.write_method(black_box(&params), result));
+    row(&format!("write method {what}"), rust, boundary, wrapper);
+}
+
+/// Nanoseconds a call, in the best of several rounds.
+fn best<T>(mut call: impl FnMut() -> T) -> f64 {
+    let mut calls = 1;
+    while time(calls, &mut call) < ROUND {
+        calls *= 2;
+    }
+    let rounds = (0..ROUNDS).map(|_| time(calls, &mut call));
+    let shortest = rounds.min().expect("some rounds");
+    shortest.as_nanos() as f64 / calls as f64
+}
+
+fn time<T>(calls: u64, call: &mut impl FnMut() -> T) -> Duration {
+    let start = Instant::now();
+    for _ in 0..calls {
+        black_box(&call());
+    }
+    start.elapsed()
+}
+
+fn row(what: &str, rust: f64, boundary: f64, wrapper: f64) {
+    let (over_boundary, over_wrapper) = (rust / boundary, rust / wrapper);
+    println!("| {what} | {rust:.1} | {boundary:.1} | {over_boundary:.1} | {wrapper:.1} | {over_wrapper:.1} |");
+}

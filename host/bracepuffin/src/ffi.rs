@@ -1,0 +1,98 @@
+//! The functions as they are exported, declared as in `include/bracepuffin.h`, which says what each does.
+//!
+//! Every pointer is that of a slice: non-null, aligned, good for as many elements as the length after it says.
+//! A slice that is written overlaps no other. The numbers and bytes may be any.
+
+#[repr(C)]
+#[derive(Debug, Clone, Copy, PartialEq, Eq)]
+pub struct BpType {
+    pub refusal: u64,
+    pub offset: u64,
+    pub byte: u64,
+    pub dims: u64,
+    pub tag: u64,
+    pub category: u64,
+    pub name_at: u64,
+    pub name_len: u64,
+}
+
+#[repr(C)]
+#[derive(Debug, Clone, Copy, PartialEq, Eq)]
+pub struct BpMethod {
+    pub refusal: u64,
+    pub offset: u64,
+    pub byte: u64,
+    pub count: u64,
+    pub return_at: u64,
+    pub dims: u64,
+    pub tag: u64,
+    pub category: u64,
+    pub name_at: u64,
+    pub name_len: u64,
+}
+
+#[repr(C)]
+#[derive(Debug, Clone, Copy, PartialEq, Eq)]
+pub struct BpWritten {
+    pub refusal: u64,
+    pub length: u64,
+}
+
+#[repr(C)]
+#[derive(Debug, Clone, Copy, PartialEq, Eq)]
+pub struct BpFound {
+    pub refusal: u64,
+    pub class_no: u64,
+}
+
+extern "C" {
+    pub fn bp_read_type(d: *const u8, d_n: usize) -> BpType;
+
+    pub fn bp_read_type_strict(d: *const u8, d_n: usize) -> BpType;
+
+    pub fn bp_read_method(d: *const u8, d_n: usize, params: *mut u64, params_n: usize) -> BpMethod;
+
+    pub fn bp_read_method_strict(
+        d: *const u8,
+        d_n: usize,
+        params: *mut u64,
+        params_n: usize,
+    ) -> BpMethod;
+
+    pub fn bp_write_type(
+        names: *const u8,
+        names_n: usize,
+        name_at: *const u64,
+        name_at_n: usize,
+        name_len: *const u64,
+        name_len_n: usize,
+        r#type: u64,
+        out: *mut u8,
+        out_n: usize,
+    ) -> BpWritten;
+
+    pub fn bp_write_method(
+        names: *const u8,
+        names_n: usize,
+        name_at: *const u64,
+        name_at_n: usize,
+        name_len: *const u64,
+        name_len_n: usize,
+        params: *const u64,
+        params_n: usize,
+        result: u64,
+        out: *mut u8,
+        out_n: usize,
+    ) -> BpWritten;
+
+    pub fn bp_lookup(
+        names: *const u8,
+        names_n: usize,
+        name_at: *const u64,
+        name_at_n: usize,
+        name_len: *const u64,
+        name_len_n: usize,
+        key: *const u8,
+        key_n: usize,
+    ) -> BpFound;
+}

@@ -1,0 +1,214 @@
+//! Reading descriptors.
+
+use std::fmt;
+use std::iter::FusedIterator;
+use std::mem::MaybeUninit;
+
+use crate::ffi::{self, BpMethod, BpType};
+use crate::types::{ArgType, Base, PrimitiveType};
+use crate::{slices, Refusal};
+
+/// The most parameters that a method may have.
+pub const PARAMETERS: usize = 255;
+
+/// The type of a descriptor, void included.
+#[inline]
+pub fn read_type(descriptor: &[u8]) -> Result<ArgType<'_>, Refusal> {
+    type_of(descriptor, slices::read_type(descriptor))
+}
+
+/// The same for class names as the JVMS has them: no '.', no '[', no empty part beside a slash.
+#[inline]
+pub fn read_type_strict(descriptor: &[u8]) -> Result<ArgType<'_>, Refusal> {
+    type_of(descriptor, slices::read_type_strict(descriptor))
+}
+
+/// The parameters and the return type of a method's descriptor.
+pub fn read_method(descriptor: &[u8]) -> Result<MethodDescriptor<'_>, Refusal> {
+    Ok(read_method_into(descriptor, &mut Offsets::new())?.collect())
+}
+
+/// The same for class names as the JVMS has them.
+pub fn read_method_strict(descriptor: &[u8]) -> Result<MethodDescriptor<'_>, Refusal> {
+    Ok(read_method_strict_into(descriptor, &mut Offsets::new())?.collect())
+}
+
+/// A method's descriptor read without the heap: the offsets of the parameters are put where the caller says.
+#[inline]
+pub fn read_method_into<'a, 'o>(
+    descriptor: &'a [u8],
+    offsets: &'o mut Offsets,
+) -> Result<Method<'a, 'o>, Refusal> {
+    // SAFETY: two live slices, one of them borrowed for writing. The function writes entries and reads none.
+    let read = unsafe {
+        let (d, params) = (descriptor.as_ptr(), offsets.0.as_mut_ptr().cast());
+        ffi::bp_read_method(d, descriptor.len(), params, PARAMETERS)
+    };
+    method_of(descriptor, offsets, read)
+}
+
+/// The same for class names as the JVMS has them.
+#[inline]
+pub fn read_method_strict_into<'a, 'o>(
+    descriptor: &'a [u8],
+    offsets: &'o mut Offsets,
+) -> Result<Method<'a, 'o>, Refusal> {
+    // SAFETY: as above.
+    let read = unsafe {
+        let (d, params) = (descriptor.as_ptr(), offsets.0.as_mut_ptr().cast());
+        ffi::bp_read_method_strict(d, descriptor.len(), params, PARAMETERS)
+    };
+    method_of(descriptor, offsets, read)
+}
+
+/// Room for the offsets of a method's parameters. It costs nothing to make and may be lent again.
+pub struct Offsets([MaybeUninit<u64>; PARAMETERS]);
+
+impl Offsets {
+    pub const fn new() -> Self {
+        Self([MaybeUninit::uninit(); PARAMETERS])
+    }
+}
+
+impl Default for Offsets {
+    fn default() -> Self {
+        Self::new()
+    }
+}
+
+impl fmt::Debug for Offsets {
+    fn fmt(&self, formatter: &mut fmt::Formatter<'_>) -> fmt::Result {
+        formatter.write_str("Offsets")
+    }
+}
+
+/// A method's descriptor with its types, after `MethodDescriptor` of ty.rs.
+#[derive(Debug, Clone, PartialEq, Eq, Hash)]
+pub struct MethodDescriptor<'a> {
+    pub parameters: Vec<ArgType<'a>>,
+    pub return_type: ArgType<'a>,
+}
+
+/// A method's descriptor with the places of its parameters.
+#[derive(Debug, Clone, Copy)]
+pub struct Method<'a, 'o> {
+    descriptor: &'a [u8],
+    offsets: &'o [u64],
+    close: usize,
+    pub return_type: ArgType<'a>,
+}
+
+impl<'a, 'o> Method<'a, 'o> {
+    /// The number of parameters.
+    pub fn count(&self) -> usize {
+        self.offsets.len()
+    }
+
+    /// The descriptor of a parameter: it ends where the next one begins, the last one at the ')'.
+    #[inline]
+    pub fn parameter_text(&self, number: usize) -> Option<&'a [u8]> {
+        let start = *self.offsets.get(number)? as usize;
+        let next = self.offsets.get(number + 1);
+        let end = next.map_or(self.close, |next| *next as usize);
+        Some(&self.descriptor[start..end])
+    }
+
+    #[inline]
+    pub fn parameter(&self, number: usize) -> Option<ArgType<'a>> {
+        let text = self.parameter_text(number)?;
+        Some(read_type(text).expect("part of a descriptor that was accepted"))
+    }
+
+    pub fn parameters(&self) -> Parameters<'a, 'o> {
+        Parameters {
+            method: *self,
+            next: 0,
+        }
+    }
+
+    fn collect(&self) -> MethodDescriptor<'a> {
+        MethodDescriptor {
+            parameters: self.parameters().collect(),
+            return_type: self.return_type,
+        }
+    }
+}
+
+/// The types of a method's parameters, each read when it is asked for.
+#[derive(Debug, Clone)]
+pub struct Parameters<'a, 'o> {
+    method: Method<'a, 'o>,
+    next: usize,
+}
+
+impl<'a> Iterator for Parameters<'a, '_> {
+    type Item = ArgType<'a>;
+
+    #[inline]
+    fn next(&mut self) -> Option<ArgType<'a>> {
+        let parameter = self.method.parameter(self.next)?;
+        self.next += 1;
+        Some(parameter)
+    }
+
+    fn size_hint(&self) -> (usize, Option<usize>) {
+        let left = self.method.count() - self.next;
+        (left, Some(left))
+    }
+}
+
+impl ExactSizeIterator for Parameters<'_, '_> {}
+impl FusedIterator for Parameters<'_, '_> {}
+
+#[inline]
+fn type_of(descriptor: &[u8], read: BpType) -> Result<ArgType<'_>, Refusal> {
+    accepted(read.refusal, read.offset, read.byte)?;
+    let (at, len) = (read.name_at as usize, read.name_len as usize);
+    Ok(ArgType {
+        dimensions: read.dims as u8,
+        base: base(read.tag, read.category, &descriptor[at..at + len]),
+    })
+}
+
+#[inline]
+fn method_of<'a, 'o>(
+    descriptor: &'a [u8],
+    offsets: &'o Offsets,
+    read: BpMethod,
+) -> Result<Method<'a, 'o>, Refusal> {
+    accepted(read.refusal, read.offset, read.byte)?;
+    let (at, len) = (read.name_at as usize, read.name_len as usize);
+    let written = &offsets.0[..read.count as usize];
+    Ok(Method {
+        descriptor,
+        // SAFETY: an accepted call has written as many entries as it counts.
+        offsets: unsafe { std::slice::from_raw_parts(written.as_ptr().cast(), written.len()) },
+        close: read.return_at as usize - 1,
+        return_type: ArgType {
+            dimensions: read.dims as u8,
+            base: base(read.tag, read.category, &descriptor[at..at + len]),
+        },
+    })
+}
+
+#[inline]
+fn accepted(number: u64, offset: u64, byte: u64) -> Result<(), Refusal> {
+    match number {
+        0 => Ok(()),
+        _ => Err(Refusal {
+            number,
+            offset,
+            byte,
+        }),
+    }
+}
+
+#[inline]
+fn base(tag: u64, category: u64, name: &[u8]) -> Base<'_> {
+    if tag == 0 {
+        return Base::Primitive(PrimitiveType::ALL[category as usize]);
+    }
+    debug_assert!(std::str::from_utf8(name).is_ok());
+    // SAFETY: a name that is accepted is well-formed by Unicode's table 3-7, which is what `str` asks for.
+    Base::Object(unsafe { std::str::from_utf8_unchecked(name) })
+}

@@ -1,0 +1,134 @@
+//! Types as they are read: those of ty.rs, with dimensions in place of boxes and names borrowed from the input.
+
+/// What a type is without its dimensions, and the members of an Unknown; in the order of their numbers.
+#[derive(Debug, Clone, Copy, PartialEq, Eq, PartialOrd, Ord, Hash)]
+pub enum PrimitiveType {
+    Void,
+    Boolean,
+    Byte,
+    Short,
+    Char,
+    Int,
+    Long,
+    Float,
+    Double,
+    Object,
+    Array,
+}
+
+impl PrimitiveType {
+    pub const ALL: [Self; 11] = [
+        Self::Void,
+        Self::Boolean,
+        Self::Byte,
+        Self::Short,
+        Self::Char,
+        Self::Int,
+        Self::Long,
+        Self::Float,
+        Self::Double,
+        Self::Object,
+        Self::Array,
+    ];
+
+    /// The number of the category.
+    pub fn number(self) -> u64 {
+        self as u64
+    }
+
+    /// Whether it takes two registers.
+    pub fn is_wide(self) -> bool {
+        matches!(self, Self::Long | Self::Double)
+    }
+}
+
+/// What the dimensions of a type stand over.
+#[derive(Debug, Clone, Copy, PartialEq, Eq, Hash)]
+pub enum Base<'a> {
+    Primitive(PrimitiveType),
+    /// A class by its name, which is borrowed from the descriptor.
+    Object(&'a str),
+}
+
+/// A type that was read. It is copied freely: nothing in it is on the heap.
+#[derive(Debug, Clone, Copy, PartialEq, Eq, Hash)]
+pub struct ArgType<'a> {
+    pub dimensions: u8,
+    pub base: Base<'a>,
+}
+
+impl<'a> ArgType<'a> {
+    pub const VOID: ArgType<'static> = ArgType::primitive(PrimitiveType::Void);
+    pub const BOOLEAN: ArgType<'static> = ArgType::primitive(PrimitiveType::Boolean);
+    pub const BYTE: ArgType<'static> = ArgType::primitive(PrimitiveType::Byte);
+    pub const SHORT: ArgType<'static> = ArgType::primitive(PrimitiveType::Short);
+    pub const CHAR: ArgType<'static> = ArgType::primitive(PrimitiveType::Char);
+    pub const INT: ArgType<'static> = ArgType::primitive(PrimitiveType::Int);
+    pub const LONG: ArgType<'static> = ArgType::primitive(PrimitiveType::Long);
+    pub const FLOAT: ArgType<'static> = ArgType::primitive(PrimitiveType::Float);
+    pub const DOUBLE: ArgType<'static> = ArgType::primitive(PrimitiveType::Double);
+
+    pub const fn primitive(category: PrimitiveType) -> Self {
+        Self {
+            dimensions: 0,
+            base: Base::Primitive(category),
+        }
+    }
+
+    pub const fn object(name: &'a str) -> Self {
+        Self {
+            dimensions: 0,
+            base: Base::Object(name),
+        }
+    }
+
+    /// The array of this type; none past 255 dimensions.
+    pub fn array(self) -> Option<Self> {
+        let dimensions = self.dimensions.checked_add(1)?;
+        Some(Self { dimensions, ..self })
+    }
+
+    pub fn is_primitive(&self) -> bool {
+        self.as_primitive().is_some()
+    }
+
+    pub fn is_object(&self) -> bool {
+        self.as_object().is_some()
+    }
+
+    pub fn is_array(&self) -> bool {
+        self.dimensions > 0
+    }
+
+    /// Whether it is a class or an array.
+    pub fn is_reference(&self) -> bool {
+        self.is_object() || self.is_array()
+    }
+
+    /// Whether it takes two registers.
+    pub fn is_wide(&self) -> bool {
+        self.as_primitive().is_some_and(PrimitiveType::is_wide)
+    }
+
+    pub fn as_primitive(&self) -> Option<PrimitiveType> {
+        match self.base {
+            Base::Primitive(category) if self.dimensions == 0 => Some(category),
+            _ => None,
+        }
+    }
+
+    pub fn as_object(&self) -> Option<&'a str> {
+        match self.base {
+            Base::Object(name) if self.dimensions == 0 => Some(name),
+            _ => None,
+        }
+    }
+
+    pub fn as_array_element(&self) -> Option<Self> {
+        let dimensions = self.dimensions.checked_sub(1)?;
+        Some(Self {
+            dimensions,
+            ..*self
+        })
+    }
+}

@@ -1,0 +1,138 @@
+/*
+ * Bracepuffin from C: descriptors and names.
+ *
+ * Every function takes arbitrary numbers and bytes, allocates nothing and keeps nothing. A slice is a pointer and a
+ * length in elements. The pointer is never null, not even for length 0; slices that are written overlap no other slice
+ * of the call.
+ *
+ * A result begins with its refusal, 0 for none. In a refused result every other field is 0, but for offset and byte
+ * where the refusal has them. A refused call leaves all lent memory as it came.
+ *
+ *    3  name columns of unequal length; a name of no bytes or of more than 255, or not inside its slice
+ *    5  a name not above the one before it
+ *    7  no type word, or its class number not in the table
+ *    8  more than 1,024 names, 24,576 name bytes or 255 parameters
+ *   10  a name that is not well-formed UTF-8
+ *   11  the descriptor ends too early                                       offset
+ *   12  a byte that begins no type, or a name not well-formed from here on  offset, byte
+ *   13  V where no void is allowed                                          offset
+ *   14  an empty class name                                                 offset, of the L
+ *   15  bytes after the end                                                 offset
+ *   16  a method that does not begin with (
+ *   17  a parameter list that is not closed                                 offset
+ *   18  the 256th dimension of one type                                     offset
+ *   19  the 256th parameter                                                 offset
+ *   22  fewer than 255 entries for parameters, or less room than what is to be written
+ *   23  the name looked up is not in the table
+ *   24  a name with '.', '[' or an empty part beside a slash                offset, of the L
+ *
+ * A type is handed over as a word of 64 bits, see BP_PRIMITIVE, BP_CLASS and BP_ARRAY.
+ */
+#ifndef BRACEPUFFIN_H
+#define BRACEPUFFIN_H
+
+#include <stddef.h>
+#include <stdint.h>
+
+#ifdef __cplusplus
+extern "C" {
+#endif
+
+/* A slice as two parameters, read or written: BP_IN8(d) is `const uint8_t *d, size_t d_n`. */
+#define BP_IN8(x)   const uint8_t *x, size_t x##_n
+#define BP_IN64(x)  const uint64_t *x, size_t x##_n
+#define BP_OUT8(x)  uint8_t *x, size_t x##_n
+#define BP_OUT64(x) uint64_t *x, size_t x##_n
+
+/*
+ * A table of names: name i is the name_len[i] bytes of `names` from name_at[i] on, and its class number is i. Names
+ * have 1 to 255 bytes of well-formed UTF-8 and come strictly ascending in byte order, a prefix first. Bytes of `names`
+ * may be shared or unused.
+ *
+ * Each call checks its table: 3 for columns of unequal length, then name by name 3, 10, 5, 8.
+ */
+#define BP_NAMES BP_IN8(names), BP_IN64(name_at), BP_IN64(name_len)
+
+/* Categories of primitives. 9 and 10 stand for a class and an array that are not named; they are written L and [. */
+enum {
+    BP_VOID = 0, BP_BOOLEAN = 1, BP_BYTE = 2, BP_SHORT = 3, BP_CHAR = 4, BP_INT = 5, BP_LONG = 6, BP_FLOAT = 7,
+    BP_DOUBLE = 8, BP_OBJECT = 9, BP_ARRAY_OF_ANY = 10
+};
+
+/* Tags of what was read and of words. An Unknown is written as '?'. */
+enum { BP_TAG_PRIMITIVE = 0, BP_TAG_CLASS = 1, BP_TAG_UNKNOWN = 2 };
+
+/* Type words: a primitive by its category, a class by its number, an array with 0 to 255 dimensions over such a word. */
+#define BP_PRIMITIVE(category)   ((uint64_t)(category))
+#define BP_CLASS(class_no)       ((uint64_t)BP_TAG_CLASS << 48 | (uint64_t)(class_no))
+#define BP_ARRAY(dims, base)     ((uint64_t)(dims) << 56 | (base))
+
+/* The most parameters a method may have; the least number of entries that a parameter slice must have. */
+#define BP_PARAMS 255
+
+/*
+ * A type that was read. tag BP_TAG_PRIMITIVE: category is 0 to 8 and the name fields are 0. tag BP_TAG_CLASS: category
+ * is 0, and the name is the name_len bytes of the descriptor from name_at on, of any length.
+ */
+typedef struct BpType {
+    uint64_t refusal, offset, byte;
+    uint64_t dims, tag, category, name_at, name_len;
+} BpType;
+
+/* A method that was read: the number of parameters, where the return type begins, and the return type as in BpType. */
+typedef struct BpMethod {
+    uint64_t refusal, offset, byte;
+    uint64_t count, return_at;
+    uint64_t dims, tag, category, name_at, name_len;
+} BpMethod;
+
+/* The number of bytes written. */
+typedef struct BpWritten {
+    uint64_t refusal, length;
+} BpWritten;
+
+/* The class number of a name. */
+typedef struct BpFound {
+    uint64_t refusal, class_no;
+} BpFound;
+
+/*
+ * Reads a type; V alone is one. The first fault in reading order is refused:
+ * 11, 12, 13, 14, 18; then 15. In a class 11 (no ';') comes before 14, and 14 before 12.
+ */
+BpType bp_read_type(BP_IN8(d));
+
+/* The same, and a type that would be accepted is refused 24 where its class name is not as the JVMS has it. */
+BpType bp_read_type_strict(BP_IN8(d));
+
+/*
+ * Reads a method. params[i] becomes the offset of the first byte of parameter i, for i below count; entries from count
+ * on stay. Parameter i ends where the next one begins, the last one before the ')' at return_at - 1.
+ * 22 first, even where there is no parameter; 16; then in reading order 17, 19 and the faults of a type (in a
+ * parameter V is 13), those of the return type, 15.
+ */
+BpMethod bp_read_method(BP_IN8(d), BP_OUT64(params));
+
+/* The same, and a method that would be accepted is refused 24 at its first class name that is not as the JVMS has it. */
+BpMethod bp_read_method_strict(BP_IN8(d), BP_OUT64(params));
+
+/*
+ * Writes the descriptor of a type word to the front of out; bytes past the length stay. At most 512 bytes.
+ * 3, 10, 5, 8 for the table; 7; 22.
+ */
+BpWritten bp_write_type(BP_NAMES, uint64_t type, BP_OUT8(out));
+
+/*
+ * Writes the descriptor of a method to the front of out; bytes past the length stay.
+ * 3, 10, 5, 8 for the table; 8 for more than 255 parameters; 7 for any of the words; 22.
+ */
+BpWritten bp_write_method(BP_NAMES, BP_IN64(params), uint64_t result, BP_OUT8(out));
+
+/* The class number of a name. 3, 10, 5, 8 for the table; 23. */
+BpFound bp_lookup(BP_NAMES, BP_IN8(key));
+
+#ifdef __cplusplus
+}
+#endif
+
+#endif
