@@ -1,19 +1,20 @@
 //! Types as they are read: those of ty.rs, with dimensions in place of boxes and names borrowed from the input.
 
-/// What a type is without its dimensions, and the members of an Unknown; in the order of their numbers.
-#[derive(Debug, Clone, Copy, PartialEq, Eq, PartialOrd, Ord, Hash)]
+/// The categories with their numbers: what a type is without its dimensions, and the members of an Unknown.
+#[derive(Clone, Copy, Debug, Eq, Hash, Ord, PartialEq, PartialOrd)]
+#[repr(u8)]
 pub enum PrimitiveType {
-    Void,
-    Boolean,
-    Byte,
-    Short,
-    Char,
-    Int,
-    Long,
-    Float,
-    Double,
-    Object,
-    Array,
+    Void = 0,
+    Boolean = 1,
+    Byte = 2,
+    Short = 3,
+    Char = 4,
+    Int = 5,
+    Long = 6,
+    Float = 7,
+    Double = 8,
+    Object = 9,
+    Array = 10,
 }
 
 impl PrimitiveType {

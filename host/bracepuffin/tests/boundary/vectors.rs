@@ -106,7 +106,10 @@ fn bytes(bytes: &[u8]) -> String {
 #[test]
 fn every_stored_case() {
     let mut left_out = 0;
-    for line in judge::stored::part(1).lines().filter(|line| !line.starts_with('#')) {
+    for line in judge::stored::part(1)
+        .lines()
+        .filter(|line| !line.starts_with('#'))
+    {
         let (call, expected) = line.split_once(" = ").expect("an answer");
         let (function, arguments) = call.split_once(' ').expect("arguments");
         match answer(function, &mut Tokens(arguments.split(' '))) {

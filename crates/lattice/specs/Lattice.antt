@@ -1,0 +1,264 @@
+-- The value half of lattice.rs over types and a view of the class table, in the names and the order of cases of the Rust.
+-- Assumes nothing.
+use mathlib.Core.Bool.{Bool, true, false, cond, not, _&&_, _||_}
+use mathlib.Core.List.{List, [], _∷_}
+use mathlib.Core.Option.{Option, some, none}
+use Prim.Native.Nat.{ℕ, zero, suc}
+use lib.Dec.{eqb}
+use Rattle.ty.specs.declared.Order.{Order}
+use Rattle.ty.specs.declared.Order.the-variants.{Less, Equal, Greater}
+use Rattle.ty.specs.Types.{ArgType, Primitive, Object, Array, Unknown, elem, compare, categories, isReference, isConcrete, concreteHint, wideCategory}
+use Rattle.ty.specs.Types.{Boolean, Byte, Short, Char, Int, Long, Float, Double, ObjectCategory, ArrayCategory}
+use Rattle.ty.specs.Answers.{unknownType}
+use Rattle.hierarchy.specs.declared.Relation.{Relation}
+use Rattle.hierarchy.specs.declared.Relation.the-variants.{Yes, No, Unknown as Incomplete}
+use Rattle.hierarchy.specs.View.{View, relation, supertype}
+
+-- the class table's view, and the numbers of java/lang/Cloneable and java/io/Serializable where the names have them
+pub record World : Type 0 where
+  pub view : View
+  pub cloneable : Option ℕ
+  pub serializable : Option ℕ
+
+-- ---- small helpers
+
+abbrev pub isEqual : Order → Bool
+isEqual Less = false
+isEqual Equal = true
+isEqual Greater = false
+
+-- ==
+unfoldable pub sameType : ArgType → ArgType → Bool
+sameType t u = isEqual (compare t u)
+
+abbrev pub isNumber : ℕ → Option ℕ → Bool
+isNumber c none = false
+isNumber c (some d) = eqb c d
+
+abbrev pub notNo : Relation → Bool
+notNo Yes = true
+notNo No = false
+notNo Incomplete = true
+
+-- ---- unknown_accepts, unknown_union
+
+-- whether a list has every member of another
+unfoldable pub hasAll : List ℕ → List ℕ → Bool
+hasAll cs [] = true
+hasAll cs (d ∷ ds) = elem d cs && hasAll cs ds
+
+unfoldable pub unknownAccepts : List ℕ → ArgType → Bool
+unknownAccepts cs (Primitive k) = elem k cs
+unknownAccepts cs (Object c) = elem ObjectCategory cs
+unknownAccepts cs (Array t) = elem ArrayCategory cs
+unknownAccepts cs (Unknown ds) = hasAll cs ds
+
+-- the n numbers from i on that are in either list: a BTreeSet's order
+unfoldable pub ascending : List ℕ → List ℕ → ℕ → ℕ → List ℕ
+ascending cs ds i zero = []
+ascending cs ds i (suc n) = cond (elem i cs || elem i ds) (i ∷ ascending cs ds (suc i) n) (ascending cs ds (suc i) n)
+
+unfoldable pub unknownUnion : ArgType → ArgType → ArgType
+unknownUnion left right = Unknown (ascending (categories left) (categories right) 0 11)
+
+-- ---- is_assignable
+
+unfoldable pub primitiveAssignable : ℕ → ℕ → Bool
+primitiveAssignable value expected =
+    (eqb value Byte && elem expected (Short ∷ Int ∷ Long ∷ Float ∷ Double ∷ []))
+    || ((elem value (Short ∷ Char ∷ []) && elem expected (Int ∷ Long ∷ Float ∷ Double ∷ []))
+    || ((eqb value Int && elem expected (Long ∷ Float ∷ Double ∷ []))
+    || ((eqb value Long && elem expected (Float ∷ Double ∷ [])) || (eqb value Float && eqb expected Double))))
+
+-- the element types of two arrays; `whole` is the whole question about them
+unfoldable pub elementsAssignable : ArgType → ArgType → Bool → Bool
+elementsAssignable (Primitive value) (Primitive expected) whole = eqb value expected
+elementsAssignable (Primitive value) (Object expected) whole = false
+elementsAssignable (Primitive value) (Array expected) whole = false
+elementsAssignable (Primitive value) (Unknown expected) whole = false
+elementsAssignable (Object value) (Primitive expected) whole = false
+elementsAssignable (Object value) (Object expected) whole = whole
+elementsAssignable (Object value) (Array expected) whole = whole
+elementsAssignable (Object value) (Unknown expected) whole = whole
+elementsAssignable (Array value) (Primitive expected) whole = false
+elementsAssignable (Array value) (Object expected) whole = whole
+elementsAssignable (Array value) (Array expected) whole = whole
+elementsAssignable (Array value) (Unknown expected) whole = whole
+elementsAssignable (Unknown value) (Primitive expected) whole = false
+elementsAssignable (Unknown value) (Object expected) whole = whole
+elementsAssignable (Unknown value) (Array expected) whole = whole
+elementsAssignable (Unknown value) (Unknown expected) whole = whole
+
+-- what every array is assignable to
+unfoldable pub arrayParent : World → ℕ → Bool
+arrayParent w expected = eqb expected (w .view .object) || (isNumber expected (w .cloneable) || isNumber expected (w .serializable))
+
+-- two types that are not equal
+unfoldable pub assignableApart : World → ArgType → ArgType → Bool
+assignableApart w (Primitive value) (Primitive expected) = primitiveAssignable value expected
+assignableApart w (Primitive value) (Object expected) = false
+assignableApart w (Primitive value) (Array expected) = false
+assignableApart w (Primitive value) (Unknown cs) = unknownAccepts cs (Primitive value)
+assignableApart w (Object value) (Primitive expected) = false
+assignableApart w (Object value) (Object expected) = notNo (relation (w .view) value expected)
+assignableApart w (Object value) (Array expected) = false
+assignableApart w (Object value) (Unknown cs) = unknownAccepts cs (Object value)
+assignableApart w (Array value) (Primitive expected) = false
+assignableApart w (Array value) (Object expected) = arrayParent w expected
+assignableApart w (Array value) (Array expected) = elementsAssignable value expected (sameType value expected || assignableApart w value expected)
+assignableApart w (Array value) (Unknown cs) = unknownAccepts cs (Array value)
+assignableApart w (Unknown ds) (Primitive expected) = unknownAccepts ds (Primitive expected)
+assignableApart w (Unknown ds) (Object expected) = unknownAccepts ds (Object expected)
+assignableApart w (Unknown ds) (Array expected) = unknownAccepts ds (Array expected)
+assignableApart w (Unknown ds) (Unknown cs) = unknownAccepts cs (Unknown ds)
+
+unfoldable pub isAssignable : World → ArgType → ArgType → Bool
+isAssignable w value expected = sameType value expected || assignableApart w value expected
+
+unfoldable pub producerBoundCompatible : World → ArgType → ArgType → Bool
+producerBoundCompatible w produced expected = (isReference produced && isReference expected) || isAssignable w produced expected
+
+-- ---- domain_accepts
+
+unfoldable pub sameRegisterCategory : ArgType → ArgType → Bool
+sameRegisterCategory (Primitive left) (Primitive right) = cond (wideCategory left) (wideCategory right) (not (wideCategory right))
+sameRegisterCategory (Primitive left) (Object right) = false
+sameRegisterCategory (Primitive left) (Array right) = false
+sameRegisterCategory (Primitive left) (Unknown right) = false
+sameRegisterCategory (Object left) (Primitive right) = false
+sameRegisterCategory (Object left) (Object right) = true
+sameRegisterCategory (Object left) (Array right) = true
+sameRegisterCategory (Object left) (Unknown right) = false
+sameRegisterCategory (Array left) (Primitive right) = false
+sameRegisterCategory (Array left) (Object right) = true
+sameRegisterCategory (Array left) (Array right) = true
+sameRegisterCategory (Array left) (Unknown right) = false
+sameRegisterCategory (Unknown left) right = false
+
+unfoldable pub observedAccepts : ArgType → ArgType → Bool
+observedAccepts (Primitive k) candidate = sameType (Primitive k) candidate || sameRegisterCategory (Primitive k) candidate
+observedAccepts (Object c) candidate = sameType (Object c) candidate || sameRegisterCategory (Object c) candidate
+observedAccepts (Array t) candidate = sameType (Array t) candidate || sameRegisterCategory (Array t) candidate
+observedAccepts (Unknown cs) candidate = unknownAccepts cs candidate
+
+unfoldable pub anyAccepts : List ArgType → ArgType → Bool
+anyAccepts [] candidate = false
+anyAccepts (observed ∷ domain) candidate = observedAccepts observed candidate || anyAccepts domain candidate
+
+unfoldable pub domainAccepts : List ArgType → ArgType → Bool
+domainAccepts [] candidate = true
+domainAccepts (observed ∷ domain) candidate = anyAccepts (observed ∷ domain) candidate
+
+-- ---- join
+
+-- Byte, Short, Char, Int
+unfoldable pub narrow : ℕ → Bool
+narrow k = elem k (Byte ∷ Short ∷ Char ∷ Int ∷ [])
+
+-- Float, Long and those
+unfoldable pub underDouble : ℕ → Bool
+underDouble k = eqb k Float || (eqb k Long || narrow k)
+
+unfoldable pub joinPrimitive : ℕ → ℕ → ArgType
+joinPrimitive left right =
+    cond ((eqb left Boolean && eqb right Int) || (eqb left Int && eqb right Boolean)) (Unknown (Boolean ∷ Int ∷ []))
+    (cond (narrow left && narrow right) (Primitive Int)
+    (cond ((eqb left Long && narrow right) || (narrow left && eqb right Long)) (Primitive Long)
+    (cond ((eqb left Float && narrow right) || (narrow left && eqb right Float)) (Primitive Float)
+    (cond ((eqb left Double && underDouble right) || (underDouble left && eqb right Double)) (Primitive Double) (Unknown (left ∷ right ∷ []))))))
+
+-- the members of a list that another has, in the first one's order
+unfoldable pub inBoth : List ℕ → List ℕ → List ℕ
+inBoth [] ds = []
+inBoth (c ∷ cs) ds = cond (elem c ds) (c ∷ inBoth cs ds) (inBoth cs ds)
+
+abbrev pub orFull : List ℕ → ArgType
+orFull [] = unknownType
+orFull (c ∷ cs) = Unknown (c ∷ cs)
+
+-- a known type with an Unknown
+unfoldable pub joinKnown : ArgType → List ℕ → ArgType
+joinKnown known cs = cond (unknownAccepts cs known) known (unknownUnion known (Unknown cs))
+
+-- two classes: their least common supertype, else Object
+abbrev pub classOr : ℕ → Option ℕ → ArgType
+classOr object none = Object object
+classOr object (some c) = Object c
+
+-- the element types of two arrays; `whole` is their join
+unfoldable pub joinElements : ℕ → ArgType → ArgType → ArgType → ArgType
+joinElements object (Primitive left) right whole = Object object
+joinElements object (Object left) (Primitive right) whole = Object object
+joinElements object (Object left) (Object right) whole = Array whole
+joinElements object (Object left) (Array right) whole = Array whole
+joinElements object (Object left) (Unknown right) whole = Array whole
+joinElements object (Array left) (Primitive right) whole = Object object
+joinElements object (Array left) (Object right) whole = Array whole
+joinElements object (Array left) (Array right) whole = Array whole
+joinElements object (Array left) (Unknown right) whole = Array whole
+joinElements object (Unknown left) (Primitive right) whole = Object object
+joinElements object (Unknown left) (Object right) whole = Array whole
+joinElements object (Unknown left) (Array right) whole = Array whole
+joinElements object (Unknown left) (Unknown right) whole = Array whole
+
+-- an array and a class: Object where the class is Object
+unfoldable pub joinArrayClass : World → ArgType → ArgType → ℕ → ArgType
+joinArrayClass w left right class = cond (eqb class (w .view .object)) (Object (w .view .object)) (unknownUnion left right)
+
+-- two types that are not equal
+unfoldable pub joinApart : World → ArgType → ArgType → ArgType
+joinApart w (Primitive left) (Primitive right) = joinPrimitive left right
+joinApart w (Primitive left) (Object right) = unknownUnion (Primitive left) (Object right)
+joinApart w (Primitive left) (Array right) = unknownUnion (Primitive left) (Array right)
+joinApart w (Primitive left) (Unknown cs) = joinKnown (Primitive left) cs
+joinApart w (Object left) (Primitive right) = unknownUnion (Object left) (Primitive right)
+joinApart w (Object left) (Object right) = classOr (w .view .object) (supertype (w .view) left right)
+joinApart w (Object left) (Array right) = joinArrayClass w (Object left) (Array right) left
+joinApart w (Object left) (Unknown cs) = joinKnown (Object left) cs
+joinApart w (Array left) (Primitive right) = unknownUnion (Array left) (Primitive right)
+joinApart w (Array left) (Object right) = joinArrayClass w (Array left) (Object right) right
+joinApart w (Array left) (Array right) = joinElements (w .view .object) left right (cond (sameType left right) left (joinApart w left right))
+joinApart w (Array left) (Unknown cs) = joinKnown (Array left) cs
+joinApart w (Unknown cs) (Primitive right) = joinKnown (Primitive right) cs
+joinApart w (Unknown cs) (Object right) = joinKnown (Object right) cs
+joinApart w (Unknown cs) (Array right) = joinKnown (Array right) cs
+joinApart w (Unknown cs) (Unknown ds) = orFull (inBoth cs ds)
+
+unfoldable pub join : World → ArgType → ArgType → ArgType
+join w left right = cond (sameType left right) left (joinApart w left right)
+
+-- join_all of a sorted list
+unfoldable pub joinFrom : World → ArgType → List ArgType → ArgType
+joinFrom w left [] = left
+joinFrom w left (right ∷ rest) = joinFrom w (join w left right) rest
+
+unfoldable pub joinAll : World → List ArgType → Option ArgType
+joinAll w [] = none
+joinAll w (t ∷ ts) = some (joinFrom w t ts)
+
+-- ---- most_specific_upper
+
+unfoldable pub assignableToAll : World → ArgType → List ArgType → Bool
+assignableToAll w candidate [] = true
+assignableToAll w candidate (other ∷ others) = isAssignable w candidate other && assignableToAll w candidate others
+
+-- the lesser of a candidate, if it is one, and what the others gave
+abbrev pub lesser : ArgType → Option ArgType → Option ArgType
+lesser t none = some t
+lesser t (some u) = by (compare t u)
+  where
+    by : Order → Option ArgType
+    by Less = some t
+    by Equal = some t
+    by Greater = some u
+
+abbrev pub candidate : World → List ArgType → Option ArgType → Option ArgType → Option ArgType
+candidate w upper none rest = rest
+candidate w upper (some t) rest = cond (assignableToAll w t upper) (lesser t rest) rest
+
+unfoldable pub leastHint : World → List ArgType → List ArgType → Option ArgType
+leastHint w upper [] = none
+leastHint w upper (t ∷ ts) = candidate w upper (concreteHint (w .view .object) t) (leastHint w upper ts)
+
+unfoldable pub mostSpecificUpper : World → List ArgType → Option ArgType
+mostSpecificUpper w upper = leastHint w upper upper

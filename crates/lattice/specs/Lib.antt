@@ -1,0 +1,4 @@
+-- What assignability, joins and hints mean, and what is proved of them.
+pub mod Lattice
+pub mod Jls
+pub mod Examples
