@@ -85,6 +85,21 @@ fn telling_types(names: &[String]) -> Vec<ArgType> {
     types
 }
 
+/// Those and more of each kind, every pair of which is put in order: some hundred types.
+fn ordered_types(names: &[String]) -> Vec<ArgType> {
+    let mut types = telling_types(names);
+    types.extend([2, 512, 1022].map(|number: usize| ArgType::Object(names[number].clone())));
+    for category in CATEGORIES {
+        types.push(deep(1, ArgType::Primitive(category)));
+        types.push(deep(3, ArgType::Primitive(category)));
+        types.push(unknown(&[category]));
+        types.push(deep(1, unknown(&[category])));
+    }
+    types.sort();
+    types.dedup();
+    types
+}
+
 /// Unknown lists that tell the rules apart: empty, single, prefixes, Void at each end and in the middle.
 fn telling_lists() -> Vec<ArgType> {
     let lists: [&[PrimitiveType]; 19] = [
@@ -174,7 +189,7 @@ fn legal_word(ty: &ArgType, names: &[String]) -> u64 {
 
 pub fn order(rng: &mut Rng, out: &mut Out) {
     let names = names();
-    let telling = telling_types(&names);
+    let telling = ordered_types(&names);
     for left in &telling {
         for right in &telling {
             order_case(left, right, &names, out);

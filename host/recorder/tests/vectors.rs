@@ -102,7 +102,7 @@ fn every_line_keeps_the_format() {
             .all(|line| line.starts_with('#') || line.len() < MAX_BYTES));
         assert!(text.ends_with('\n') && text.is_ascii());
     }
-    assert!(leaves().len() <= 700_000);
+    assert!(leaves().len() <= 1_000_000);
     assert!(descriptors().len() <= 500_000);
 }
 
