@@ -13,11 +13,11 @@ use Rattle.sets.specs.Bits.{first-le}
 use Rattle.sets.specs.Laws.{member-subtract, members-only, members-all, length-subtract, lowest-none, lowest-member}
 use Rattle.hierarchy.specs.declared.Classes.{Classes}
 use Rattle.hierarchy.specs.declared.Candidate.{Candidate}
-use Rattle.hierarchy.specs.declared.Relation.the-variants.{Yes, No, Unknown}
-use Rattle.hierarchy.specs.View.{View, reached, reach, ancestor, allRecorded, complete, relation, castByFacts, cast, nearer}
-use Rattle.hierarchy.specs.Reach.{level-formed}
-use Rattle.hierarchy.specs.Nearest.{greater, sum}
-use Rattle.hierarchy.specs.Pick.{before}
+use Rattle.view.specs.declared.Relation.the-variants.{Yes, No, Unknown}
+use Rattle.view.specs.View.{View, reached, reach, ancestor, allRecorded, complete, relation, castByFacts, cast, nearer}
+use Rattle.view.specs.Reach.{level-formed}
+use Rattle.view.specs.Nearest.{greater, sum}
+use Rattle.view.specs.Pick.{before}
 use Rattle.hierarchy.specs.Table.{mark, mark-length, viewOf, parentView, castMarked}
 use Rattle.hierarchy.specs.Marks.{reached-marks, reach-marks, ancestor-marks}
 

@@ -13,9 +13,9 @@ use Rattle.sets.specs.Sets.{at, insert, remove, members, first}
 use Rattle.sets.specs.Bits.{first-le}
 use Rattle.sorted.specs.Sorted.{runOf}
 use Rattle.sorted.specs.Places.{place-le}
-use Rattle.hierarchy.specs.View.{View, reach, insertAll, withParents}
-use Rattle.hierarchy.specs.Frontier.{members-pop, members-none}
-use Rattle.hierarchy.specs.Lows.{strip}
+use Rattle.view.specs.View.{View, reach, insertAll, withParents}
+use Rattle.view.specs.Frontier.{members-pop, members-none}
+use Rattle.view.specs.Lows.{strip}
 use Rattle.hierarchy.specs.Table.{parentsIn, between, mark}
 
 -- ---- with_parents: the keys of the run, one by one

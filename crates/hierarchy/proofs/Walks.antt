@@ -14,11 +14,11 @@ use lib.ListN.{replicate}
 use Rattle.sets.specs.Sets.{at, member, insert, subtract, members, first}
 use Rattle.sets.specs.Bits.{first-below, first-found, first-le}
 use Rattle.sets.specs.Laws.{at-none, at-member, member-past}
-use Rattle.hierarchy.specs.View.{View, withParents, grow, level, reached, reach, steps, far, distance, distanceOr}
-use Rattle.hierarchy.specs.Grow.{Formed, member-le}
-use Rattle.hierarchy.specs.Reach.{level-formed, level-grows, level-stays}
-use Rattle.hierarchy.specs.Frontier.{Expanded, frontier, expanded-next, part-next, nothing-new}
-use Rattle.hierarchy.specs.Table.{Walked, numberOf}
+use Rattle.view.specs.View.{numberOf, View, withParents, grow, level, reached, reach, steps, far, distance, distanceOr}
+use Rattle.view.specs.Grow.{Formed, member-le}
+use Rattle.view.specs.Reach.{level-formed, level-grows, level-stays}
+use Rattle.view.specs.Frontier.{Expanded, frontier, expanded-next, part-next, nothing-new}
+use Rattle.hierarchy.specs.Table.{Walked}
 
 -- at level k nothing but the front is left to expand, and y was in no level before
 pub record Standing (v : View) (x y : ℕ) (seen front : List ℕ) (k : ℕ) : Type 0 where

@@ -8,7 +8,7 @@ use lib.Dec.{eqb}
 use Rattle.sets.specs.Sets.{at, member, insert, members}
 use Rattle.sets.specs.Bits.{first-ext}
 use Rattle.hierarchy.specs.declared.Classes.{Classes}
-use Rattle.hierarchy.specs.View.{View, insertAll, withParents, grow, level, reached, reach, steps, far, distance, ancestor, ancestors, below, anyBelow, lowest, common, nearer, nearest, numbers, candidates, supertype}
+use Rattle.view.specs.View.{View, insertAll, withParents, grow, level, reached, reach, steps, far, distance, ancestor, ancestors, below, anyBelow, lowest, common, nearer, nearest, numbers, candidates, supertype}
 use Rattle.hierarchy.specs.Table.{viewOf, parentView}
 
 -- the nearest of a list, by the nearest of its rest

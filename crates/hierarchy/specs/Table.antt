@@ -15,8 +15,8 @@ use Rattle.sorted.specs.Sorted.{runOf, Sorted, place, elem}
 use Rattle.sorted.specs.Laws.{elem-get}
 use Rattle.sorted.specs.Places.{run-only, run-all, has-elem, has-get}
 use Rattle.hierarchy.specs.declared.Classes.{Classes}
-use Rattle.hierarchy.specs.View.{View, reached, reach, steps, castByFacts}
-use Rattle.hierarchy.specs.Reach.{Good}
+use Rattle.view.specs.View.{View, reached, reach, steps, castByFacts}
+use Rattle.view.specs.Reach.{Good}
 
 -- the parents that a list of keys names; a number that is no class's is ignored
 unfoldable pub parentsIn : ℕ → List ℕ → List ℕ
@@ -59,11 +59,6 @@ viewOf pairs marks t = record {
 -- the same where only parents are asked: the marks are not read
 abbrev pub parentView : List ℕ → Classes → View
 parentView pairs t = viewOf pairs [] t
-
--- a distance as a number: all ones for none
-unfoldable pub numberOf : Option ℕ → ℕ
-numberOf none = 18446744073709551615
-numberOf (some n) = n
 
 -- the cast test by the marks of two classes
 unfoldable pub castMarked : List ℕ → ℕ → ℕ → Bool

@@ -7,8 +7,8 @@ use lib.ListN.{replicate}
 use Rattle.sets.specs.Sets.{bit, at, member, insert, members, first}
 use Rattle.sorted.specs.Sorted.{bisect, place, runOf}
 use Rattle.hierarchy.specs.declared.Classes.{Classes}
-use Rattle.hierarchy.specs.declared.Relation.the-variants.{No, Unknown}
-use Rattle.hierarchy.specs.View.{View, insertAll, withParents, grow, level, reached, reach, steps, distance, ancestor, allRecorded, complete, relation, common, below, anyBelow, lowest, nearer, nearest, numbers, candidates, supertype}
+use Rattle.view.specs.declared.Relation.the-variants.{No, Unknown}
+use Rattle.view.specs.View.{View, insertAll, withParents, grow, level, reached, reach, steps, distance, ancestor, allRecorded, complete, relation, common, below, anyBelow, lowest, nearer, nearest, numbers, candidates, supertype}
 use Rattle.hierarchy.specs.Table.{parentsIn, parentsOf, mark, viewOf}
 
 -- a/Probe has the parent Object, the other two have a/Probe

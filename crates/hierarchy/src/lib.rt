@@ -1,24 +1,18 @@
 // Class tables and what is asked of them, from hierarchy.rs. The tables: `pairs`, of which the first `t.pairs` are sorted keys
 // class * 1024 + parent, and `marks`, four sets of sixteen words: the classes that are recorded, declared, interface, final.
 use sets::Set;
+use view::Relation;
 ghost use mathlib.Core.Path.{_≡_};
 ghost use mathlib.Core.Bool.{true, cond};
 ghost use Prim.Native.Nat.{ℕ, _≤_, _<_, max};
 ghost use lib.Dec.{ltb};
 ghost use lib.ListN.{length, take};
 ghost use Rattle.sets.specs.Sets.{at, member, members, insert, remove};
-ghost use Rattle.hierarchy.specs.View.{insertAll, withParents, reached, ancestors, distance, ancestor, relation, cast, far, distanceOr, supertype};
-ghost use Rattle.hierarchy.specs.Nearest.{greater, sum};
-ghost use Rattle.hierarchy.specs.Lows.{strip, Lows, LowestOf};
-ghost use Rattle.hierarchy.specs.Pick.{before, NearestOf};
-ghost use Rattle.hierarchy.specs.Table.{parentsOf, mark, viewOf, parentView, castMarked, numberOf, Walked};
-
-// The answer of subtype_relation.
-pub enum Relation {
-    Yes,
-    No,
-    Unknown,
-}
+ghost use Rattle.view.specs.View.{insertAll, withParents, reached, ancestors, distance, ancestor, relation, cast, far, distanceOr, supertype, numberOf};
+ghost use Rattle.view.specs.Nearest.{greater, sum};
+ghost use Rattle.view.specs.Lows.{strip, Lows, LowestOf};
+ghost use Rattle.view.specs.Pick.{before, NearestOf};
+ghost use Rattle.hierarchy.specs.Table.{parentsOf, mark, viewOf, parentView, castMarked, Walked};
 
 // How many names there are, which of them is java/lang/Object, and how many keys the table of parents has.
 pub struct Classes {

@@ -5,8 +5,8 @@ use mathlib.Core.List.{List, [], _∷_}
 use mathlib.Core.Option.{some, none}
 use Rattle.sets.specs.Sets.{bit, at, member, insert, members, first}
 use Rattle.ty.specs.Types.{ArgType, Primitive, Object, Array, Unknown, elem, compareNumbers, compareLists, compare, categories}
-use Rattle.hierarchy.specs.View.{insertAll, withParents, grow, level, reached, reach, steps, distance, ancestor, allRecorded, complete, relation, common, below, anyBelow, lowest, nearer, nearest, numbers, candidates, supertype}
-use Rattle.hierarchy.specs.Examples.{whole}
+use Rattle.view.specs.View.{insertAll, withParents, grow, level, reached, reach, steps, distance, ancestor, allRecorded, complete, relation, common, below, anyBelow, lowest, nearer, nearest, numbers, candidates, supertype}
+use Rattle.view.specs.Examples.{whole}
 use Rattle.lattice.specs.Lattice.{World, sameType, hasAll, unknownAccepts, ascending, unknownUnion, primitiveAssignable, assignableApart, isAssignable, narrow, underDouble, joinPrimitive, joinKnown, joinApart, join, joinFrom, joinAll, arrayParent, joinArrayClass}
 
 abbrev pub world : World

@@ -10,9 +10,9 @@ use Rattle.ty.specs.declared.Order.the-variants.{Less, Equal, Greater}
 use Rattle.ty.specs.Types.{ArgType, Primitive, Object, Array, Unknown, elem, compare, categories, isReference, isConcrete, concreteHint, wideCategory}
 use Rattle.ty.specs.Types.{Boolean, Byte, Short, Char, Int, Long, Float, Double, ObjectCategory, ArrayCategory}
 use Rattle.ty.specs.Answers.{unknownType}
-use Rattle.hierarchy.specs.declared.Relation.{Relation}
-use Rattle.hierarchy.specs.declared.Relation.the-variants.{Yes, No, Unknown as Incomplete}
-use Rattle.hierarchy.specs.View.{View, relation, supertype}
+use Rattle.view.specs.declared.Relation.{Relation}
+use Rattle.view.specs.declared.Relation.the-variants.{Yes, No, Unknown as Incomplete}
+use Rattle.view.specs.View.{View, relation, supertype}
 
 -- the class table's view, and the numbers of java/lang/Cloneable and java/io/Serializable where the names have them
 pub record World : Type 0 where

@@ -4,7 +4,7 @@ use mathlib.Core.Path.{ap, _∙_}
 use mathlib.Core.List.{List}
 use Prim.Native.Nat.{ℕ}
 use Rattle.sets.specs.Sets.{insert}
-use Rattle.hierarchy.specs.View.{ancestors}
+use Rattle.view.specs.View.{ancestors}
 use Rattle.hierarchy.proofs.ancestors.Statement.{statement}
 use Rattle.hierarchy.proofs.ancestors.Tie as tie
 

@@ -6,7 +6,7 @@ use mathlib.Core.List.{List}
 use Prim.Native.Nat.{ℕ, _-_}
 use lib.ListN.{length}
 use Rattle.sets.specs.Sets.{at, members, first}
-use Rattle.hierarchy.specs.View.{withParents}
+use Rattle.view.specs.View.{withParents}
 use Rattle.hierarchy.specs.Table.{parentView}
 use Rattle.hierarchy.proofs.Steps.{expand-step, expand-end, left-less}
 use Rattle.hierarchy.proofs.expand.Statement.{statement}

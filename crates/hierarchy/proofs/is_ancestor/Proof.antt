@@ -2,7 +2,7 @@
 use borrow.Author.Needs.{needs}
 use borrow.Author.Tests.{eq-eqb, ne-eqb}
 use mathlib.Core.Path.{sym, _∙_}
-use Rattle.hierarchy.specs.View.{ancestor}
+use Rattle.view.specs.View.{ancestor}
 use Rattle.hierarchy.proofs.is_ancestor.Statement.{statement}
 use Rattle.hierarchy.proofs.is_ancestor.Tie as tie
 

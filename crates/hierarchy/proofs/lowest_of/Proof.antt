@@ -8,7 +8,7 @@ use lib.ListN.{length}
 use Rattle.sets.specs.Sets.{member}
 use Rattle.sets.specs.Laws.{length-remove}
 use Rattle.hierarchy.specs.Table.{parentView, view-good}
-use Rattle.hierarchy.specs.Lows.{remove-only, object-lowest, object-not-lowest}
+use Rattle.view.specs.Lows.{remove-only, object-lowest, object-not-lowest}
 use Rattle.hierarchy.proofs.lowest_of.Statement.{statement}
 use Rattle.hierarchy.proofs.lowest_of.Tie as tie
 

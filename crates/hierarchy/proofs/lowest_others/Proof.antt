@@ -7,7 +7,7 @@ use lib.ListN.{length}
 use Rattle.sets.specs.Sets.{at, members, first}
 use Rattle.sets.specs.Bits.{first-le}
 use Rattle.hierarchy.specs.Table.{parentView, view-good}
-use Rattle.hierarchy.specs.Lows.{Lowing, lowing-start, lowing-turn, lowing-fewer, lowing-end}
+use Rattle.view.specs.Lows.{Lowing, lowing-start, lowing-turn, lowing-fewer, lowing-end}
 use Rattle.hierarchy.proofs.lowest_others.Statement.{statement}
 use Rattle.hierarchy.proofs.lowest_others.Tie as tie
 

@@ -8,7 +8,7 @@ use Rattle.sets.specs.Sets.{at, members, first}
 use Rattle.sets.specs.Bits.{first-le}
 use Rattle.sets.specs.Laws.{length-remove}
 use Rattle.hierarchy.specs.Table.{parentView}
-use Rattle.hierarchy.specs.Pick.{Nearing, nearing-start, nearing-next, nearing-end}
+use Rattle.view.specs.Pick.{Nearing, nearing-start, nearing-next, nearing-end}
 use Rattle.hierarchy.proofs.Answers.{Measured, measured-of, first-nearer, first-measured}
 use Rattle.hierarchy.proofs.Steps.{left-less}
 use Rattle.hierarchy.proofs.nearest_of.Statement.{statement}

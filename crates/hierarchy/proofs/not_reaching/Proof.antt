@@ -8,7 +8,7 @@ use Prim.Native.Nat.{ℕ}
 use lib.ListN.{length}
 use Rattle.sets.specs.Sets.{at, remove, members, first}
 use Rattle.hierarchy.specs.Table.{parentView}
-use Rattle.hierarchy.specs.Lows.{strip}
+use Rattle.view.specs.Lows.{strip}
 use Rattle.hierarchy.proofs.Steps.{strip-step, strip-end, left-less}
 use Rattle.hierarchy.proofs.not_reaching.Statement.{statement}
 use Rattle.hierarchy.proofs.not_reaching.Tie as tie

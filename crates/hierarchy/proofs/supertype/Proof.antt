@@ -3,7 +3,7 @@ use borrow.Author.Needs.{needs}
 use mathlib.Core.Path.{sym, _∙_}
 use mathlib.Core.List.{[]}
 use Rattle.hierarchy.specs.Table.{parentView, view-good}
-use Rattle.hierarchy.specs.Pick.{found-right, found-left, found-nearest, all-fits}
+use Rattle.view.specs.Pick.{found-right, found-left, found-nearest, all-fits}
 use Rattle.hierarchy.proofs.supertype.Statement.{statement}
 use Rattle.hierarchy.proofs.supertype.Tie as tie
 

@@ -4,7 +4,7 @@ use native.Mathlib.Omega.{arith}
 use mathlib.Core.Path.{_≡_, refl, sym, ap, _∙_}
 use Prim.Native.Nat.{_+_, _-_, _≤_}
 use lib.ListN.{length, take}
-use Rattle.hierarchy.specs.View.{insertAll}
+use Rattle.view.specs.View.{insertAll}
 use Rattle.hierarchy.specs.Table.{parentsIn, between, parentsOf}
 use Rattle.hierarchy.proofs.Steps.{parents-step, parents-end, run-past}
 use Rattle.hierarchy.proofs.with_parents.Statement.{statement}

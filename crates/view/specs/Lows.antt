@@ -14,11 +14,11 @@ use lib.ListN.{length}
 use Rattle.sets.specs.Sets.{at, member, insert, remove, intersect, subtract, members, first}
 use Rattle.sets.specs.Bits.{tally-le, tally-eq, first-le}
 use Rattle.sets.specs.Laws.{at-insert-same, at-insert-other, member-cong, at-member, member-at, length-remove, member-remove, length-insert, member-intersect, length-intersect, member-subtract, length-subtract, at-subtract, members-all, count-tally, lowest-member, lowest-none}
-use Rattle.hierarchy.specs.View.{View, reached, reach, ancestor, below}
-use Rattle.hierarchy.specs.Reach.{Good, reach-refl, reach-trans, reached-formed}
-use Rattle.hierarchy.specs.Ancestors.{ancestor-or}
-use Rattle.hierarchy.specs.Below.{below-tests, below-object, object-not-below}
-use Rattle.hierarchy.specs.Frontier.{member-lt}
+use Rattle.view.specs.View.{View, reached, reach, ancestor, below}
+use Rattle.view.specs.Reach.{Good, reach-refl, reach-trans, reached-formed}
+use Rattle.view.specs.Ancestors.{ancestor-or}
+use Rattle.view.specs.Below.{below-tests, below-object, object-not-below}
+use Rattle.view.specs.Frontier.{member-lt}
 
 -- of a set, without those of a list that reach d
 unfoldable pub strip : View → ℕ → List ℕ → List ℕ → List ℕ

@@ -11,11 +11,11 @@ use native.Mathlib.Omega.{arith}
 use lib.Dec.{eqb}
 use Rattle.sets.specs.Sets.{at, member, intersect, keep, members}
 use Rattle.sets.specs.Laws.{at-lt, at-none, member-intersect}
-use Rattle.hierarchy.specs.View.{View, ancestor, ancestors, common, below, lowest, nearer, nearest, numbers, candidates, supertype}
-use Rattle.hierarchy.specs.Reach.{Good, Path}
-use Rattle.hierarchy.specs.Ancestors.{ancestor-self, ancestor-object, ancestor-below, ancestor-antisymmetric, ancestors-formed, ancestors-member}
-use Rattle.hierarchy.specs.Below.{below-not, anyBelow-false, anyBelow-none, lowest-has, lowest-only, some-lowest}
-use Rattle.hierarchy.specs.Nearest.{nearest-some, nearest-in, nearest-least, nearest-swap}
+use Rattle.view.specs.View.{View, ancestor, ancestors, common, below, lowest, nearer, nearest, numbers, candidates, supertype}
+use Rattle.view.specs.Reach.{Good, Path}
+use Rattle.view.specs.Ancestors.{ancestor-self, ancestor-object, ancestor-below, ancestor-antisymmetric, ancestors-formed, ancestors-member}
+use Rattle.view.specs.Below.{below-not, anyBelow-false, anyBelow-none, lowest-has, lowest-only, some-lowest}
+use Rattle.view.specs.Nearest.{nearest-some, nearest-in, nearest-least, nearest-swap}
 
 -- an ancestor of both
 abbrev pub Common : View → ℕ → ℕ → ℕ → Type 0

@@ -13,9 +13,9 @@ use lib.ListN.{length}
 use borrow.Author.Tests.{eq-eqb, eqb-true}
 use Rattle.sets.specs.Sets.{bit, at, member, insert, members, first}
 use Rattle.sets.specs.Laws.{at-member, member-at, member-insert, members-only, members-all, count-tally}
-use Rattle.hierarchy.specs.View.{View, insertAll, withParents, grow, level, reached, reach, steps, far, distance, distanceOr, ancestor, ancestors}
-use Rattle.hierarchy.specs.Grow.{Formed, insert-formed, count-above}
-use Rattle.hierarchy.specs.Reach.{Good, Path, here, there, path-join, reach-path, reach-refl, reach-below, reach-trans, reach-alone, reached-formed, steps-below, steps-self}
+use Rattle.view.specs.View.{View, insertAll, withParents, grow, level, reached, reach, steps, far, distance, distanceOr, ancestor, ancestors}
+use Rattle.view.specs.Grow.{Formed, insert-formed, count-above}
+use Rattle.view.specs.Reach.{Good, Path, here, there, path-join, reach-path, reach-refl, reach-below, reach-trans, reach-alone, reached-formed, steps-below, steps-self}
 
 module _ (v : View) where
   pub ancestor-self : (x : ℕ) → ancestor v x x ≡ true

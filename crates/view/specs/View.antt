@@ -8,8 +8,8 @@ use Prim.Native.Nat.{ℕ, zero, suc, _+_, max}
 use lib.Dec.{eqb, ltb}
 use lib.ListN.{replicate}
 use Rattle.sets.specs.Sets.{at, member, insert, members, first}
-use Rattle.hierarchy.specs.declared.Relation.{Relation}
-use Rattle.hierarchy.specs.declared.Relation.the-variants.{Yes, No, Unknown}
+use Rattle.view.specs.declared.Relation.{Relation}
+use Rattle.view.specs.declared.Relation.the-variants.{Yes, No, Unknown}
 
 pub record View : Type 0 where
   pub names : ℕ
@@ -58,6 +58,11 @@ far = 4611686018427387903
 
 unfoldable pub distance : View → ℕ → ℕ → Option ℕ
 distance v x y = cond (reach v x y) (some (steps v x y)) (cond (eqb y (v .object)) (some far) none)
+
+-- a distance as a number: all ones for none
+unfoldable pub numberOf : Option ℕ → ℕ
+numberOf none = 18446744073709551615
+numberOf (some n) = n
 
 -- ---- recorded_ancestor
 

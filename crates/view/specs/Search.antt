@@ -11,14 +11,14 @@ use lib.Dec.{eqb}
 use borrow.Author.Tests.{eq-eqb, ne-eqb, eqb-true, eqb-false}
 use Rattle.sets.specs.Sets.{tally}
 use Rattle.sets.specs.Bits.{tally-more}
-use Rattle.hierarchy.specs.declared.Relation.{Relation}
-use Rattle.hierarchy.specs.declared.Relation.the-variants.{Yes, No, Unknown}
-use Rattle.hierarchy.specs.View.{View, reach, ancestor, complete, relation}
-use Rattle.hierarchy.specs.Reach.{Good, Path, here, there, path-reach, reach-path, reach-refl, reach-parent, reach-induction}
-use Rattle.hierarchy.specs.Ancestors.{ancestor-self, reach-ancestor}
-use Rattle.hierarchy.specs.Loops.{contains, search, subtypeRelation}
-use Rattle.hierarchy.specs.Walk.{computed-ancestor}
-use Rattle.hierarchy.specs.Relations.{complete-exactly, incomplete-exactly}
+use Rattle.view.specs.declared.Relation.{Relation}
+use Rattle.view.specs.declared.Relation.the-variants.{Yes, No, Unknown}
+use Rattle.view.specs.View.{View, reach, ancestor, complete, relation}
+use Rattle.view.specs.Reach.{Good, Path, here, there, path-reach, reach-path, reach-refl, reach-parent, reach-induction}
+use Rattle.view.specs.Ancestors.{ancestor-self, reach-ancestor}
+use Rattle.view.specs.Loops.{contains, search, subtypeRelation}
+use Rattle.view.specs.Walk.{computed-ancestor}
+use Rattle.view.specs.Relations.{complete-exactly, incomplete-exactly}
 
 contains-true : (cs : List ℕ) (y : ℕ) → contains cs y ≡ true → List·Memᴰ y cs
 unfolding contains

@@ -12,15 +12,14 @@ use lib.ListN.{length}
 use Rattle.sets.specs.Sets.{at, member, remove, intersect, first}
 use Rattle.sets.specs.Bits.{first-below}
 use Rattle.sets.specs.Laws.{at-member, length-remove, member-intersect, length-intersect, lowest-member, lowest-none}
-use Rattle.hierarchy.specs.View.{View, ancestor, ancestors, nearer, nearest, lowest, candidates, supertype}
-use Rattle.hierarchy.specs.Reach.{Good}
-use Rattle.hierarchy.specs.Ancestors.{ancestor-below, ancestor-object, ancestors-formed, ancestors-member}
-use Rattle.hierarchy.specs.Below.{anyBelow-false, anyBelow-none, lowest-has, lowest-only, some-lowest}
-use Rattle.hierarchy.specs.Nearest.{nearer-exactly, nearer-trans, nearer-total, nearest-some, nearest-in, nearest-least}
-use Rattle.hierarchy.specs.Supertype.{Common, candidates-exactly, candidates-object, supertype-right, supertype-left, supertype-other}
-use Rattle.hierarchy.specs.Frontier.{member-lt}
-use Rattle.hierarchy.specs.Lows.{LowestOf, remove-in, remove-only}
-use Rattle.hierarchy.specs.Table.{numberOf}
+use Rattle.view.specs.View.{numberOf, View, ancestor, ancestors, nearer, nearest, lowest, candidates, supertype}
+use Rattle.view.specs.Reach.{Good}
+use Rattle.view.specs.Ancestors.{ancestor-below, ancestor-object, ancestors-formed, ancestors-member}
+use Rattle.view.specs.Below.{anyBelow-false, anyBelow-none, lowest-has, lowest-only, some-lowest}
+use Rattle.view.specs.Nearest.{nearer-exactly, nearer-trans, nearer-total, nearest-some, nearest-in, nearest-least}
+use Rattle.view.specs.Supertype.{Common, candidates-exactly, candidates-object, supertype-right, supertype-left, supertype-other}
+use Rattle.view.specs.Frontier.{member-lt}
+use Rattle.view.specs.Lows.{LowestOf, remove-in, remove-only}
 
 -- whether a comes before b, or is the same and s before t, or is the same and c before d
 abbrev pub before : ℕ → ℕ → ℕ → ℕ → ℕ → ℕ → Bool

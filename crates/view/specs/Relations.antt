@@ -9,11 +9,11 @@ use lib.Dec.{eqb}
 use borrow.Author.Tests.{eqb-true, eqb-false}
 use Rattle.sets.specs.Sets.{at, members}
 use Rattle.sets.specs.Laws.{members-only, members-all}
-use Rattle.hierarchy.specs.declared.Relation.{Relation}
-use Rattle.hierarchy.specs.declared.Relation.the-variants.{Yes, No, Unknown}
-use Rattle.hierarchy.specs.View.{View, reached, reach, ancestor, allRecorded, complete, relation, relationNumber, castByFacts, cast}
-use Rattle.hierarchy.specs.Reach.{Good, reach-refl, reach-below, reach-parent, reach-alone}
-use Rattle.hierarchy.specs.Ancestors.{ancestor-object, reach-ancestor, ancestor-or}
+use Rattle.view.specs.declared.Relation.{Relation}
+use Rattle.view.specs.declared.Relation.the-variants.{Yes, No, Unknown}
+use Rattle.view.specs.View.{View, reached, reach, ancestor, allRecorded, complete, relation, relationNumber, castByFacts, cast}
+use Rattle.view.specs.Reach.{Good, reach-refl, reach-below, reach-parent, reach-alone}
+use Rattle.view.specs.Ancestors.{ancestor-object, reach-ancestor, ancestor-or}
 
 -- ---- the three answers by the two tests of `relation`: is it an ancestor, and is all that is reached recorded?
 

@@ -13,11 +13,11 @@ use borrow.Author.Tests.{eq-eqb, ne-eqb}
 use Rattle.sets.specs.Sets.{at, members, tally}
 use Rattle.sets.specs.Bits.{tally-ext, tally-more, tally-bound, tally-none}
 use Rattle.sets.specs.Laws.{at-none, count-tally}
-use Rattle.hierarchy.specs.View.{View, reach, steps, far, distance, ancestor, ancestors}
-use Rattle.hierarchy.specs.Loops.{Entry, entry, State, lookup, enter, visit, turns, walk, orInsert, computeDistances, present, recordedAncestor}
-use Rattle.hierarchy.specs.Grow.{count-first}
-use Rattle.hierarchy.specs.Reach.{Good, Path, here, there, path-below, path-reach, reach-path, steps-exactly}
-use Rattle.hierarchy.specs.Ancestors.{ancestor-below, ancestors-member, ancestors-at, distance-none}
+use Rattle.view.specs.View.{View, reach, steps, far, distance, ancestor, ancestors}
+use Rattle.view.specs.Loops.{Entry, entry, State, lookup, enter, visit, turns, walk, orInsert, computeDistances, present, recordedAncestor}
+use Rattle.view.specs.Grow.{count-first}
+use Rattle.view.specs.Reach.{Good, Path, here, there, path-below, path-reach, reach-path, steps-exactly}
+use Rattle.view.specs.Ancestors.{ancestor-below, ancestors-member, ancestors-at, distance-none}
 
 -- ---- the map
 

@@ -6,9 +6,9 @@ use mathlib.Core.List.{List, [], _∷_, _++_}
 use mathlib.Core.Option.{Option, some, none}
 use Prim.Native.Nat.{ℕ, zero, suc}
 use lib.Dec.{eqb}
-use Rattle.hierarchy.specs.declared.Relation.{Relation}
-use Rattle.hierarchy.specs.declared.Relation.the-variants.{Yes, No, Unknown}
-use Rattle.hierarchy.specs.View.{View, far}
+use Rattle.view.specs.declared.Relation.{Relation}
+use Rattle.view.specs.declared.Relation.the-variants.{Yes, No, Unknown}
+use Rattle.view.specs.View.{View, far}
 
 -- ---- compute_distances
 

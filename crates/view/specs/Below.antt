@@ -14,10 +14,10 @@ use borrow.Author.Tests.{eq-eqb, ne-eqb, lt-ltb, le-ltb, eqb-true}
 use Rattle.sets.specs.Sets.{at, member, members}
 use Rattle.sets.specs.Bits.{tally-le, tally-eq}
 use Rattle.sets.specs.Laws.{at-member, at-none, count-tally}
-use Rattle.hierarchy.specs.View.{View, reached, reach, ancestor, below, anyBelow, lowest}
-use Rattle.hierarchy.specs.Grow.{count-above}
-use Rattle.hierarchy.specs.Reach.{Good, reach-refl, reached-subset}
-use Rattle.hierarchy.specs.Ancestors.{ancestor-self, ancestor-object, ancestor-or, ancestor-reach, ancestor-trans}
+use Rattle.view.specs.View.{View, reached, reach, ancestor, below, anyBelow, lowest}
+use Rattle.view.specs.Grow.{count-above}
+use Rattle.view.specs.Reach.{Good, reach-refl, reached-subset}
+use Rattle.view.specs.Ancestors.{ancestor-self, ancestor-object, ancestor-or, ancestor-reach, ancestor-trans}
 
 -- ---- the size of a set
 

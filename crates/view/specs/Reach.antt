@@ -12,8 +12,8 @@ use lib.ListN.{replicate}
 use Rattle.sets.specs.Sets.{at, member, tally}
 use Rattle.sets.specs.Bits.{tally-le, first-below, first-found}
 use Rattle.sets.specs.Laws.{at-lt, at-member, at-none, member-empty, member-set, member-none, count-tally, count-same}
-use Rattle.hierarchy.specs.View.{View, grow, level, reached, reach, steps}
-use Rattle.hierarchy.specs.Grow.{Formed, empty-formed, insert-formed, count-below, count-above, member-le, member-insert-same, member-insert-only, grow-formed, grow-keeps, grow-has, grow-only}
+use Rattle.view.specs.View.{View, grow, level, reached, reach, steps}
+use Rattle.view.specs.Grow.{Formed, empty-formed, insert-formed, count-below, count-above, member-le, member-insert-same, member-insert-only, grow-formed, grow-keeps, grow-has, grow-only}
 
 -- what a class table gives: at most 1,024 names, Object among them, and parents among them
 pub record Good (v : View) : Type 0 where

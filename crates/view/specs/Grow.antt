@@ -11,7 +11,7 @@ use lib.ListN.{length, replicate, length-replicate}
 use Rattle.sets.specs.Sets.{Words, at, member, insert, members, tally}
 use Rattle.sets.specs.Bits.{tally-add, tally-none, tally-bound, tally-zero}
 use Rattle.sets.specs.Laws.{words-empty, at-lt, at-member, at-none, member-at, member-set, member-cong, at-insert-same, at-insert-other, length-insert, words-insert, insert-ge, members-only, members-all}
-use Rattle.hierarchy.specs.View.{View, insertAll, withParents, grow}
+use Rattle.view.specs.View.{View, insertAll, withParents, grow}
 
 -- sixteen words of 64 digits
 abbrev pub Formed : List ℕ → Type 0

@@ -10,7 +10,7 @@ use native.Mathlib.Decide.{decLt, ℕ-discrete}
 use native.Mathlib.Omega.{arith}
 use lib.Dec.{eqb, ltb}
 use borrow.Author.Tests.{eq-eqb, lt-ltb, le-ltb, eqb-true, ltb-true}
-use Rattle.hierarchy.specs.View.{View, distance, distanceOr, nearer, nearest}
+use Rattle.view.specs.View.{View, distance, distanceOr, nearer, nearest}
 
 -- ---- two numbers, then three, compared one after the other
 

@@ -7,8 +7,8 @@ use mathlib.Core.Option.{some}
 use Prim.Native.Nat.{ℕ, zero, suc}
 use lib.Dec.{ltb, eqb}
 use Rattle.sets.specs.Sets.{bit, at, member, insert, members, first}
-use Rattle.hierarchy.specs.declared.Relation.the-variants.{Yes, No, Unknown}
-use Rattle.hierarchy.specs.View.{View, insertAll, withParents, grow, level, reached, reach, steps, far, distance, ancestor, allRecorded, complete, relation, common, below, anyBelow, lowest, nearer, nearest, numbers, candidates, supertype}
+use Rattle.view.specs.declared.Relation.the-variants.{Yes, No, Unknown}
+use Rattle.view.specs.View.{View, insertAll, withParents, grow, level, reached, reach, steps, far, distance, ancestor, allRecorded, complete, relation, common, below, anyBelow, lowest, nearer, nearest, numbers, candidates, supertype}
 
 abbrev up : ℕ → List ℕ
 up zero = 3 ∷ []

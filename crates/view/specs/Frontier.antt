@@ -10,8 +10,8 @@ use lib.ListN.{length}
 use Rattle.sets.specs.Sets.{at, member, remove, subtract, keep, members, first}
 use Rattle.sets.specs.Bits.{first-below, first-found}
 use Rattle.sets.specs.Laws.{at-lt, at-past, at-ext, member-ext, at-member, at-none, member-at, at-remove-same, at-remove-other, members-only, members-all, at-subtract, length-subtract, lowest-none}
-use Rattle.hierarchy.specs.View.{View, withParents, grow}
-use Rattle.hierarchy.specs.Grow.{Formed, member-le, withParents-formed, withParents-keeps, withParents-has, withParents-only, grow-formed, grow-keeps, grow-has, grow-only}
+use Rattle.view.specs.View.{View, withParents, grow}
+use Rattle.view.specs.Grow.{Formed, member-le, withParents-formed, withParents-keeps, withParents-has, withParents-only, grow-formed, grow-keeps, grow-has, grow-only}
 
 -- ---- members one by one
 
