@@ -2,3 +2,4 @@
 pub mod Lattice
 pub mod Jls
 pub mod Examples
+pub mod World
