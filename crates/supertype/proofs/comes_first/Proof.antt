@@ -1,7 +1,7 @@
 -- `comes_first` meets its contract, one law for each answer.
-use Rattle.hierarchy.proofs.Answers.{by-greater, not-by-greater, by-sum, not-by-sum, by-number}
-use Rattle.hierarchy.proofs.comes_first.Statement.{statement}
-use Rattle.hierarchy.proofs.comes_first.Tie as tie
+use Rattle.supertype.proofs.Candidates.{by-greater, not-by-greater, by-sum, not-by-sum, by-number}
+use Rattle.supertype.proofs.comes_first.Statement.{statement}
+use Rattle.supertype.proofs.comes_first.Tie as tie
 
 returns : tie.Need-returns
 returns c = let a = c .before .before .before .args in by-greater (a .a .greater) (a .a .sum) (a .a .class) (a .b .greater) (a .b .sum) (a .b .class) (c .if1 .taken)

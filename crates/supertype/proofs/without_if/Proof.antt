@@ -1,8 +1,8 @@
 -- `without_if` meets its contract.
 use borrow.Author.Needs.{needs}
 use mathlib.Core.Path.{_∙_}
-use Rattle.hierarchy.proofs.without_if.Statement.{statement}
-use Rattle.hierarchy.proofs.without_if.Tie as tie
+use Rattle.supertype.proofs.without_if.Statement.{statement}
+use Rattle.supertype.proofs.without_if.Tie as tie
 
 without-requires : tie.Need-without-requires
 without-requires c κs = search needs

@@ -7,12 +7,12 @@ use lib.ListN.{length}
 use Rattle.sets.specs.Sets.{at, members, first}
 use Rattle.sets.specs.Bits.{first-le}
 use Rattle.sets.specs.Laws.{length-remove}
 use Rattle.hierarchy.specs.Table.{parentView}
 use Rattle.view.specs.Pick.{Nearing, nearing-start, nearing-next, nearing-end}
-use Rattle.hierarchy.proofs.Answers.{Measured, measured-of, first-nearer, first-measured}
-use Rattle.hierarchy.proofs.Steps.{left-less}
-use Rattle.hierarchy.proofs.nearest_of.Statement.{statement}
-use Rattle.hierarchy.proofs.nearest_of.Tie as tie
+use Rattle.supertype.proofs.Candidates.{Measured, measured-of, first-nearer, first-measured}
+use Rattle.view.specs.Frontier.{left-less}
+use Rattle.supertype.proofs.nearest_of.Statement.{statement}
+use Rattle.supertype.proofs.nearest_of.Tie as tie
 
 abbrev Inv-loop : tie.InvT-loop
 Inv-loop pairs t left right least rest₀ c₀ best₀ rest c best =

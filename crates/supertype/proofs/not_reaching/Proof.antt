@@ -7,11 +7,12 @@ use mathlib.Core.List.{List}
 use Prim.Native.Nat.{ℕ}
 use lib.ListN.{length}
 use Rattle.sets.specs.Sets.{at, remove, members, first}
 use Rattle.hierarchy.specs.Table.{parentView}
 use Rattle.view.specs.Lows.{strip}
-use Rattle.hierarchy.proofs.Steps.{strip-step, strip-end, left-less}
-use Rattle.hierarchy.proofs.not_reaching.Statement.{statement}
-use Rattle.hierarchy.proofs.not_reaching.Tie as tie
+use Rattle.supertype.proofs.Steps.{strip-step, strip-end}
+use Rattle.view.specs.Frontier.{left-less}
+use Rattle.supertype.proofs.not_reaching.Statement.{statement}
+use Rattle.supertype.proofs.not_reaching.Tie as tie
 
 abbrev Inv-loop : tie.InvT-loop
 Inv-loop pairs t d kept₀ left₀ c₀ kept left c =
@@ -27,8 +28,8 @@ lowest-requires c κs = search needs
 loop-holds : tie.Need-loop-holds Inv-loop μ-loop
 loop-holds c = (c .lowest .ensures, refl)
 
-walk-to-requires : tie.Need-walk-to-requires Inv-loop μ-loop
-walk-to-requires c κs = search needs
+reaches-requires : tie.Need-reaches-requires Inv-loop μ-loop
+reaches-requires c κs = search needs
 
 without-if-requires : tie.Need-without-if-requires Inv-loop μ-loop
 without-if-requires c κs = search needs
@@ -52,7 +53,7 @@ loop-again c =
       c .lowest2 .ensures,
       l .inv .1 ∙ strip-step v (a .d) (l .kept .words) (l .left .words) (l .c) (l .inv .0) (omega arith)
           ∙ ap₂ (λ (s f : List ℕ). strip v (a .d) s (members (at f) 0 1024))
-          (ap (λ (b : Bool). cond b (remove (l .kept .words) (l .c)) (l .kept .words)) (sym (c .before .before .before .walk-to .ensures .tells)) ∙ sym (c .before .before .without-if .ensures))
+          (ap (λ (b : Bool). cond b (remove (l .kept .words) (l .c)) (l .kept .words)) (sym (c .before .before .before .reaches .ensures)) ∙ sym (c .before .before .without-if .ensures))
           (sym (c .before .without .ensures)),
     )
 
@@ -70,7 +71,7 @@ not-reaching-spec =
     μ-loop
     lowest-requires
     loop-holds
-    walk-to-requires
+    reaches-requires
     without-if-requires
     without-requires
     lowest-requires-2

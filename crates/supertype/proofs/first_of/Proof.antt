@@ -2,8 +2,8 @@
 use borrow.Author.Needs.{needs}
 use mathlib.Core.Path.{sym, ap, _∙_}
 use mathlib.Core.Bool.{Bool, cond}
-use Rattle.hierarchy.proofs.first_of.Statement.{statement}
-use Rattle.hierarchy.proofs.first_of.Tie as tie
+use Rattle.supertype.proofs.first_of.Statement.{statement}
+use Rattle.supertype.proofs.first_of.Tie as tie
 
 comes-first-requires : tie.Need-comes-first-requires
 comes-first-requires c κs = search needs

@@ -6,10 +6,10 @@ use mathlib.Core.List.{[]}
 use lib.ListN.{length}
 use Rattle.sets.specs.Sets.{at, members, first}
 use Rattle.sets.specs.Bits.{first-le}
 use Rattle.hierarchy.specs.Table.{parentView, view-good}
 use Rattle.view.specs.Lows.{Lowing, lowing-start, lowing-turn, lowing-fewer, lowing-end}
-use Rattle.hierarchy.proofs.lowest_others.Statement.{statement}
-use Rattle.hierarchy.proofs.lowest_others.Tie as tie
+use Rattle.supertype.proofs.lowest_others.Statement.{statement}
+use Rattle.supertype.proofs.lowest_others.Tie as tie
 
 abbrev Inv-loop : tie.InvT-loop
 Inv-loop pairs t alive₀ todo₀ d₀ alive todo d =

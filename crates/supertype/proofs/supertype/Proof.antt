@@ -2,10 +2,10 @@
 use borrow.Author.Needs.{needs}
 use mathlib.Core.Path.{sym, _∙_}
 use mathlib.Core.List.{[]}
 use Rattle.hierarchy.specs.Table.{parentView, view-good}
 use Rattle.view.specs.Pick.{found-right, found-left, found-nearest, all-fits}
-use Rattle.hierarchy.proofs.supertype.Statement.{statement}
-use Rattle.hierarchy.proofs.supertype.Tie as tie
+use Rattle.supertype.proofs.supertype.Statement.{statement}
+use Rattle.supertype.proofs.supertype.Tie as tie
 
 ancestors-requires : tie.Need-ancestors-requires
 ancestors-requires c κs = search needs

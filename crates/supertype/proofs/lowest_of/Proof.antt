@@ -7,10 +7,10 @@ use Prim.Native.Nat.{ℕ}
 use lib.ListN.{length}
 use Rattle.sets.specs.Sets.{member}
 use Rattle.sets.specs.Laws.{length-remove}
 use Rattle.hierarchy.specs.Table.{parentView, view-good}
 use Rattle.view.specs.Lows.{remove-only, object-lowest, object-not-lowest}
-use Rattle.hierarchy.proofs.lowest_of.Statement.{statement}
-use Rattle.hierarchy.proofs.lowest_of.Tie as tie
+use Rattle.supertype.proofs.lowest_of.Statement.{statement}
+use Rattle.supertype.proofs.lowest_of.Tie as tie
 
 without-requires : tie.Need-without-requires
 without-requires c κs = search needs
