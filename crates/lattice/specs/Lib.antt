@@ -3,3 +3,4 @@ pub mod Lattice
 pub mod Jls
 pub mod Examples
 pub mod World
+pub mod Legality
