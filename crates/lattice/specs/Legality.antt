@@ -2,24 +2,23 @@
 -- with no more dimensions than the deepest of them. Cycles and parents of Object included.
 use mathlib.Core.Path.{_≡_, refl, sym, ap, _∙_, subst}
 use mathlib.Core.Bool.{Bool, true, false, cond, _&&_, _||_, true≢false}
-use mathlib.Core.List.{List, [], _∷_}
+use mathlib.Core.List.{List, [], _∷_, List·Memᴰ, List·Memᴰ·head, List·Memᴰ·tail}
 use mathlib.Core.Option.{Option, some, none}
 use Prim.Native.Nat.{ℕ, zero, suc, _+_, _≤_, _<_, max}
 use native.Mathlib.Omega.{arith}
-use lib.Dec.{eqb, leb, ltb}
-use borrow.Author.Tests.{ltb-true, lt-ltb, leb-true, le-leb, ne-eqb, eqb-false}
-use Rattle.ty.specs.declared.Order.{Order}
-use Rattle.ty.specs.declared.Order.the-variants.{Less, Equal, Greater}
-use Rattle.ty.specs.Types.{ArgType, Primitive, Object, Array, Unknown, depth, and, or, elem, compareNumbers, compare}
+use lib.Dec.{eqb, leb}
+use borrow.Author.Tests.{ltb-true, lt-ltb, leb-true, le-leb, ne-eqb}
+use Rattle.ty.specs.Types.{ArgType, Primitive, Object, Array, Unknown, depth, or, elem, compareNumbers, compare, concreteHint}
 use Rattle.ty.specs.Types.{Boolean, Int, Long, Float, Double}
 use Rattle.ty.specs.Words.{distinct, legalAtBase, legalType}
 use Rattle.ty.specs.Distinct.{and-left, and-right, and-both, distinct-first, distinct-fresh, distinct-rest}
 use Rattle.ty.specs.Order.{numbers-same}
-use Rattle.view.specs.View.{View, supertype}
+use Rattle.view.specs.View.{supertype}
 use Rattle.view.specs.Reach.{Good}
 use Rattle.view.specs.Ancestors.{ancestor-below}
 use Rattle.view.specs.Supertype.{supertype-some, supertype-least}
-use Rattle.lattice.specs.Lattice.{World, isEqual, sameType, unknownAccepts, ascending, unknownUnion, narrow, underDouble, joinPrimitive, inBoth, orFull, joinKnown, classOr, joinElements, joinArrayClass, joinApart, join, joinFrom, joinAll}
+use Rattle.lattice.specs.Lattice.{World, isEqual, sameType, unknownAccepts, ascending, unknownUnion, narrow, underDouble, joinPrimitive, inBoth, orFull, joinKnown, classOr, joinElements, joinArrayClass, joinApart, join, joinFrom, joinAll, mostSpecificUpper}
+use Rattle.lattice.specs.Hints.{hint-by, specific-hint}
 
 -- what holds of both holds of the one that is picked
 by-cond : (P : ArgType → Type 0) (b : Bool) (t u : ArgType) → P t → P u → P (cond b t u)
@@ -282,3 +281,34 @@ module _ (w : World) (g : Good (w .view)) where
       let p = legal-depth n t h in
       let q = legal-depth n u i in
       legal-both n (join w t u) (omega arith) (join-fits w g t u (legal-base n t h) (legal-base n u i))
+
+  -- ---- of a list: each member legal, so is the join
+
+  pub joinFrom-legal : (t : ArgType) (ts : List ArgType) → legalType (w .view .names) t ≡ true
+      → ((u : ArgType) → List·Memᴰ u ts → legalType (w .view .names) u ≡ true) → legalType (w .view .names) (joinFrom w t ts) ≡ true
+  unfolding joinFrom
+  joinFrom-legal t [] h all = h
+  joinFrom-legal t (u ∷ ts) h all = joinFrom-legal (join w t u) ts (join-legal t u h (all u (List·Memᴰ·head refl))) (λ v m. all v (List·Memᴰ·tail m))
+
+  pub joinAll-legal : (ts : List ArgType) (v : ArgType) → joinAll w ts ≡ some v
+      → ((u : ArgType) → List·Memᴰ u ts → legalType (w .view .names) u ≡ true) → legalType (w .view .names) v ≡ true
+  unfolding joinAll
+  joinAll-legal [] v h all = absurd (let z : _≡_ {A = ℕ} 0 1 = cc in omega arith)
+  joinAll-legal (t ∷ ts) v h all =
+      subst (λ (u : ArgType). legalType (w .view .names) u ≡ true) (let r : joinFrom w t ts ≡ v = cc in r)
+      (joinFrom-legal t ts (all t (List·Memᴰ·head refl)) (λ u m. all u (List·Memᴰ·tail m)))
+
+  -- ---- hints
+
+  pub hint-legal : (t u : ArgType) → concreteHint (w .view .object) t ≡ some u → legalType (w .view .names) t ≡ true → legalType (w .view .names) u ≡ true
+  unfolding depth legalAtBase
+  hint-legal =
+      let n = w .view .names in
+      hint-by (λ (t u : ArgType). legalType n t ≡ true → legalType n u ≡ true) (w .view .object)
+      (λ t c h. h)
+      (λ h. legal-both n (Object (w .view .object)) (omega arith) (lt-ltb (w .view .object) n (g .object-in)))
+      (λ c k h. legal-both n (Primitive c) (omega arith) (le-leb c 10 (distinct-first c [] (legal-base n (Unknown (c ∷ [])) h))))
+
+  pub specific-legal : (upper : List ArgType) (u : ArgType) → mostSpecificUpper w upper ≡ some u
+      → ((t : ArgType) → List·Memᴰ t upper → legalType (w .view .names) t ≡ true) → legalType (w .view .names) u ≡ true
+  specific-legal upper u h all = let c = specific-hint w upper u h in hint-legal (c .0) u (c .2) (all (c .0) (c .1))

@@ -3,4 +3,5 @@ pub mod Lattice
 pub mod Jls
 pub mod Examples
 pub mod World
+pub mod Hints
 pub mod Legality
