@@ -5,3 +5,4 @@ pub mod Examples
 pub mod World
 pub mod Hints
 pub mod Legality
+pub mod References
