@@ -6,3 +6,4 @@ pub mod World
 pub mod Hints
 pub mod Legality
 pub mod References
+pub mod NotLaws
