@@ -3,7 +3,8 @@ pub mod Lattice
 pub mod Jls
 pub mod Examples
 pub mod World
-pub mod Hints
-pub mod Legality
 pub mod References
+pub mod Hints
+pub mod Fits
+pub mod Legality
 pub mod NotLaws
