@@ -1,12 +1,13 @@
 -- The parts of a join, below the dimensions: lists of categories without repeats, and what each way of `joinApart` gives. What is
 -- shown here Legality puts together. Assumes nothing.
-use mathlib.Core.Path.{_≡_, refl, sym}
+use mathlib.Core.Path.{_≡_, refl, sym, ap, _∙_}
 use mathlib.Core.Bool.{Bool, true, false, cond, _&&_, _||_, true≢false}
 use mathlib.Core.List.{List, [], _∷_}
 use Prim.Native.Nat.{ℕ, zero, suc, _+_, _≤_, _<_}
 use native.Mathlib.Omega.{arith}
 use lib.Dec.{eqb}
-use borrow.Author.Tests.{lt-ltb, le-leb, ne-eqb}
+use native.Mathlib.Decide.{ℕ-discrete}
+use borrow.Author.Tests.{eq-eqb, lt-ltb, le-leb, ne-eqb}
 use Rattle.ty.specs.Types.{ArgType, Primitive, Object, Array, Unknown, or, elem}
 use Rattle.ty.specs.Types.{Boolean, Int, Long, Float, Double}
 use Rattle.ty.specs.Words.{distinct, legalAtBase}
@@ -44,6 +45,19 @@ ascending-above cs ds i (suc n) k l = go (elem i cs || elem i ds) (ascending-abo
     go : (b : Bool) → elem k (ascending cs ds (suc i) n) ≡ false → elem k (cond b (i ∷ ascending cs ds (suc i) n) (ascending cs ds (suc i) n)) ≡ false
     go true e = rw (ne-eqb i k (omega arith), e)
     go false e = e
+
+-- it has what either list has, in its range
+pub ascending-elem : (cs ds : List ℕ) (i n k : ℕ) → i ≤ k → k < i + n → elem k (ascending cs ds i n) ≡ (elem k cs || elem k ds)
+unfolding ascending elem
+ascending-elem cs ds i zero k l h = absurd (omega arith)
+ascending-elem cs ds i (suc n) k l h = go (elem i cs || elem i ds) refl (ℕ-discrete i k) (λ m. ascending-elem cs ds (suc i) n k m (omega arith))
+  where
+    go : (b : Bool) → (elem i cs || elem i ds) ≡ b → Dec (i ≡ k) → (suc i ≤ k → elem k (ascending cs ds (suc i) n) ≡ (elem k cs || elem k ds))
+        → elem k (cond b (i ∷ ascending cs ds (suc i) n) (ascending cs ds (suc i) n)) ≡ (elem k cs || elem k ds)
+    go true e (yes q) ih = ap (λ (x : Bool). or x (elem k (ascending cs ds (suc i) n))) (eq-eqb i k q) ∙ sym e ∙ ap (λ (x : ℕ). elem x cs || elem x ds) q
+    go true e (no q) ih = ap (λ (x : Bool). or x (elem k (ascending cs ds (suc i) n))) (ne-eqb i k q) ∙ ih (omega arith)
+    go false e (yes q) ih = ascending-above cs ds (suc i) n k (omega arith) ∙ sym e ∙ ap (λ (x : ℕ). elem x cs || elem x ds) q
+    go false e (no q) ih = ih (omega arith)
 
 pub ascending-distinct : (cs ds : List ℕ) (i n : ℕ) → i + n ≤ 11 → distinct (ascending cs ds i n) ≡ true
 unfolding ascending distinct

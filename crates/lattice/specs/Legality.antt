@@ -130,6 +130,16 @@ module _ (w : World) where
   unfolding join
   join-depth t u = by-cond (λ (v : ArgType). depth v ≤ max (depth t) (depth u)) (sameType t u) t (joinApart w t u) (omega arith) (apart-depth t u)
 
+  pub joinFrom-depth : (n : ℕ) (t : ArgType) (ts : List ArgType) → depth t ≤ n → ((u : ArgType) → List·Memᴰ u ts → depth u ≤ n) → depth (joinFrom w t ts) ≤ n
+  unfolding joinFrom
+  joinFrom-depth n t [] h all = h
+  joinFrom-depth n t (u ∷ ts) h all =
+      joinFrom-depth n (join w t u) ts (let d = join-depth t u in let i = all u (List·Memᴰ·head refl) in omega arith) (λ v m. all v (List·Memᴰ·tail m))
+
+pub hint-depth : (object : ℕ) (t u : ArgType) → concreteHint object t ≡ some u → depth u ≤ depth t
+unfolding depth
+hint-depth object = hint-by (λ (t u : ArgType). depth u ≤ depth t) object (λ t c. omega arith) (omega arith) (λ c k. omega arith)
+
 -- ---- both together
 
 module _ (names : ℕ) (t : ArgType) where

@@ -8,3 +8,4 @@ pub mod Hints
 pub mod Fits
 pub mod Legality
 pub mod NotLaws
+pub mod Above
