@@ -1,9 +1,11 @@
 -- The examples of the scope paper about types, by computation. Assumes nothing.
 use mathlib.Core.Path.{_≡_, refl}
-use mathlib.Core.Bool.{true, false}
-use mathlib.Core.List.{[], _∷_}
+use mathlib.Core.Bool.{Bool, true, false}
+use mathlib.Core.List.{List, [], _∷_}
 use mathlib.Core.Option.{some, none}
-use Rattle.ty.specs.Types.{Primitive, Object, Array, Unknown, elem, compareNumbers, compareLists, compare, categories}
+use Rattle.sets.specs.Sets.{bit, at, member, insert, members, first}
+use Rattle.ty.specs.Types.{ArgType, Primitive, Object, Array, Unknown, elem, compareNumbers, compareLists, compare, categories}
+use Rattle.view.specs.View.{insertAll, withParents, grow, level, reached, reach, steps, distance, ancestor, allRecorded, complete, relation, common, below, anyBelow, lowest, nearer, nearest, numbers, candidates, supertype}
 use Rattle.view.specs.Examples.{whole}
 use Rattle.lattice.specs.Lattice.{World, sameType, hasAll, unknownAccepts, ascending, unknownUnion, primitiveAssignable, assignableApart, isAssignable, narrow, underDouble, joinPrimitive, joinKnown, joinApart, join, joinFrom, joinAll, arrayParent, joinArrayClass}
 

@@ -7,7 +7,7 @@ use Prim.Native.Nat.{ℕ, zero, suc}
 use lib.Dec.{eqb}
 use Rattle.ty.specs.declared.Order.{Order}
 use Rattle.ty.specs.declared.Order.the-variants.{Less, Equal, Greater}
-use Rattle.ty.specs.Types.{ArgType, Primitive, Object, Array, Unknown, elem, compare, categories, isReference, concreteHint, wideCategory}
+use Rattle.ty.specs.Types.{ArgType, Primitive, Object, Array, Unknown, elem, compare, categories, isReference, isConcrete, concreteHint, wideCategory}
 use Rattle.ty.specs.Types.{Boolean, Byte, Short, Char, Int, Long, Float, Double, ObjectCategory, ArrayCategory}
 use Rattle.ty.specs.Answers.{unknownType}
 use Rattle.view.specs.declared.Relation.{Relation}
