@@ -9,3 +9,4 @@ pub mod Fits
 pub mod Legality
 pub mod NotLaws
 pub mod Above
+pub mod Domain
