@@ -3,3 +3,5 @@ pub mod Lattice
 pub mod Jls
 pub mod Examples
 pub mod World
+pub mod Masks
+pub mod Same
