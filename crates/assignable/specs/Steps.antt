@@ -1,14 +1,13 @@
 -- Assignability by the queries that the code asks of two types, one law for each case that it meets. Assumes nothing.
 use mathlib.Core.Path.{_≡_, refl, sym, ap, ap₂, _∙_}
-use mathlib.Core.Bool.{Bool, true, false, cond, not, _&&_, _||_, true≢false}
-use mathlib.Core.List.{List, [], _∷_}
-use mathlib.Core.Option.{Option, some, none}
-use Prim.Native.Nat.{ℕ, zero, suc, _+_, _-_, _^_, _≤_, _<_}
+use mathlib.Core.Bool.{Bool, true, false, cond, _&&_, _||_, true≢false}
+use mathlib.Core.Option.{some, none}
+use Prim.Native.Nat.{ℕ, zero, suc, _-_, _^_, _≤_, _<_}
 use native.Mathlib.Omega.{arith}
-use lib.Dec.{eqb, leb, ltb}
-use borrow.Author.Tests.{eq-eqb, ne-eqb, eqb-true, leb-true, leb-false, ltb-true, lt-ltb, le-ltb, le-leb}
-use Rattle.ty.specs.Types.{ArgType, Primitive, Object, Array, Unknown, elem, compare, categories, isKnown, isPrimitive, isObject, isArray, isReference}
-use Rattle.ty.specs.Words.{Legal, tagOf, loadOf, typeOf, baseOf, legalWord}
+use lib.Dec.{eqb, leb}
+use borrow.Author.Tests.{eq-eqb, ne-eqb, eqb-true, leb-true, leb-false, ltb-true}
+use Rattle.ty.specs.Types.{ArgType, Primitive, Object, Array, Unknown, compare, categories, isKnown, isPrimitive, isObject, isArray}
+use Rattle.ty.specs.Words.{Legal, tagOf, loadOf, typeOf, baseOf}
 use Rattle.ty.specs.Order.{numbers-by}
 use Rattle.ty.specs.Shape.{type-array, type-flat, legal-element}
 use Rattle.ty.specs.Steps.{array-test, check-object}

@@ -1,19 +1,16 @@
-// Assignability of lattice.rs on type words: what an Unknown accepts, primitives, classes, arrays, and what the solver asks of
-// several bounds at once. The class tables are those of the crate hierarchy; every word is legal for at most 1,024 names.
+// Assignability of lattice.rs on type words: what an Unknown accepts, primitives, classes and arrays. The class tables are those of
+// the crate hierarchy; every word is legal for at most 1,024 names.
 use lattice::Numbers;
-use ty::MaybeType;
-use ty::Order;
 use ty::TypeWord;
 use view::Relation;
 ghost use mathlib.Core.Path.{_≡_};
 ghost use mathlib.Core.Bool.{true, false, _&&_};
-ghost use mathlib.Core.List.{[], map};
+ghost use mathlib.Core.List.{[]};
 ghost use Prim.Native.Nat.{_^_, _≤_, _<_};
 ghost use lib.ListN.{length};
-ghost use Rattle.ty.specs.Types.{Object, categories, isKnown, isArray, isReference, concreteHint};
+ghost use Rattle.ty.specs.Types.{Object, categories, isKnown, isArray};
 ghost use Rattle.ty.specs.Words.{Legal, typeOf};
-ghost use Rattle.ty.specs.Answers.{maybeWord};
-ghost use Rattle.lattice.specs.Lattice.{notNo, unknownAccepts, primitiveAssignable, arrayParent, assignableApart, isAssignable, producerBoundCompatible, sameRegisterCategory, observedAccepts, domainAccepts, assignableToAll, mostSpecificUpper};
+ghost use Rattle.lattice.specs.Lattice.{notNo, unknownAccepts, primitiveAssignable, arrayParent, assignableApart, isAssignable};
 ghost use Rattle.lattice.specs.World.{worldOf};
 
 // Whether the categories of `listed` (an Unknown's list) accept the type: its set is the union of both.

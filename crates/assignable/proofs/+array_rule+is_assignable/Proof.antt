@@ -1,6 +1,6 @@
 -- Assignability and the array rule meet their contracts: the rule asks about the elements, whose words are less. Assumes nothing.
 use borrow.Author.Needs.{needs}
-use mathlib.Core.Path.{_≡_, sym, _∙_}
+use mathlib.Core.Path.{sym, _∙_}
 use Prim.Native.Nat.{ℕ, _+_, _-_, _*_, _^_, _<_}
 use native.Mathlib.Omega.{arith}
 use Rattle.lattice.specs.World.{worldOf}

@@ -6,9 +6,6 @@ use Rattle.ty.specs.Types.{isArray}
 use Rattle.ty.specs.Words.{typeOf}
 use Rattle.assignable.proofs.are_arrays.Statement.{statement}
 use Rattle.assignable.proofs.are_arrays.Tie as tie
-use Rattle.assignable.proofs.are_arrays.Reads as reads
-use Rattle.assignable.proofs.are_arrays.Lts as lts
-use Rattle.ty.proofs.TypeWord.is_array.Reads as is-array-reads
 
 is-array-requires : tie.Need-is-array-requires
 is-array-requires c κs = search needs

@@ -1,13 +1,10 @@
 -- `array_parent` meets its contract: a missing number is no class's. Assumes nothing.
-use borrow.Author.Needs.{needs}
 use mathlib.Core.Path.{refl}
 use mathlib.Core.List.{[]}
 use Rattle.lattice.specs.World.{worldOf}
 use Rattle.assignable.specs.Steps.{parent-object, parent-cloneable, parent-serializable}
 use Rattle.assignable.proofs.array_parent.Statement.{statement}
 use Rattle.assignable.proofs.array_parent.Tie as tie
-use Rattle.assignable.proofs.array_parent.Reads as reads
-use Rattle.assignable.proofs.array_parent.Lts as lts
 
 returns : tie.Need-returns
 returns c =

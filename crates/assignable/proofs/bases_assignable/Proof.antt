@@ -6,11 +6,6 @@ use Rattle.lattice.specs.World.{worldOf}
 use Rattle.assignable.specs.Steps.{apart-to, apart-from}
 use Rattle.assignable.proofs.bases_assignable.Statement.{statement}
 use Rattle.assignable.proofs.bases_assignable.Tie as tie
-use Rattle.assignable.proofs.bases_assignable.Reads as reads
-use Rattle.assignable.proofs.bases_assignable.Lts as lts
-use Rattle.assignable.proofs.known_assignable.Reads as known-assignable-reads
-use Rattle.assignable.proofs.unknown_accepts.Reads as unknown-accepts-reads
-use Rattle.ty.proofs.TypeWord.is_known.Reads as is-known-reads
 
 is-known-requires : tie.Need-is-known-requires
 is-known-requires c κs = search needs

@@ -9,13 +9,6 @@ use Rattle.lattice.specs.World.{worldOf}
 use Rattle.assignable.specs.Steps.{object-load, primitive-load, class-lt, primitives, from-primitive, from-reference}
 use Rattle.assignable.proofs.known_assignable.Statement.{statement}
 use Rattle.assignable.proofs.known_assignable.Tie as tie
-use Rattle.assignable.proofs.known_assignable.Reads as reads
-use Rattle.assignable.proofs.known_assignable.Lts as lts
-use Rattle.assignable.proofs.primitive_assignable.Reads as primitive-assignable-reads
-use Rattle.assignable.proofs.to_class.Reads as to-class-reads
-use Rattle.ty.proofs.TypeWord.is_object.Reads as is-object-reads
-use Rattle.ty.proofs.TypeWord.is_primitive.Reads as is-primitive-reads
-use Rattle.ty.proofs.TypeWord.load.Reads as load-reads
 
 is-object-requires : tie.Need-is-object-requires
 is-object-requires c κs = search needs

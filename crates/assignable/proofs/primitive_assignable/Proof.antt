@@ -1,12 +1,9 @@
 -- `primitive_assignable` meets its contract. Assumes nothing.
-use borrow.Author.Needs.{needs}
 use mathlib.Core.Path.{sym, _∙_}
 use borrow.Author.Tests.{eq-eqb, ne-eqb, lt-ltb, le-ltb}
 use Rattle.assignable.specs.Primitives.{byOrder, widens-by-order}
 use Rattle.assignable.proofs.primitive_assignable.Statement.{statement}
 use Rattle.assignable.proofs.primitive_assignable.Tie as tie
-use Rattle.assignable.proofs.primitive_assignable.Reads as reads
-use Rattle.assignable.proofs.primitive_assignable.Lts as lts
 
 returns : tie.Need-returns
 unfolding byOrder

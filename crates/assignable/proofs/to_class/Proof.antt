@@ -8,14 +8,6 @@ use Rattle.lattice.specs.World.{worldOf}
 use Rattle.assignable.specs.Steps.{object-load, array-to-class, class-to-class, other-to-class}
 use Rattle.assignable.proofs.to_class.Statement.{statement}
 use Rattle.assignable.proofs.to_class.Tie as tie
-use Rattle.assignable.proofs.to_class.Reads as reads
-use Rattle.assignable.proofs.to_class.Lts as lts
-use Rattle.assignable.proofs.array_parent.Reads as array-parent-reads
-use Rattle.assignable.proofs.not_no.Reads as not-no-reads
-use Rattle.hierarchy.proofs.subtype_relation.Reads as subtype-relation-reads
-use Rattle.ty.proofs.TypeWord.is_array.Reads as is-array-reads
-use Rattle.ty.proofs.TypeWord.is_object.Reads as is-object-reads
-use Rattle.ty.proofs.TypeWord.load.Reads as load-reads
 
 is-array-requires : tie.Need-is-array-requires
 is-array-requires c κs = search needs

@@ -4,9 +4,6 @@ use native.Mathlib.Omega.{arith}
 use Rattle.lattice.specs.Masks.{accepts-mask}
 use Rattle.assignable.proofs.unknown_accepts.Statement.{statement}
 use Rattle.assignable.proofs.unknown_accepts.Tie as tie
-use Rattle.assignable.proofs.unknown_accepts.Reads as reads
-use Rattle.assignable.proofs.unknown_accepts.Lts as lts
-use Rattle.ty.proofs.TypeWord.categories.Reads as categories-reads
 
 categories-requires : tie.Need-categories-requires
 categories-requires c κs = search needs
