@@ -10,3 +10,5 @@ pub mod Legality
 pub mod NotLaws
 pub mod Above
 pub mod Domain
+pub mod Masks
+pub mod Same
