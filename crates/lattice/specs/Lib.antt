@@ -3,3 +3,7 @@ pub mod Lattice
 pub mod Jls
 pub mod Examples
 pub mod World
+pub mod Legality
+pub mod Unions
+pub mod JoinTable
+pub mod JoinCases
