@@ -12,3 +12,6 @@ pub mod Above
 pub mod Domain
 pub mod Masks
 pub mod Same
+pub mod Unions
+pub mod JoinTable
+pub mod JoinCases
