@@ -315,7 +315,7 @@ fn ask_table(
 }
 
 // Zero everywhere.
-fn clear(work: &mut [u64])
+pub fn clear(work: &mut [u64])
     ensures { λ _. ⌜ now (work .exit) ≡ replicate (length (now (work .entry))) 0 ⌝ }
 {
     let mut i: usize = 0;
