@@ -10,3 +10,8 @@ pub mod Legality
 pub mod NotLaws
 pub mod Above
 pub mod Domain
+pub mod Masks
+pub mod Same
+pub mod Unions
+pub mod JoinTable
+pub mod JoinCases
