@@ -30,7 +30,8 @@ shared-slice-read-t11 c = search needs
 is-assignable-requires : tie.Need-is-assignable-requires Inv-loop μ-loop
 is-assignable-requires c κs =
     let s = c .before .before .before .before .before .before in
-    (s .pre .0, s .pre .1, s .pre .2 (c .before .before .loop .i) (omega arith))
+    let l = s .pre .2 (c .before .before .loop .i) (omega arith) in
+    search needs
 
 add-i : tie.Need-add-i Inv-loop μ-loop
 add-i c = search needs

@@ -21,17 +21,17 @@ enum-told-3 c = search needs
 returns : tie.Need-returns
 returns c =
     let s = c .before .before .before in
-    (s .pre .0, sym (lesser-less (typeOf (s .args .t .word)) (typeOf (s .args .u .word)) (sym (c .before .before .compare-types .ensures) ∙ c .enum-told .given .1)))
+    (search needs, sym (lesser-less (typeOf (s .args .t .word)) (typeOf (s .args .u .word)) (sym (c .before .before .compare-types .ensures) ∙ c .enum-told .given .1)))
 
 returns-2 : tie.Need-returns-2
 returns-2 c =
     let s = c .before .before .before in
-    (s .pre .0, sym (lesser-equal (typeOf (s .args .t .word)) (typeOf (s .args .u .word)) (sym (c .before .before .compare-types .ensures) ∙ c .enum-told2 .given .1)))
+    (search needs, sym (lesser-equal (typeOf (s .args .t .word)) (typeOf (s .args .u .word)) (sym (c .before .before .compare-types .ensures) ∙ c .enum-told2 .given .1)))
 
 returns-3 : tie.Need-returns-3
 returns-3 c =
     let s = c .before .before .before in
-    (s .pre .1, sym (lesser-greater (typeOf (s .args .t .word)) (typeOf (s .args .u .word)) (sym (c .before .before .compare-types .ensures) ∙ c .enum-told3 .given .1)))
+    (search needs, sym (lesser-greater (typeOf (s .args .t .word)) (typeOf (s .args .u .word)) (sym (c .before .before .compare-types .ensures) ∙ c .enum-told3 .given .1)))
 
 pub lesser-of-spec : {M : Type 1} → statement M
 lesser-of-spec =
