@@ -97,11 +97,10 @@ class-type object h =
     ∙ ap Object (let e : loadOf (2 ^ 48 + object) ≡ object = omega arith in e)
 
 module _ (object array other : ℕ) where
-  pub array-object : object < 1024 → other ≡ 2 ^ 48 + object → other ≡ wordOf (joinArrayOther object (typeOf array) (typeOf other))
+  pub array-object : object < 1024 → other ≡ 2 ^ 48 + object → 2 ^ 48 + object ≡ wordOf (joinArrayOther object (typeOf array) (typeOf other))
   unfolding joinArrayOther wordOf
   array-object h e =
-      e
-      ∙ sym
+      sym
       (ap (λ (u : ArgType). wordOf (joinArrayOther object (typeOf array) u)) (ap typeOf e ∙ class-type object h)
       ∙ ap (λ (b : Bool). wordOf (cond b (Object object) (unknownUnion (typeOf array) (Object object)))) (eq-eqb object object refl))
 
@@ -239,12 +238,15 @@ module _ (pairs : List ℕ) (n : Numbers) (fits : Fits n) where
         word-arrays-right h = types (Object (n .classes .object)) (arrays-right world (typeOf (left - 2 ^ 56)) (typeOf (right - 2 ^ 56)) h)
 
         module _ (h : isPrimitive (typeOf (left - 2 ^ 56)) ≡ false) (k : isPrimitive (typeOf (right - 2 ^ 56)) ≡ false) where
-          pub word-arrays : wordOf element + 2 ^ 56 ≡ answer
-          word-arrays = sym (word-deeper element) ∙ types (Array element) (arrays-both world (typeOf (left - 2 ^ 56)) (typeOf (right - 2 ^ 56)) h k)
+          pub word-arrays : (e : ℕ) → e ≡ wordOf element → e + 2 ^ 56 ≡ answer
+          word-arrays e is =
+              ap (λ (x : ℕ). x + 2 ^ 56) is
+              ∙ sym (word-deeper element)
+              ∙ types (Array element) (arrays-both world (typeOf (left - 2 ^ 56)) (typeOf (right - 2 ^ 56)) h k)
 
-          pub arrays-fit : left < 2 ^ 64 → right < 2 ^ 64 → wordOf element + 2 ^ 56 < 2 ^ 64
-          arrays-fit f g =
-              let e = word-arrays in
+          pub arrays-fit : (e : ℕ) → e ≡ wordOf element → left < 2 ^ 64 → right < 2 ^ 64 → e + 2 ^ 56 < 2 ^ 64
+          arrays-fit e is f g =
+              let q = word-arrays e is in
               let m = fits .0 in
               let w = word-fits (n .classes .names) (join world (typeOf left) (typeOf right)) (omega arith) (answer-type f g) in
               omega arith
