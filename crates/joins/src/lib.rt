@@ -165,33 +165,13 @@ const JOINS: [[u64; 11]; 11] = [
     ],
 ];
 
-// A cell of the table. Of a constant array only what a constant index picks is laid out where it is read: one row, not eleven.
-fn cell(left: u64, right: usize) -> u64
-    requires { ⌜ (left < 11) × (right < 11) ⌝ }
-    ensures { λ r. ⌜ r ≡ cell left right ⌝ }
-{
-    match left {
-        0 => JOINS[0][right],
-        1 => JOINS[1][right],
-        2 => JOINS[2][right],
-        3 => JOINS[3][right],
-        4 => JOINS[4][right],
-        5 => JOINS[5][right],
-        6 => JOINS[6][right],
-        7 => JOINS[7][right],
-        8 => JOINS[8][right],
-        9 => JOINS[9][right],
-        _ => JOINS[10][right],
-    }
-}
-
 // The join of two primitives, by the table.
 pub fn join_primitives(left: u64, right: u64) -> TypeWord
     requires { ⌜ (left < 11) × (right < 11) ⌝ }
     ensures { λ r. ⌜ r .word ≡ cell left right ⌝ }
 {
     TypeWord {
-        word: cell(left, right as usize),
+        word: JOINS[left as usize][right as usize],
     }
 }
 

@@ -1,153 +1,24 @@
 -- RESULTS ARE LEGAL: what a join, a hint and the most specific upper bound give of legal types over a good view is a legal type,
 -- with no more dimensions than the deepest of them. Cycles and parents of Object included.
 use mathlib.Core.Path.{_≡_, refl, sym, ap, _∙_, subst}
-use mathlib.Core.Bool.{Bool, true, false, cond, _&&_, _||_, true≢false}
-use mathlib.Core.List.{List, [], _∷_}
+use mathlib.Core.Bool.{Bool, true, false, cond, true≢false}
+use mathlib.Core.List.{List, [], _∷_, List·Memᴰ, List·Memᴰ·head, List·Memᴰ·tail}
 use mathlib.Core.Option.{Option, some, none}
-use Prim.Native.Nat.{ℕ, zero, suc, _+_, _≤_, _<_, max}
+use Prim.Native.Nat.{ℕ, suc, _≤_, _<_, max}
 use native.Mathlib.Omega.{arith}
-use lib.Dec.{eqb, leb, ltb}
-use borrow.Author.Tests.{ltb-true, lt-ltb, leb-true, le-leb, ne-eqb, eqb-false}
-use Rattle.ty.specs.declared.Order.{Order}
-use Rattle.ty.specs.declared.Order.the-variants.{Less, Equal, Greater}
-use Rattle.ty.specs.Types.{ArgType, Primitive, Object, Array, Unknown, depth, and, or, elem, compareNumbers, compare}
-use Rattle.ty.specs.Types.{Boolean, Int, Long, Float, Double}
-use Rattle.ty.specs.Words.{distinct, legalAtBase, legalType}
-use Rattle.ty.specs.Distinct.{and-left, and-right, and-both, distinct-first, distinct-fresh, distinct-rest}
-use Rattle.ty.specs.Order.{numbers-same}
-use Rattle.view.specs.View.{View, supertype}
+use lib.Dec.{eqb, leb}
+use borrow.Author.Tests.{ltb-true, lt-ltb, leb-true, le-leb}
+use Rattle.ty.specs.Types.{ArgType, Primitive, Object, Array, Unknown, depth, compare, concreteHint}
+use Rattle.ty.specs.Words.{legalAtBase, legalType}
+use Rattle.ty.specs.Distinct.{and-left, and-right, and-both, distinct-first}
+use Rattle.view.specs.View.{supertype}
 use Rattle.view.specs.Reach.{Good}
 use Rattle.view.specs.Ancestors.{ancestor-below}
 use Rattle.view.specs.Supertype.{supertype-some, supertype-least}
-use Rattle.lattice.specs.Lattice.{World, isEqual, sameType, unknownAccepts, ascending, unknownUnion, narrow, underDouble, joinPrimitive, inBoth, orFull, joinKnown, classOr, joinElements, joinArrayClass, joinApart, join, joinFrom, joinAll}
-
--- what holds of both holds of the one that is picked
-by-cond : (P : ArgType → Type 0) (b : Bool) (t u : ArgType) → P t → P u → P (cond b t u)
-by-cond P true t u p q = p
-by-cond P false t u p q = q
-
--- what a join of two primitives may be
-pub primitive-by : (P : ArgType → Type 0) (left right : ℕ)
-    → P (Unknown (Boolean ∷ Int ∷ [])) → P (Primitive Int) → P (Primitive Long) → P (Primitive Float) → P (Primitive Double) → P (Unknown (left ∷ right ∷ []))
-    → P (joinPrimitive left right)
-unfolding joinPrimitive
-primitive-by P left right either int long float double both =
-    by-cond P ((eqb left Boolean && eqb right Int) || (eqb left Int && eqb right Boolean)) _ _ either
-    (by-cond P (narrow left && narrow right) _ _ int
-    (by-cond P ((eqb left Long && narrow right) || (narrow left && eqb right Long)) _ _ long
-    (by-cond P ((eqb left Float && narrow right) || (narrow left && eqb right Float)) _ _ float
-    (by-cond P ((eqb left Double && underDouble right) || (underDouble left && eqb right Double)) _ _ double both))))
-
--- ---- lists of categories
-
-distinct-cons : (c : ℕ) (cs : List ℕ) → c ≤ 10 → elem c cs ≡ false → distinct cs ≡ true → distinct (c ∷ cs) ≡ true
-unfolding distinct
-distinct-cons c cs l e h = rw (le-leb c 10 l, e, h)
-
-ascending-above : (cs ds : List ℕ) (i n k : ℕ) → k < i → elem k (ascending cs ds i n) ≡ false
-unfolding ascending elem
-ascending-above cs ds i zero k l = refl
-ascending-above cs ds i (suc n) k l = go (elem i cs || elem i ds) (ascending-above cs ds (suc i) n k (omega arith))
-  where
-    go : (b : Bool) → elem k (ascending cs ds (suc i) n) ≡ false → elem k (cond b (i ∷ ascending cs ds (suc i) n) (ascending cs ds (suc i) n)) ≡ false
-    go true e = rw (ne-eqb i k (omega arith), e)
-    go false e = e
-
-pub ascending-distinct : (cs ds : List ℕ) (i n : ℕ) → i + n ≤ 11 → distinct (ascending cs ds i n) ≡ true
-unfolding ascending distinct
-ascending-distinct cs ds i zero l = refl
-ascending-distinct cs ds i (suc n) l =
-    go (elem i cs || elem i ds) (ascending-above cs ds (suc i) n i (omega arith)) (ascending-distinct cs ds (suc i) n (omega arith))
-  where
-    go : (b : Bool) → elem i (ascending cs ds (suc i) n) ≡ false → distinct (ascending cs ds (suc i) n) ≡ true
-        → distinct (cond b (i ∷ ascending cs ds (suc i) n) (ascending cs ds (suc i) n)) ≡ true
-    go true e h = distinct-cons i (ascending cs ds (suc i) n) (omega arith) e h
-    go false e h = h
-
-inBoth-fresh : (k : ℕ) (cs ds : List ℕ) → elem k cs ≡ false → elem k (inBoth cs ds) ≡ false
-unfolding inBoth elem
-inBoth-fresh k [] ds h = refl
-inBoth-fresh k (c ∷ cs) ds h = go (eqb c k) (elem c ds) refl h (inBoth-fresh k cs ds)
-  where
-    go : (a b : Bool) → eqb c k ≡ a → or a (elem k cs) ≡ false → (elem k cs ≡ false → elem k (inBoth cs ds) ≡ false) → elem k (cond b (c ∷ inBoth cs ds) (inBoth cs ds)) ≡ false
-    go true b q f ih = absurd (true≢false f)
-    go false true q f ih = rw (q, ih f)
-    go false false q f ih = ih f
-
-pub inBoth-distinct : (cs ds : List ℕ) → distinct cs ≡ true → distinct (inBoth cs ds) ≡ true
-unfolding inBoth distinct
-inBoth-distinct [] ds h = refl
-inBoth-distinct (c ∷ cs) ds h = go (elem c ds) (inBoth-distinct cs ds (distinct-rest c cs h))
-  where
-    go : (b : Bool) → distinct (inBoth cs ds) ≡ true → distinct (cond b (c ∷ inBoth cs ds) (inBoth cs ds)) ≡ true
-    go true e = distinct-cons c (inBoth cs ds) (distinct-first c cs h) (inBoth-fresh c cs ds (distinct-fresh c cs h)) e
-    go false e = e
-
-pair : (c d : ℕ) → c ≤ 10 → d ≤ 10 → (c ≡ d → ⊥) → distinct (c ∷ d ∷ []) ≡ true
-unfolding distinct elem
-pair c d l r apart = rw (le-leb c 10 l, le-leb d 10 r, ne-eqb d c (λ e. apart (sym e)))
-
--- ---- the parts of a join, below the dimensions
-
-module _ (names : ℕ) where
-  abbrev Fits : ArgType → Type 0
-  Fits t = legalAtBase names t ≡ true
-
-  number-fits : (k : ℕ) → k ≤ 10 → Fits (Primitive k)
-  unfolding legalAtBase
-  number-fits k l = le-leb k 10 l
-
-  class-fits : (c : ℕ) → c < names → Fits (Object c)
-  unfolding legalAtBase
-  class-fits c l = lt-ltb c names l
-
-  list-fits : (cs : List ℕ) → distinct cs ≡ true → Fits (Unknown cs)
-  unfolding legalAtBase
-  list-fits cs h = h
-
-  union-fits : (t u : ArgType) → Fits (unknownUnion t u)
-  unfolding unknownUnion
-  union-fits t u = list-fits _ (ascending-distinct _ _ 0 11 (omega arith))
-
-  primitive-fits : (left right : ℕ) → left ≤ 10 → right ≤ 10 → (left ≡ right → ⊥) → Fits (joinPrimitive left right)
-  primitive-fits left right l r apart =
-      primitive-by Fits left right
-      (list-fits (Boolean ∷ Int ∷ []) (pair Boolean Int (omega arith) (omega arith) (λ e. absurd (omega arith))))
-      (number-fits Int (omega arith))
-      (number-fits Long (omega arith))
-      (number-fits Float (omega arith))
-      (number-fits Double (omega arith))
-      (list-fits (left ∷ right ∷ []) (pair left right l r apart))
-
-  known-fits : (t : ArgType) (cs : List ℕ) → Fits t → Fits (joinKnown t cs)
-  unfolding joinKnown
-  known-fits t cs h = by-cond Fits (unknownAccepts cs t) t (unknownUnion t (Unknown cs)) h (union-fits t (Unknown cs))
-
-  full-fits : (cs : List ℕ) → distinct cs ≡ true → Fits (orFull cs)
-  unfolding legalAtBase distinct elem
-  full-fits [] h = refl
-  full-fits (c ∷ cs) h = h
-
-  elements-fit : (object : ℕ) (t u whole : ArgType) → object < names → Fits whole → Fits (joinElements object t u whole)
-  unfolding joinElements legalAtBase
-  elements-fit object (Primitive k) u whole o h = lt-ltb object names o
-  elements-fit object (Object c) (Primitive k) whole o h = lt-ltb object names o
-  elements-fit object (Object c) (Object d) whole o h = h
-  elements-fit object (Object c) (Array u) whole o h = h
-  elements-fit object (Object c) (Unknown ds) whole o h = h
-  elements-fit object (Array t) (Primitive k) whole o h = lt-ltb object names o
-  elements-fit object (Array t) (Object d) whole o h = h
-  elements-fit object (Array t) (Array u) whole o h = h
-  elements-fit object (Array t) (Unknown ds) whole o h = h
-  elements-fit object (Unknown cs) (Primitive k) whole o h = lt-ltb object names o
-  elements-fit object (Unknown cs) (Object d) whole o h = h
-  elements-fit object (Unknown cs) (Array u) whole o h = h
-  elements-fit object (Unknown cs) (Unknown ds) whole o h = h
-
--- two primitives of one category are equal
-same-primitive : (k j : ℕ) → k ≡ j → sameType (Primitive k) (Primitive j) ≡ true
-unfolding sameType compare
-same-primitive k j e = ap (λ (x : ℕ). isEqual (compareNumbers x j)) e ∙ ap isEqual (numbers-same j)
+use Rattle.lattice.specs.Lattice.{World, sameType, unknownAccepts, unknownUnion, inBoth, orFull, joinKnown, classOr, joinElements, joinArrayClass, joinApart, join, joinFrom, joinAll, mostSpecificUpper}
+use Rattle.lattice.specs.Hints.{hint-by, specific-hint}
+use Rattle.lattice.specs.References.{same-exactly}
+use Rattle.lattice.specs.Fits.{by-cond, primitive-by, inBoth-distinct, Fits, class-fits, union-fits, primitive-fits, known-fits, full-fits, elements-fit}
 
 module _ (w : World) (g : Good (w .view)) where
   abbrev names : ℕ
@@ -167,7 +38,7 @@ module _ (w : World) (g : Good (w .view)) where
   apart-fits : (t u : ArgType) → sameType t u ≡ false → Fits names t → Fits names u → Fits names (joinApart w t u)
   unfolding joinApart legalAtBase sameType compare
   apart-fits (Primitive j) (Primitive k) n h i =
-      primitive-fits names j k (leb-true j 10 h) (leb-true k 10 i) (λ e. true≢false (sym (same-primitive j k e) ∙ n))
+      primitive-fits names j k (leb-true j 10 h) (leb-true k 10 i) (λ e. true≢false (sym (same-exactly (Primitive j) (Primitive k) .1 (ap Primitive e)) ∙ n))
   apart-fits (Primitive j) (Object d) n h i = union-fits names (Primitive j) (Object d)
   apart-fits (Primitive j) (Array u) n h i = union-fits names (Primitive j) (Array u)
   apart-fits (Primitive j) (Unknown ds) n h i = known-fits names (Primitive j) ds h
@@ -259,6 +130,16 @@ module _ (w : World) where
   unfolding join
   join-depth t u = by-cond (λ (v : ArgType). depth v ≤ max (depth t) (depth u)) (sameType t u) t (joinApart w t u) (omega arith) (apart-depth t u)
 
+  pub joinFrom-depth : (n : ℕ) (t : ArgType) (ts : List ArgType) → depth t ≤ n → ((u : ArgType) → List·Memᴰ u ts → depth u ≤ n) → depth (joinFrom w t ts) ≤ n
+  unfolding joinFrom
+  joinFrom-depth n t [] h all = h
+  joinFrom-depth n t (u ∷ ts) h all =
+      joinFrom-depth n (join w t u) ts (let d = join-depth t u in let i = all u (List·Memᴰ·head refl) in omega arith) (λ v m. all v (List·Memᴰ·tail m))
+
+pub hint-depth : (object : ℕ) (t u : ArgType) → concreteHint object t ≡ some u → depth u ≤ depth t
+unfolding depth
+hint-depth object = hint-by (λ (t u : ArgType). depth u ≤ depth t) object (λ t c. omega arith) (omega arith) (λ c k. omega arith)
+
 -- ---- both together
 
 module _ (names : ℕ) (t : ArgType) where
@@ -282,3 +163,34 @@ module _ (w : World) (g : Good (w .view)) where
       let p = legal-depth n t h in
       let q = legal-depth n u i in
       legal-both n (join w t u) (omega arith) (join-fits w g t u (legal-base n t h) (legal-base n u i))
+
+  -- ---- of a list: each member legal, so is the join
+
+  pub joinFrom-legal : (t : ArgType) (ts : List ArgType) → legalType (w .view .names) t ≡ true
+      → ((u : ArgType) → List·Memᴰ u ts → legalType (w .view .names) u ≡ true) → legalType (w .view .names) (joinFrom w t ts) ≡ true
+  unfolding joinFrom
+  joinFrom-legal t [] h all = h
+  joinFrom-legal t (u ∷ ts) h all = joinFrom-legal (join w t u) ts (join-legal t u h (all u (List·Memᴰ·head refl))) (λ v m. all v (List·Memᴰ·tail m))
+
+  pub joinAll-legal : (ts : List ArgType) (v : ArgType) → joinAll w ts ≡ some v
+      → ((u : ArgType) → List·Memᴰ u ts → legalType (w .view .names) u ≡ true) → legalType (w .view .names) v ≡ true
+  unfolding joinAll
+  joinAll-legal [] v h all = absurd (let z : _≡_ {A = ℕ} 0 1 = cc in omega arith)
+  joinAll-legal (t ∷ ts) v h all =
+      subst (λ (u : ArgType). legalType (w .view .names) u ≡ true) (let r : joinFrom w t ts ≡ v = cc in r)
+      (joinFrom-legal t ts (all t (List·Memᴰ·head refl)) (λ u m. all u (List·Memᴰ·tail m)))
+
+  -- ---- hints
+
+  pub hint-legal : (t u : ArgType) → concreteHint (w .view .object) t ≡ some u → legalType (w .view .names) t ≡ true → legalType (w .view .names) u ≡ true
+  unfolding depth legalAtBase
+  hint-legal =
+      let n = w .view .names in
+      hint-by (λ (t u : ArgType). legalType n t ≡ true → legalType n u ≡ true) (w .view .object)
+      (λ t c h. h)
+      (λ h. legal-both n (Object (w .view .object)) (omega arith) (lt-ltb (w .view .object) n (g .object-in)))
+      (λ c k h. legal-both n (Primitive c) (omega arith) (le-leb c 10 (distinct-first c [] (legal-base n (Unknown (c ∷ [])) h))))
+
+  pub specific-legal : (upper : List ArgType) (u : ArgType) → mostSpecificUpper w upper ≡ some u
+      → ((t : ArgType) → List·Memᴰ t upper → legalType (w .view .names) t ≡ true) → legalType (w .view .names) u ≡ true
+  specific-legal upper u h all = let c = specific-hint w upper u h in hint-legal (c .0) u (c .2) (all (c .0) (c .1))

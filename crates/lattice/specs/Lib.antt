@@ -3,6 +3,9 @@ pub mod Lattice
 pub mod Jls
 pub mod Examples
 pub mod World
+pub mod References
+pub mod Hints
+pub mod Fits
 pub mod Legality
 pub mod Unions
 pub mod JoinTable
