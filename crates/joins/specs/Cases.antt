@@ -1,31 +1,28 @@
 -- What the functions on words go by: one law for each case of a join that the code meets. Assumes nothing.
-use mathlib.Core.Path.{_≡_, refl, sym, ap, ap₂, _∙_, subst}
-use mathlib.Core.Bool.{Bool, true, false, cond, _&&_, true≢false}
-use mathlib.Core.List.{List, [], _∷_}
-use mathlib.Core.Option.{Option, some, none}
-use Prim.Native.Nat.{ℕ, zero, suc, _+_, _-_, _*_, _/_, _%_, _^_, _≤_, _<_}
+use mathlib.Core.Path.{_≡_, refl, sym, ap, ap₂, _∙_}
+use mathlib.Core.Bool.{Bool, true, false, cond, _&&_, false≢true}
+use mathlib.Core.List.{List, []}
+use mathlib.Core.Option.{some}
+use Prim.Native.Nat.{ℕ, _+_, _-_, _^_, _≤_, _<_}
 use native.Mathlib.Omega.{arith}
-use lib.Dec.{eqb, leb, ltb}
+use lib.Dec.{leb}
 use borrow.Author.Tests.{eq-eqb, ne-eqb, eqb-true, eqb-false, ltb-true, leb-true, leb-false}
 use Rattle.ty.specs.Types.{ArgType, Primitive, Object, Array, Unknown, categories, isKnown, isPrimitive, isArray}
 use Rattle.ty.specs.Words.{tagOf, loadOf, typeOf, wordOf, legalWord, legalType, Legal}
-use Rattle.ty.specs.Round.{word-of-type, legal-of-word, type-of-word, legal-of-type, word-fits, legal-more}
+use Rattle.ty.specs.Round.{word-of-type, legal-of-word, word-fits, legal-more}
 use Rattle.ty.specs.Shape.{type-array, word-deeper, legal-element}
 use Rattle.ty.specs.Steps.{known-flat, primitive-array, primitive-flat, array-test, type-primitive, type-object, legal-category, check-object}
-use Rattle.view.specs.View.{View, supertype, numberOf}
+use Rattle.view.specs.View.{supertype, numberOf}
 use Rattle.view.specs.Reach.{Good}
 use Rattle.view.specs.Ancestors.{ancestor-below}
 use Rattle.view.specs.Supertype.{supertype-some, supertype-least}
-use Rattle.hierarchy.specs.Table.{parentView, view-good}
+use Rattle.hierarchy.specs.Table.{view-good}
 use Rattle.lattice.specs.declared.Numbers.{Numbers}
 use Rattle.lattice.specs.Lattice.{World, unknownUnion, inBoth, orFull, joinKnown, classOr, joinApart, join}
 use Rattle.lattice.specs.Legality.{join-legal}
 use Rattle.lattice.specs.JoinTable.{cell, join-categories}
 use Rattle.lattice.specs.JoinCases.{joinArrayOther, join-same, join-apart, apart-unknowns, apart-right-unknown, apart-left-unknown, apart-left-array, apart-right-array, arrays-left, arrays-right, arrays-both, apart-classes, apart-left-primitive, apart-right-primitive}
-use Rattle.joins.specs.Joins.{parentWorld, Fits, Joinable, Apart, Known, Base, bothArrays}
-
-no : {P : Type 0} → false ≡ true → P
-no e = absurd (true≢false (sym e))
+use Rattle.joins.specs.Joins.{parentWorld, Fits, Known, Base, bothArrays}
 
 -- ---- words by their types
 
@@ -34,7 +31,7 @@ module _ (w : ℕ) where
   flat e = go (leb (2 ^ 56) w) refl
     where
       go : (b : Bool) → leb (2 ^ 56) w ≡ b → w < 2 ^ 56
-      go true q = no (sym e ∙ sym (array-test w) ∙ q)
+      go true q = absurd (false≢true (sym e ∙ sym (array-test w) ∙ q))
       go false q = leb-false (2 ^ 56) w q
 
   pub array-high : isArray (typeOf w) ≡ true → 2 ^ 56 ≤ w
@@ -44,7 +41,7 @@ module _ (w : ℕ) where
   primitive-low e = go (leb (2 ^ 56) w) refl
     where
       go : (b : Bool) → leb (2 ^ 56) w ≡ b → (w < 2 ^ 56) × (tagOf w ≡ 0)
-      go true q = no (primitive-array w (leb-true (2 ^ 56) w q) ∙ e)
+      go true q = absurd (false≢true (primitive-array w (leb-true (2 ^ 56) w q) ∙ e))
       go false q = let l = leb-false (2 ^ 56) w q in (l, eqb-true (tagOf w) 0 (primitive-flat w l ∙ e))
 
   pub primitive-load : isPrimitive (typeOf w) ≡ true → typeOf w ≡ Primitive (loadOf w)
@@ -87,7 +84,7 @@ module _ (left right : ℕ) where
     where
       go : (b : Bool) → isArray (typeOf left) ≡ b → (b && isArray (typeOf right)) ≡ true → (2 ^ 56 ≤ left) × (2 ^ 56 ≤ right)
       go true e q = (array-high left e, array-high right q)
-      go false e q = no q
+      go false e q = absurd (false≢true q)
 
 -- ---- an array and a known type that is none
 
@@ -97,11 +94,10 @@ class-type object h =
     ∙ ap Object (let e : loadOf (2 ^ 48 + object) ≡ object = omega arith in e)
 
 module _ (object array other : ℕ) where
-  pub array-object : object < 1024 → other ≡ 2 ^ 48 + object → other ≡ wordOf (joinArrayOther object (typeOf array) (typeOf other))
+  pub array-object : object < 1024 → other ≡ 2 ^ 48 + object → 2 ^ 48 + object ≡ wordOf (joinArrayOther object (typeOf array) (typeOf other))
   unfolding joinArrayOther wordOf
   array-object h e =
-      e
-      ∙ sym
+      sym
       (ap (λ (u : ArgType). wordOf (joinArrayOther object (typeOf array) u)) (ap typeOf e ∙ class-type object h)
       ∙ ap (λ (b : Bool). wordOf (cond b (Object object) (unknownUnion (typeOf array) (Object object)))) (eq-eqb object object refl))
 
@@ -239,12 +235,15 @@ module _ (pairs : List ℕ) (n : Numbers) (fits : Fits n) where
         word-arrays-right h = types (Object (n .classes .object)) (arrays-right world (typeOf (left - 2 ^ 56)) (typeOf (right - 2 ^ 56)) h)
 
         module _ (h : isPrimitive (typeOf (left - 2 ^ 56)) ≡ false) (k : isPrimitive (typeOf (right - 2 ^ 56)) ≡ false) where
-          pub word-arrays : wordOf element + 2 ^ 56 ≡ answer
-          word-arrays = sym (word-deeper element) ∙ types (Array element) (arrays-both world (typeOf (left - 2 ^ 56)) (typeOf (right - 2 ^ 56)) h k)
+          pub word-arrays : (e : ℕ) → e ≡ wordOf element → e + 2 ^ 56 ≡ answer
+          word-arrays e is =
+              ap (λ (x : ℕ). x + 2 ^ 56) is
+              ∙ sym (word-deeper element)
+              ∙ types (Array element) (arrays-both world (typeOf (left - 2 ^ 56)) (typeOf (right - 2 ^ 56)) h k)
 
-          pub arrays-fit : left < 2 ^ 64 → right < 2 ^ 64 → wordOf element + 2 ^ 56 < 2 ^ 64
-          arrays-fit f g =
-              let e = word-arrays in
+          pub arrays-fit : (e : ℕ) → e ≡ wordOf element → left < 2 ^ 64 → right < 2 ^ 64 → e + 2 ^ 56 < 2 ^ 64
+          arrays-fit e is f g =
+              let q = word-arrays e is in
               let m = fits .0 in
               let w = word-fits (n .classes .names) (join world (typeOf left) (typeOf right)) (omega arith) (answer-type f g) in
               omega arith

@@ -1,19 +1,17 @@
 -- What the join of a list goes by: the first word, the next one, the end; and that every join on the way is a legal word.
 -- Assumes nothing.
-use mathlib.Core.Path.{_≡_, refl, sym, ap, _∙_}
+use mathlib.Core.Path.{_≡_, refl}
 use mathlib.Core.Bool.{true}
 use mathlib.Core.List.{List, [], _∷_, map}
-use mathlib.Core.Option.{Option, some, none}
-use Prim.Native.Nat.{ℕ, zero, suc, _+_, _^_, _≤_, _<_}
+use mathlib.Core.Option.{some, none}
+use Prim.Native.Nat.{ℕ, _+_, _^_, _≤_, _<_}
 use native.Mathlib.Numerals.{add-one}
 use native.Mathlib.Omega.{arith}
 use lib.ListN.{length, getD, drop, drop-of-length-le}
 use lib.Seq.{drop-cons}
-use Rattle.ty.specs.declared.MaybeType.the-variants.{Is, Nothing}
 use Rattle.ty.specs.Types.{ArgType}
 use Rattle.ty.specs.Words.{typeOf, wordOf, legalWord}
-use Rattle.ty.specs.Answers.{word, maybeWord}
-use Rattle.ty.specs.Round.{word-of-type, type-of-word, legal-of-type}
+use Rattle.ty.specs.Round.{type-of-word, legal-of-type}
 use Rattle.lattice.specs.declared.Numbers.{Numbers}
 use Rattle.lattice.specs.Lattice.{World, join, joinFrom, joinAll}
 use Rattle.joins.specs.Joins.{parentWorld, Fits}

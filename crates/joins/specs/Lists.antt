@@ -1,5 +1,5 @@
 -- What the functions on lists of categories go by: one law for each case that the code meets. Assumes nothing.
-use mathlib.Core.Path.{_≡_, refl, sym, ap, ap₂, _∙_, subst}
+use mathlib.Core.Path.{_≡_, refl, sym, ap, ap₂, _∙_}
 use mathlib.Core.Bool.{Bool, true, false, cond, true≢false}
 use mathlib.Core.List.{List, [], _∷_}
 use Prim.Native.Nat.{ℕ, zero, suc, _+_, _-_, _*_, _/_, _%_, _^_, _≤_, _<_}
@@ -11,13 +11,13 @@ use lib.ListN.{length, take, length-take}
 use lib.Pow.{pow-add}
 use borrow.Author.Tests.{eq-eqb, ne-eqb, ltb-true, ltb-false}
 use Rattle.sets.specs.Sets.{bit}
-use Rattle.ty.specs.Types.{ArgType, Unknown, elem, categories, maskWith, isKnown}
+use Rattle.ty.specs.Types.{ArgType, categories, maskWith, isKnown}
 use Rattle.ty.specs.Words.{tagOf, loadOf, unpack, pack, listOf, typeOf, wordOf, Legal}
-use Rattle.ty.specs.Answers.{unknownWord, unknownType, constants}
+use Rattle.ty.specs.Answers.{unknownWord, constants}
 use Rattle.ty.specs.Digits.{Digits, pack-lt}
-use Rattle.ty.specs.Round.{listLoad, word-of-type}
+use Rattle.ty.specs.Round.{listLoad}
 use Rattle.ty.specs.Shape.{type-array}
-use Rattle.ty.specs.Steps.{restOf, rest-all, rest-step, rest-none, known-array, known-flat, type-primitive, type-object, type-unknown, legal-category, mask-array}
+use Rattle.ty.specs.Steps.{restOf, rest-all, rest-step, rest-none, known-array, known-flat, type-primitive, type-object, type-unknown}
 use Rattle.keys.specs.Parts.{unknown-length}
 use Rattle.lattice.specs.Lattice.{unknownAccepts, unknownUnion, inBoth, orFull, joinKnown}
 use Rattle.lattice.specs.Unions.{has, kept, from, has-mask, kept-both, kept-ascending, kept-length, kept-digits}

@@ -1,14 +1,14 @@
 -- A join reads no marks: over the whole tables it is the join over the parents alone, which the contracts speak of.
 -- Assumes nothing.
-use mathlib.Core.Path.{_≡_, refl, ap, ap₂, _∙_}
+use mathlib.Core.Path.{_≡_, refl, ap, _∙_}
 use mathlib.Core.Bool.{cond}
 use mathlib.Core.List.{List, [], _∷_}
-use mathlib.Core.Option.{Option, some, none}
+use mathlib.Core.Option.{some}
 use Prim.Native.Nat.{ℕ}
 use Rattle.ty.specs.Types.{ArgType, Primitive, Object, Array, Unknown}
 use Rattle.hierarchy.specs.Marks.{supertype-marks}
 use Rattle.lattice.specs.declared.Numbers.{Numbers}
-use Rattle.lattice.specs.Lattice.{sameType, unknownUnion, classOr, joinElements, joinArrayClass, joinApart, join, joinFrom, joinAll}
+use Rattle.lattice.specs.Lattice.{sameType, classOr, joinElements, joinArrayClass, joinApart, join, joinFrom, joinAll}
 use Rattle.lattice.specs.World.{worldOf}
 use Rattle.joins.specs.Joins.{parentWorld}
 

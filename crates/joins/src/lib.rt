@@ -191,7 +191,7 @@ fn keep(load: u64, c: u64, is_kept: bool) -> u64
 // The payload of the members of a list that the set has, in the list's order: from the last to the first.
 fn keep_members(load: u64, set: u64) -> u64
     requires { ⌜ load / 2 ^ 44 ≤ 11 ⌝ }
-    ensures { λ r. ⌜ r ≡ listLoad (kept set (listOf load)) ⌝ }
+    ensures { λ r. ⌜ (r ≡ listLoad (kept set (listOf load))) × (r < 2 ^ 48) ⌝ }
 {
     let mut i = load / 17592186044416;
     let mut found: u64 = 0;
@@ -261,7 +261,7 @@ fn join_array(object: u64, array: TypeWord, other: TypeWord) -> TypeWord
     ensures { λ r. ⌜ r .word ≡ wordOf (joinArrayOther object (typeOf (array .word)) (typeOf (other .word))) ⌝ }
 {
     if other.word == 281474976710656 + object {
-        return other;
+        return TypeWord::object(object);
     }
     unknown_union(array, other)
 }

@@ -1,6 +1,6 @@
 -- The join by what its two types are, one law for each case that code on words meets. Assumes nothing.
 use mathlib.Core.Path.{_≡_, refl, sym, ap, ap₂, _∙_}
-use mathlib.Core.Bool.{Bool, true, false, cond, _||_, true≢false}
+use mathlib.Core.Bool.{Bool, true, false, cond, _||_, true≢false, false≢true}
 use mathlib.Core.List.{List, [], _∷_}
 use Prim.Native.Nat.{ℕ, zero, suc}
 use lib.Dec.{eqb}
@@ -10,9 +10,6 @@ use Rattle.ty.specs.Types.{ArgType, Primitive, Object, Array, Unknown, elem, co
 use Rattle.ty.specs.Order.{compare-same, compare-equal}
 use Rattle.view.specs.View.{supertype}
 use Rattle.lattice.specs.Lattice.{World, isEqual, sameType, unknownAccepts, ascending, unknownUnion, joinPrimitive, inBoth, orFull, joinKnown, classOr, joinElements, joinArrayClass, joinApart, join}
-
-no : {P : Type 0} → false ≡ true → P
-no e = absurd (true≢false (sym e))
 
 -- ---- equal, or not
 
@@ -57,25 +54,17 @@ union-categories t u v e = ap (λ (ds : List ℕ). Unknown (ascending (categorie
 
 -- ---- with an Unknown
 
+abbrev first : List ℕ → ℕ
+first [] = 0
+first (c ∷ cs) = c
+
 -- a known type has one category, which an Unknown accepts or does not
 pub accepts-category : (cs : List ℕ) (t : ArgType) (k : ℕ) → isKnown t ≡ true → categories t ≡ k ∷ [] → unknownAccepts cs t ≡ elem k cs
 unfolding unknownAccepts isKnown categories
 accepts-category cs (Primitive j) k h e = ap (λ (l : List ℕ). elem (first l) cs) e
-  where
-    first : List ℕ → ℕ
-    first [] = 0
-    first (x ∷ xs) = x
 accepts-category cs (Object c) k h e = ap (λ (l : List ℕ). elem (first l) cs) e
-  where
-    first : List ℕ → ℕ
-    first [] = 0
-    first (x ∷ xs) = x
 accepts-category cs (Array t) k h e = ap (λ (l : List ℕ). elem (first l) cs) e
-  where
-    first : List ℕ → ℕ
-    first [] = 0
-    first (x ∷ xs) = x
-accepts-category cs (Unknown ds) k h e = no h
+accepts-category cs (Unknown ds) k h e = absurd (false≢true h)
 
 pub known-accepted : (t : ArgType) (cs : List ℕ) → unknownAccepts cs t ≡ true → joinKnown t cs ≡ t
 unfolding joinKnown
@@ -89,32 +78,32 @@ module _ (w : World) where
   pub apart-unknowns : (t u : ArgType) → isKnown t ≡ false → isKnown u ≡ false → joinApart w t u ≡ orFull (inBoth (categories t) (categories u))
   unfolding joinApart isKnown categories
   apart-unknowns (Unknown cs) (Unknown ds) h k = refl
-  apart-unknowns (Primitive j) u h k = no (sym h)
-  apart-unknowns (Object c) u h k = no (sym h)
-  apart-unknowns (Array t) u h k = no (sym h)
-  apart-unknowns (Unknown cs) (Primitive j) h k = no (sym k)
-  apart-unknowns (Unknown cs) (Object d) h k = no (sym k)
-  apart-unknowns (Unknown cs) (Array u) h k = no (sym k)
+  apart-unknowns (Primitive j) u h k = absurd (true≢false h)
+  apart-unknowns (Object c) u h k = absurd (true≢false h)
+  apart-unknowns (Array t) u h k = absurd (true≢false h)
+  apart-unknowns (Unknown cs) (Primitive j) h k = absurd (true≢false k)
+  apart-unknowns (Unknown cs) (Object d) h k = absurd (true≢false k)
+  apart-unknowns (Unknown cs) (Array u) h k = absurd (true≢false k)
 
   pub apart-right-unknown : (t u : ArgType) → isKnown t ≡ true → isKnown u ≡ false → joinApart w t u ≡ joinKnown t (categories u)
   unfolding joinApart isKnown categories
   apart-right-unknown (Primitive j) (Unknown ds) h k = refl
   apart-right-unknown (Object c) (Unknown ds) h k = refl
   apart-right-unknown (Array t) (Unknown ds) h k = refl
-  apart-right-unknown (Unknown cs) (Unknown ds) h k = no h
-  apart-right-unknown t (Primitive j) h k = no (sym k)
-  apart-right-unknown t (Object d) h k = no (sym k)
-  apart-right-unknown t (Array u) h k = no (sym k)
+  apart-right-unknown (Unknown cs) (Unknown ds) h k = absurd (false≢true h)
+  apart-right-unknown t (Primitive j) h k = absurd (true≢false k)
+  apart-right-unknown t (Object d) h k = absurd (true≢false k)
+  apart-right-unknown t (Array u) h k = absurd (true≢false k)
 
   pub apart-left-unknown : (t u : ArgType) → isKnown t ≡ false → isKnown u ≡ true → joinApart w t u ≡ joinKnown u (categories t)
   unfolding joinApart isKnown categories
   apart-left-unknown (Unknown cs) (Primitive j) h k = refl
   apart-left-unknown (Unknown cs) (Object d) h k = refl
   apart-left-unknown (Unknown cs) (Array u) h k = refl
-  apart-left-unknown (Unknown cs) (Unknown ds) h k = no k
-  apart-left-unknown (Primitive j) u h k = no (sym h)
-  apart-left-unknown (Object c) u h k = no (sym h)
-  apart-left-unknown (Array t) u h k = no (sym h)
+  apart-left-unknown (Unknown cs) (Unknown ds) h k = absurd (false≢true k)
+  apart-left-unknown (Primitive j) u h k = absurd (true≢false h)
+  apart-left-unknown (Object c) u h k = absurd (true≢false h)
+  apart-left-unknown (Array t) u h k = absurd (true≢false h)
 
 -- ---- an array and a known type that is none
 
@@ -130,31 +119,31 @@ module _ (w : World) where
   unfolding joinApart isArray isKnown joinArrayOther joinArrayClass
   apart-left-array (Array t) (Primitive k) h a b = refl
   apart-left-array (Array t) (Object d) h a b = refl
-  apart-left-array (Array t) (Array u) h a b = no (sym b)
-  apart-left-array (Array t) (Unknown ds) h a b = no a
-  apart-left-array (Primitive j) u h a b = no h
-  apart-left-array (Object c) u h a b = no h
-  apart-left-array (Unknown cs) u h a b = no h
+  apart-left-array (Array t) (Array u) h a b = absurd (true≢false b)
+  apart-left-array (Array t) (Unknown ds) h a b = absurd (false≢true a)
+  apart-left-array (Primitive j) u h a b = absurd (false≢true h)
+  apart-left-array (Object c) u h a b = absurd (false≢true h)
+  apart-left-array (Unknown cs) u h a b = absurd (false≢true h)
 
   pub apart-right-array : (t u : ArgType) → isArray u ≡ true → isKnown t ≡ true → isArray t ≡ false → joinApart w t u ≡ joinArrayOther (w .view .object) u t
   unfolding joinApart isArray isKnown joinArrayOther joinArrayClass
   apart-right-array (Primitive k) (Array u) h a b = union-swap (Primitive k) (Array u)
   apart-right-array (Object d) (Array u) h a b =
       ap (cond (eqb d (w .view .object)) (Object (w .view .object))) (union-swap (Object d) (Array u))
-  apart-right-array (Array t) (Array u) h a b = no (sym b)
-  apart-right-array (Unknown ds) (Array u) h a b = no a
-  apart-right-array t (Primitive j) h a b = no h
-  apart-right-array t (Object c) h a b = no h
-  apart-right-array t (Unknown cs) h a b = no h
+  apart-right-array (Array t) (Array u) h a b = absurd (true≢false b)
+  apart-right-array (Unknown ds) (Array u) h a b = absurd (false≢true a)
+  apart-right-array t (Primitive j) h a b = absurd (false≢true h)
+  apart-right-array t (Object c) h a b = absurd (false≢true h)
+  apart-right-array t (Unknown cs) h a b = absurd (false≢true h)
 
   -- ---- two arrays
 
   pub arrays-left : (t u : ArgType) → isPrimitive t ≡ true → joinApart w (Array t) (Array u) ≡ Object (w .view .object)
   unfolding joinApart isPrimitive joinElements
   arrays-left (Primitive k) u h = refl
-  arrays-left (Object c) u h = no h
-  arrays-left (Array t) u h = no h
-  arrays-left (Unknown cs) u h = no h
+  arrays-left (Object c) u h = absurd (false≢true h)
+  arrays-left (Array t) u h = absurd (false≢true h)
+  arrays-left (Unknown cs) u h = absurd (false≢true h)
 
   pub arrays-right : (t u : ArgType) → isPrimitive u ≡ true → joinApart w (Array t) (Array u) ≡ Object (w .view .object)
   unfolding joinApart isPrimitive joinElements
@@ -162,16 +151,16 @@ module _ (w : World) where
   arrays-right (Object c) (Primitive j) h = refl
   arrays-right (Array t) (Primitive j) h = refl
   arrays-right (Unknown cs) (Primitive j) h = refl
-  arrays-right t (Object d) h = no h
-  arrays-right t (Array u) h = no h
-  arrays-right t (Unknown ds) h = no h
+  arrays-right t (Object d) h = absurd (false≢true h)
+  arrays-right t (Array u) h = absurd (false≢true h)
+  arrays-right t (Unknown ds) h = absurd (false≢true h)
 
   elements-both : (object : ℕ) (t u whole : ArgType) → isPrimitive t ≡ false → isPrimitive u ≡ false → joinElements object t u whole ≡ Array whole
   unfolding isPrimitive joinElements
-  elements-both object (Primitive k) u whole h g = no (sym h)
-  elements-both object (Object c) (Primitive k) whole h g = no (sym g)
-  elements-both object (Array t) (Primitive k) whole h g = no (sym g)
-  elements-both object (Unknown cs) (Primitive k) whole h g = no (sym g)
+  elements-both object (Primitive k) u whole h g = absurd (true≢false h)
+  elements-both object (Object c) (Primitive k) whole h g = absurd (true≢false g)
+  elements-both object (Array t) (Primitive k) whole h g = absurd (true≢false g)
+  elements-both object (Unknown cs) (Primitive k) whole h g = absurd (true≢false g)
   elements-both object (Object c) (Object d) whole h g = refl
   elements-both object (Object c) (Array u) whole h g = refl
   elements-both object (Object c) (Unknown ds) whole h g = refl

@@ -1,6 +1,6 @@
 -- The join of two primitives, by their categories, and a rule of a table of rows: it holds at every entry where one test, which
 -- computes, passes. Assumes nothing.
-use mathlib.Core.Path.{_≡_, refl, sym, subst, _∙_}
+use mathlib.Core.Path.{_≡_, refl, sym, ap, subst, _∙_}
 use mathlib.Core.Bool.{Bool, true, false, cond}
 use mathlib.Core.List.{List, [], _∷_}
 use Prim.Native.Nat.{ℕ, zero, suc, _+_, _<_}
@@ -22,6 +22,11 @@ join-categories w left right = refl
 -- the word of a cell
 unfoldable pub cell : ℕ → ℕ → ℕ
 cell left right = wordOf (joinCategories left right)
+
+-- THE CELL IS THE JOIN of two primitives, over any classes
+pub cell-join : (w : World) (left right : ℕ) → cell left right ≡ wordOf (join w (Primitive left) (Primitive right))
+unfolding cell
+cell-join w left right = sym (ap wordOf (join-categories w left right))
 
 -- ---- a table of rows of n, each entry as the rule g says
 

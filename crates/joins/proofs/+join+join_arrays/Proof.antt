@@ -1,6 +1,5 @@
 -- `join` and `join_arrays` meet their contracts: each turn of the two takes a dimension off. Assumes nothing.
-use borrow.Author.Needs.{needs}
-use mathlib.Core.Path.{_≡_, sym, ap, _∙_}
+use mathlib.Core.Path.{_≡_, sym, _∙_}
 use native.Mathlib.Omega.{arith}
 use Rattle.ty.specs.Words.{dimsOf}
 use Rattle.joins.specs.Cases.{object-lt-1024, word-same, arrays-high, legal-elements, word-arrays-left, word-arrays-right, word-arrays, arrays-fit}
@@ -132,16 +131,14 @@ join-arrays-add-t8 : (t : ℕ) → join-arrays-lts.Need-add-t8 (array-claims t) 
 join-arrays-add-t8 t c =
     let a = c .before .before .before .before .before .before .before .before .before .args in
     let p = c .before .before .before .before .before .before .before .before .before .pre .1 in
-    let j = c .before .join .ensures in
-    let f = arrays-fit (a .pairs .now) (a .n) (p .0 .0 .0) (a .left .word) (a .right .word) (p .0 .0 .1) (p .0 .0 .2) (p .0 .1) (p .1) (p .2) (sym (c .before .before .before .before .before .is-primitive .ensures) ∙ c .before .before .before .before .if1 .left) (sym (c .before .before .before .is-primitive2 .ensures) ∙ c .before .before .if2 .left) (omega arith) (omega arith) in
+    let f = arrays-fit (a .pairs .now) (a .n) (p .0 .0 .0) (a .left .word) (a .right .word) (p .0 .0 .1) (p .0 .0 .2) (p .0 .1) (p .1) (p .2) (sym (c .before .before .before .before .before .is-primitive .ensures) ∙ c .before .before .before .before .if1 .left) (sym (c .before .before .before .is-primitive2 .ensures) ∙ c .before .before .if2 .left) (c .before .join .result .word) (c .before .join .ensures) (omega arith) (omega arith) in
     omega arith
 
 join-arrays-returns-3 : (t : ℕ) → join-arrays-lts.Need-returns-3 (array-claims t) (join-arrays-at t) join-arrays.Post
 join-arrays-returns-3 t c =
     let a = c .before .before .before .before .before .before .before .before .before .args in
     let p = c .before .before .before .before .before .before .before .before .before .pre .1 in
-    ap (λ (x : ℕ). x + 2 ^ 56) (c .before .join .ensures)
-    ∙ word-arrays (a .pairs .now) (a .n) (p .0 .0 .0) (a .left .word) (a .right .word) (p .0 .0 .1) (p .0 .0 .2) (p .0 .1) (p .1) (p .2) (sym (c .before .before .before .before .before .is-primitive .ensures) ∙ c .before .before .before .before .if1 .left) (sym (c .before .before .before .is-primitive2 .ensures) ∙ c .before .before .if2 .left)
+    word-arrays (a .pairs .now) (a .n) (p .0 .0 .0) (a .left .word) (a .right .word) (p .0 .0 .1) (p .0 .0 .2) (p .0 .1) (p .1) (p .2) (sym (c .before .before .before .before .before .is-primitive .ensures) ∙ c .before .before .before .before .if1 .left) (sym (c .before .before .before .is-primitive2 .ensures) ∙ c .before .before .if2 .left) (c .before .join .result .word) (c .before .join .ensures)
 
 pub +join+join-arrays-spec : {M : Type 1} → statement M
 +join+join-arrays-spec = close μ-join μ-join-arrays (λ t. join-lts.spec (claims t)

@@ -7,7 +7,7 @@ use mathlib.Core.Option.{some}
 use Prim.Native.Nat.{ℕ, _+_, _-_, _≤_, _<_, _^_}
 use native.Mathlib.Omega.{arith}
 use lib.ListN.{length, getD}
-use Rattle.ty.specs.Words.{typeOf, wordOf, legalWord}
+use Rattle.ty.specs.Words.{typeOf, legalWord}
 use Rattle.ty.specs.declared.MaybeType.the-variants.{Is}
 use Rattle.ty.specs.Types.{ArgType}
 use Rattle.ty.specs.Answers.{word, maybeWord}

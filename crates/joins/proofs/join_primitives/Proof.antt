@@ -1,15 +1,16 @@
 -- `join_primitives` meets its contract: every cell of the table is the join of its row and its column, by one test. Assumes nothing.
 use mathlib.Core.List.{List, [], _∷_}
 use Prim.Native.Nat.{ℕ}
+use lib.Dec.{T}
 use Rattle.ty.specs.Types.{elem, compareNumbers, compare}
 use Rattle.ty.specs.Words.{pack, wordOf}
 use Rattle.lattice.specs.Lattice.{sameType, narrow, underDouble, joinPrimitive}
-use Rattle.lattice.specs.JoinTable.{joinCategories, cell, rule}
+use Rattle.lattice.specs.JoinTable.{joinCategories, cell, every, row, rule}
 use borrow.Author.Needs.{needs}
 use Rattle.joins.proofs.join_primitives.Statement.{statement}
 use Rattle.joins.proofs.join_primitives.Tie as tie
 
--- the table once more, for one test over all its cells
+-- the table once more
 joins : List (List ℕ)
 joins =
     (0 ∷ 598203044986880 ∷ 598271764463616 ∷ 598340483940352 ∷ 598409203417088 ∷ 598477922893824 ∷ 598546642370560 ∷ 598615361847296 ∷ 598684081324032 ∷ 598752800800768 ∷ 598821520277504 ∷ [])
@@ -25,6 +26,11 @@ joins =
     ∷ (609129441787904 ∷ 609198161264640 ∷ 609266880741376 ∷ 609335600218112 ∷ 609404319694848 ∷ 609473039171584 ∷ 609541758648320 ∷ 609610478125056 ∷ 609679197601792 ∷ 609747917078528 ∷ 10 ∷ [])
     ∷ []
 
+-- ONE TEST over its 121 cells
+tested : T (every (row 11 cell) 0 joins)
+unfolding joins cell joinCategories sameType compare compareNumbers joinPrimitive narrow underDouble elem wordOf pack
+tested = tt
+
 mul-t17 : tie.Need-mul-t17
 mul-t17 c = search needs
 
@@ -38,8 +44,8 @@ index-2-t23 : tie.Need-index-2-t23
 index-2-t23 c = search needs
 
 returns : tie.Need-returns
-unfolding joins cell joinCategories sameType compare compareNumbers joinPrimitive narrow underDouble elem wordOf pack
-returns c = rule 11 cell joins [] tt (c .before .args .left) (c .before .args .right) (c .before .pre .0) (c .before .pre .1)
+unfolding joins
+returns c = rule 11 cell joins [] tested (c .before .args .left) (c .before .args .right) (c .before .pre .0) (c .before .pre .1)
 
 pub join-primitives-spec : {M : Type 1} → statement M
 join-primitives-spec = tie.close (tie.spec mul-t17 mul-t20 index-1-t23 index-2-t23 returns)

@@ -1,12 +1,15 @@
 -- `keep_members` meets its contract. Invariant: what was found is what is kept of the members from i on. Assumes nothing.
 use borrow.Author.Needs.{needs}
-use mathlib.Core.Path.{_≡_, sym, ap, _∙_}
-use Prim.Native.Nat.{ℕ, _+_, _-_, _*_, _/_, _%_, _^_, _≤_, _<_}
+use mathlib.Core.Path.{_≡_, ap, _∙_}
+use Prim.Native.Nat.{ℕ, _/_, _%_, _^_, _≤_}
 use native.Mathlib.Omega.{arith}
 use mathlib.Core.Bool.{cond}
 use lib.Dec.{eqb}
+use Rattle.ty.specs.Words.{listOf}
+use Rattle.ty.specs.Round.{listLoad}
+use Rattle.lattice.specs.Unions.{kept}
 use Rattle.joins.specs.Joins.{withFirst}
-use Rattle.joins.specs.Lists.{keptFrom, kept-start, kept-step, kept-lt, kept-all}
+use Rattle.joins.specs.Lists.{keptFrom, kept-start, kept-step, kept-lt, kept-all, kept-fits}
 use Rattle.joins.proofs.keep_members.Statement.{statement}
 use Rattle.joins.proofs.keep_members.Tie as tie
 
@@ -55,7 +58,8 @@ returns : tie.Need-returns Inv-loop μ-loop
 returns c =
     let a = c .before .before .args in
     let l = c .before .loop in
-    l .inv .1 ∙ ap (keptFrom (a .load) (a .set)) (let e : l .i ≡ 0 = omega arith in e) ∙ kept-all (a .load) (a .set)
+    let e : l .found ≡ listLoad (kept (a .set) (listOf (a .load))) = l .inv .1 ∙ ap (keptFrom (a .load) (a .set)) (let z : l .i ≡ 0 = omega arith in z) ∙ kept-all (a .load) (a .set) in
+    (e, omega (arith, kept-fits (a .load) (a .set) (c .before .before .pre)))
 
 pub keep-members-spec : {M : Type 1} → statement M
 keep-members-spec =

@@ -1,10 +1,8 @@
 -- `unknown_union` meets its contract: of the eleven categories those that are in either set. Assumes nothing.
-use mathlib.Core.Path.{_≡_, ap, _∙_}
+use mathlib.Core.Path.{ap, _∙_}
 use Prim.Native.Nat.{ℕ, _+_, _*_, _^_}
-use native.Mathlib.Omega.{arith}
-use lib.Bits.{bitOr}
 use Rattle.ty.specs.Words.{typeOf}
-use Rattle.joins.specs.Lists.{kept-fits, union-word}
+use Rattle.joins.specs.Lists.{union-word}
 use borrow.Author.Needs.{needs}
 use Rattle.joins.proofs.unknown_union.Statement.{statement}
 use Rattle.joins.proofs.unknown_union.Tie as tie
@@ -19,15 +17,12 @@ keep-members-requires : tie.Need-keep-members-requires
 keep-members-requires c κs = search needs
 
 add-t4 : tie.Need-add-t4
-add-t4 c =
-    let k = kept-fits 0xb0123456789a (bitOr (c .before .before .categories .result) (c .before .categories2 .result)) (omega arith) in
-    let e = c .keep-members .ensures in
-    omega arith
+add-t4 c = search needs
 
 returns : tie.Need-returns
 returns c =
     let a = c .before .before .before .args in
-    ap (λ (x : ℕ). 2 * 2 ^ 48 + x) (c .keep-members .ensures)
+    ap (λ (x : ℕ). 2 * 2 ^ 48 + x) (c .keep-members .ensures .0)
     ∙ union-word (typeOf (a .left .word)) (typeOf (a .right .word)) _ _ (c .before .before .categories .ensures) (c .before .categories2 .ensures)
 
 pub unknown-union-spec : {M : Type 1} → statement M
