@@ -21,7 +21,9 @@ is-assignable-requires : tie.Need-is-assignable-requires
 is-assignable-requires c κs =
     let s = c .before .before .before .before in
     let legal = joinable-legal (s .args .n) (s .args .left) (s .args .right) (s .pre .1) in
-    (s .pre .0, legal .0, legal .1)
+    let left = legal .0 in
+    let right = legal .1 in
+    search needs
 
 flag-requires : tie.Need-flag-requires
 flag-requires c κs = search needs
