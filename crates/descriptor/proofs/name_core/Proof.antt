@@ -37,14 +37,14 @@ returns-3 c =
     let e = c .before .before .before .before .find-end in
     ap coreOf (name-bad (a .s .now) (a .at) (a .dims) (e .result) (c .before .before .before .before .before .before .pre .0) (e .ensures) (c .before .before .before .if1 .left) (c .before .before .if2 .left) (c .before .valid-up-to .result) (c .before .valid-up-to .ensures) (c .if3 .taken))
 
-mul-t9 : tie.Need-mul-t9
-mul-t9 c = search needs
+mul-t14 : tie.Need-mul-t14
+mul-t14 c = search needs
 
-add-t10 : tie.Need-add-t10
-add-t10 c = search needs
+add-t15 : tie.Need-add-t15
+add-t15 c = search needs
 
-add-t7 : tie.Need-add-t7
-add-t7 c =
+add-t16 : tie.Need-add-t16
+add-t16 c =
     let a = c .before .before .before .before .before .before .args in
     let e = c .before .before .before .before .find-end in
     let i = name-inside (a .s .now) (a .at) (a .dims) (e .result) (c .before .before .before .before .before .before .pre .0) (e .ensures) in omega arith
@@ -61,11 +61,11 @@ name-core-spec =
     (tie.spec
     add-from
     find-end-requires
+    valid-up-to-requires
+    mul-t14
+    add-t15
+    add-t16
     returns
     returns-2
-    valid-up-to-requires
     returns-3
-    mul-t9
-    add-t10
-    add-t7
     returns-4)
