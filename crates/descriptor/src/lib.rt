@@ -139,7 +139,7 @@ fn name_core(s: &[u8], at: usize, dims: u64) -> Core
     } else if end == from {
         Core { what: 14, at: at }
     } else {
-        let valid = utf8::valid_up_to(s, from, end);
+        let valid = utf8::valid_up_to(&s[0..], from, end);
         if valid < end {
             Core {
                 what: 12,
