@@ -3,7 +3,7 @@
 use std::collections::HashSet;
 
 /// No line is longer, so that a reader can have a fixed buffer.
-pub const MAX_BYTES: usize = 400;
+pub const MAX_BYTES: usize = 2048;
 
 pub struct Out {
     name: &'static str,
@@ -33,11 +33,6 @@ impl Out {
     pub fn case(&mut self, arguments: &[u64], answer: &[u64]) {
         let fits = self.tokens_if_short(&numbers(arguments), &numbers(answer));
         assert!(fits, "{} {arguments:x?}", self.name);
-    }
-
-    /// Writes one case unless it would make too long a line.
-    pub fn case_if_short(&mut self, arguments: &[u64], answer: &[u64]) {
-        self.tokens_if_short(&numbers(arguments), &numbers(answer));
     }
 
     /// Writes one case of tokens unless it would make too long a line; whether it fits.
