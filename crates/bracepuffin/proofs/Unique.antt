@@ -18,6 +18,16 @@ use Rattle.bracepuffin.proofs.bp_write_method.Reads as bp-write-method-
 use Rattle.bracepuffin.proofs.bp_write_method.Kinds as bp-write-method-kinds
 use Rattle.bracepuffin.proofs.bp_lookup.Reads as bp-lookup-reads
 use Rattle.bracepuffin.proofs.bp_lookup.Kinds as bp-lookup-kinds
+use Rattle.bracepuffin.proofs.bp_relation.Reads as bp-relation-reads
+use Rattle.bracepuffin.proofs.bp_relation.Kinds as bp-relation-kinds
+use Rattle.bracepuffin.proofs.bp_distance.Reads as bp-distance-reads
+use Rattle.bracepuffin.proofs.bp_distance.Kinds as bp-distance-kinds
+use Rattle.bracepuffin.proofs.bp_ancestors.Reads as bp-ancestors-reads
+use Rattle.bracepuffin.proofs.bp_ancestors.Kinds as bp-ancestors-kinds
+use Rattle.bracepuffin.proofs.bp_supertype.Reads as bp-supertype-reads
+use Rattle.bracepuffin.proofs.bp_supertype.Kinds as bp-supertype-kinds
+use Rattle.bracepuffin.proofs.bp_cast.Reads as bp-cast-reads
+use Rattle.bracepuffin.proofs.bp_cast.Kinds as bp-cast-kinds
 
 pub bp-read-type-one : (κs : Lfts 1) (a : Dens κs bp-read-type-kinds.ps) (r₁ r₂ : resT bp-read-type-kinds.r κs .Denot) (x₁ x₂ : AtExit (endedOf 1 bp-read-type-kinds.ps bp-read-type-kinds.r) κs)
     → bp-read-type-reads.Post κs a r₁ x₁ → bp-read-type-reads.Post κs a r₂ x₂ → r₁ ≡ r₂
@@ -46,3 +56,23 @@ bp-write-method-one κs a r₁ r₂ x₁ x₂ p q = (p .result ∙ sym (q .resul
 pub bp-lookup-one : (κs : Lfts 4) (a : Dens κs bp-lookup-kinds.ps) (r₁ r₂ : resT bp-lookup-kinds.r κs .Denot) (x₁ x₂ : AtExit (endedOf 4 bp-lookup-kinds.ps bp-lookup-kinds.r) κs)
     → bp-lookup-reads.Post κs a r₁ x₁ → bp-lookup-reads.Post κs a r₂ x₂ → r₁ ≡ r₂
 bp-lookup-one κs a r₁ r₂ x₁ x₂ p q = p ∙ sym q
+
+pub bp-relation-one : (κs : Lfts 9) (a : Dens κs bp-relation-kinds.ps) (r₁ r₂ : resT bp-relation-kinds.r κs .Denot) (x₁ x₂ : AtExit (endedOf 9 bp-relation-kinds.ps bp-relation-kinds.r) κs)
+    → bp-relation-reads.Post κs a r₁ x₁ → bp-relation-reads.Post κs a r₂ x₂ → (r₁ ≡ r₂) × (now (x₁ .1 .1 .1 .1 .1 .1 .1 .1 .1 .1 .0) ≡ now (x₂ .1 .1 .1 .1 .1 .1 .1 .1 .1 .1 .0))
+bp-relation-one κs a r₁ r₂ x₁ x₂ p q = (p .result ∙ sym (q .result), p .memory ∙ sym (q .memory))
+
+pub bp-distance-one : (κs : Lfts 9) (a : Dens κs bp-distance-kinds.ps) (r₁ r₂ : resT bp-distance-kinds.r κs .Denot) (x₁ x₂ : AtExit (endedOf 9 bp-distance-kinds.ps bp-distance-kinds.r) κs)
+    → bp-distance-reads.Post κs a r₁ x₁ → bp-distance-reads.Post κs a r₂ x₂ → (r₁ ≡ r₂) × (now (x₁ .1 .1 .1 .1 .1 .1 .1 .1 .1 .1 .0) ≡ now (x₂ .1 .1 .1 .1 .1 .1 .1 .1 .1 .1 .0))
+bp-distance-one κs a r₁ r₂ x₁ x₂ p q = (p .result ∙ sym (q .result), p .memory ∙ sym (q .memory))
+
+pub bp-ancestors-one : (κs : Lfts 9) (a : Dens κs bp-ancestors-kinds.ps) (r₁ r₂ : resT bp-ancestors-kinds.r κs .Denot) (x₁ x₂ : AtExit (endedOf 9 bp-ancestors-kinds.ps bp-ancestors-kinds.r) κs)
+    → bp-ancestors-reads.Post κs a r₁ x₁ → bp-ancestors-reads.Post κs a r₂ x₂ → (r₁ ≡ r₂) × (now (x₁ .1 .1 .1 .1 .1 .1 .1 .1 .1 .0) ≡ now (x₂ .1 .1 .1 .1 .1 .1 .1 .1 .1 .0))
+bp-ancestors-one κs a r₁ r₂ x₁ x₂ p q = (p .result ∙ sym (q .result), p .memory ∙ sym (q .memory))
+
+pub bp-supertype-one : (κs : Lfts 9) (a : Dens κs bp-supertype-kinds.ps) (r₁ r₂ : resT bp-supertype-kinds.r κs .Denot) (x₁ x₂ : AtExit (endedOf 9 bp-supertype-kinds.ps bp-supertype-kinds.r) κs)
+    → bp-supertype-reads.Post κs a r₁ x₁ → bp-supertype-reads.Post κs a r₂ x₂ → (r₁ ≡ r₂) × (now (x₁ .1 .1 .1 .1 .1 .1 .1 .1 .1 .1 .0) ≡ now (x₂ .1 .1 .1 .1 .1 .1 .1 .1 .1 .1 .0))
+bp-supertype-one κs a r₁ r₂ x₁ x₂ p q = (p .result ∙ sym (q .result), p .memory ∙ sym (q .memory))
+
+pub bp-cast-one : (κs : Lfts 9) (a : Dens κs bp-cast-kinds.ps) (r₁ r₂ : resT bp-cast-kinds.r κs .Denot) (x₁ x₂ : AtExit (endedOf 9 bp-cast-kinds.ps bp-cast-kinds.r) κs)
+    → bp-cast-reads.Post κs a r₁ x₁ → bp-cast-reads.Post κs a r₂ x₂ → (r₁ ≡ r₂) × (now (x₁ .1 .1 .1 .1 .1 .1 .1 .1 .1 .1 .0) ≡ now (x₂ .1 .1 .1 .1 .1 .1 .1 .1 .1 .1 .0))
+bp-cast-one κs a r₁ r₂ x₁ x₂ p q = (p .result ∙ sym (q .result), p .memory ∙ sym (q .memory))

@@ -12,10 +12,16 @@ use Rattle.descriptor.specs.declared.Read.the-variants.{Found, Refused}
 use Rattle.descriptor.specs.declared.MethodRead.{MethodRead}
 use Rattle.descriptor.specs.Method.{Method}
 use Rattle.descriptor.specs.Answers.{methodAnswer}
+use Rattle.queries.specs.declared.Answer.{Answer}
+use Rattle.queries.specs.declared.Ancestors.{Ancestors}
+use Rattle.queries.specs.Queries.{workAfter}
 use Rattle.bracepuffin.specs.declared.BpType.{BpType}
 use Rattle.bracepuffin.specs.declared.BpMethod.{BpMethod}
 use Rattle.bracepuffin.specs.declared.BpWritten.{BpWritten}
 use Rattle.bracepuffin.specs.declared.BpFound.{BpFound}
+use Rattle.bracepuffin.specs.declared.BpRelation.{BpRelation}
+use Rattle.bracepuffin.specs.declared.BpAnswer.{BpAnswer}
+use Rattle.bracepuffin.specs.declared.BpSet.{BpSet}
 
 -- tag 0 a primitive by its category, tag 1 a class by the place of its name
 abbrev pub typeFound : ℕ → Base → BpType
@@ -50,3 +56,19 @@ pub record Wrote (refusal : ℕ) (printed out out′ : List ℕ) (r : BpWritten)
 
 abbrev pub foundAnswer : LookedUp → BpFound
 foundAnswer f = record { refusal = f .refusal; «class_no» = f .«class_no» }
+
+-- ---- what is asked of classes
+
+abbrev pub relationAnswer : Answer → BpRelation
+relationAnswer a = record { refusal = a .refusal; relation = a .value }
+
+abbrev pub numberAnswer : Answer → BpAnswer
+numberAnswer a = record { refusal = a .refusal; value = a .value }
+
+abbrev pub setAnswer : Ancestors → BpSet
+setAnswer a = record { refusal = a .refusal; count = a .count; lowest = a .lowest; words = a .set .words }
+
+-- what a question promises of its result and of the work at its end
+pub record Told {A : Type 0} (answer : A) (work work′ : List ℕ) (r : A) : Type 0 where
+  pub result : r ≡ answer
+  pub memory : work′ ≡ workAfter work

@@ -8,17 +8,25 @@ use descriptor::read_strict;
 use descriptor::read_whole;
 use names::LookedUp;
 use names::look_up;
+use queries::Ancestors;
+use queries::Answer;
+use queries::Query;
+use queries::ancestors_of;
+use queries::ask;
 use writer::Written;
 use writer::write_method;
 use writer::write_type;
 ghost use mathlib.Core.Path.{_≡_};
-ghost use mathlib.Core.Bool.{true, false};
+ghost use mathlib.Core.Bool.{true, false, cond};
+ghost use mathlib.Core.List.{[], _∷_};
 ghost use lib.ListN.{length};
 ghost use Rattle.descriptor.specs.Read.{readWhole, readStrict};
 ghost use Rattle.descriptor.specs.Answers.{methodOf, paramsAfter};
 ghost use Rattle.names.specs.Names.{lookUp};
 ghost use Rattle.writer.specs.Print.{printWord, printMethodWords, typeRefusal, methodRefusal};
-ghost use Rattle.bracepuffin.specs.Boundary.{typeFound, typeAnswer, methodResult, bpMethod, foundAnswer, writtenAnswer, Wrote};
+ghost use Rattle.view.specs.View.{relation, relationNumber, distance, numberOf, ancestors, supertype, cast};
+ghost use Rattle.queries.specs.Queries.{given, viewIn, queryRefusal, answered, gathered};
+ghost use Rattle.bracepuffin.specs.Boundary.{typeFound, typeAnswer, methodResult, bpMethod, foundAnswer, writtenAnswer, Wrote, relationAnswer, numberAnswer, setAnswer, Told};
 
 #[repr(C)]
 pub struct BpType {
@@ -56,6 +64,26 @@ pub struct BpWritten {
 pub struct BpFound {
     pub refusal: u64,
     pub class_no: u64,
+}
+
+#[repr(C)]
+pub struct BpRelation {
+    pub refusal: u64,
+    pub relation: u64,
+}
+
+#[repr(C)]
+pub struct BpAnswer {
+    pub refusal: u64,
+    pub value: u64,
+}
+
+#[repr(C)]
+pub struct BpSet {
+    pub refusal: u64,
+    pub count: u64,
+    pub lowest: u64,
+    pub words: [u64; 16],
 }
 
 // ---- descriptors, read
@@ -223,4 +251,199 @@ pub extern "C" fn bp_lookup(names: &[u8], name_at: &[u64], name_len: &[u64], key
     ensures { λ r. ⌜ r ≡ foundAnswer (lookUp (now (names .entry)) (now («name_at» .entry)) (now («name_len» .entry)) (now (key .entry))) ⌝ }
 {
     found_answer(look_up(names, name_at, name_len, key))
+}
+
+// ---- classes
+
+fn relation_answer(a: Answer) -> BpRelation
+    ensures { λ r. ⌜ r ≡ relationAnswer a ⌝ }
+{
+    BpRelation {
+        refusal: a.refusal,
+        relation: a.value,
+    }
+}
+
+fn number_answer(a: Answer) -> BpAnswer
+    ensures { λ r. ⌜ r ≡ numberAnswer a ⌝ }
+{
+    BpAnswer {
+        refusal: a.refusal,
+        value: a.value,
+    }
+}
+
+fn set_answer(a: Ancestors) -> BpSet
+    ensures { λ r. ⌜ r ≡ setAnswer a ⌝ }
+{
+    let s = a.set;
+    let words = s.words;
+    BpSet {
+        refusal: a.refusal,
+        count: a.count,
+        lowest: a.lowest,
+        words: words,
+    }
+}
+
+#[no_mangle]
+pub extern "C" fn bp_relation(
+    names: &[u8],
+    name_at: &[u64],
+    name_len: &[u64],
+    rec_flags: &[u64],
+    rec_class: &[u64],
+    rec_at: &[u64],
+    rec_len: &[u64],
+    parents: &[u64],
+    value: u64,
+    expected: u64,
+    work: &mut [u64],
+) -> BpRelation
+    ensures { λ r. ⌜ Told (relationAnswer (answered (queryRefusal (given (now (names .entry)) (now («name_at» .entry)) (now («name_len» .entry)) (now («rec_flags» .entry)) (now («rec_class» .entry)) (now («rec_at» .entry)) (now («rec_len» .entry)) (now (parents .entry))) (value ∷ expected ∷ []) (length (now (work .entry)))) (relationNumber (relation (viewIn (given (now (names .entry)) (now («name_at» .entry)) (now («name_len» .entry)) (now («rec_flags» .entry)) (now («rec_class» .entry)) (now («rec_at» .entry)) (now («rec_len» .entry)) (now (parents .entry)))) value expected)))) (now (work .entry)) (now (work .exit)) r ⌝ }
+{
+    let a = ask(
+        names,
+        name_at,
+        name_len,
+        rec_flags,
+        rec_class,
+        rec_at,
+        rec_len,
+        parents,
+        Query::Relation,
+        value,
+        expected,
+        work,
+    );
+    relation_answer(a)
+}
+
+#[no_mangle]
+pub extern "C" fn bp_distance(
+    names: &[u8],
+    name_at: &[u64],
+    name_len: &[u64],
+    rec_flags: &[u64],
+    rec_class: &[u64],
+    rec_at: &[u64],
+    rec_len: &[u64],
+    parents: &[u64],
+    value: u64,
+    expected: u64,
+    work: &mut [u64],
+) -> BpAnswer
+    ensures { λ r. ⌜ Told (numberAnswer (answered (queryRefusal (given (now (names .entry)) (now («name_at» .entry)) (now («name_len» .entry)) (now («rec_flags» .entry)) (now («rec_class» .entry)) (now («rec_at» .entry)) (now («rec_len» .entry)) (now (parents .entry))) (value ∷ expected ∷ []) (length (now (work .entry)))) (numberOf (distance (viewIn (given (now (names .entry)) (now («name_at» .entry)) (now («name_len» .entry)) (now («rec_flags» .entry)) (now («rec_class» .entry)) (now («rec_at» .entry)) (now («rec_len» .entry)) (now (parents .entry)))) value expected)))) (now (work .entry)) (now (work .exit)) r ⌝ }
+{
+    let a = ask(
+        names,
+        name_at,
+        name_len,
+        rec_flags,
+        rec_class,
+        rec_at,
+        rec_len,
+        parents,
+        Query::Distance,
+        value,
+        expected,
+        work,
+    );
+    number_answer(a)
+}
+
+#[no_mangle]
+pub extern "C" fn bp_ancestors(
+    names: &[u8],
+    name_at: &[u64],
+    name_len: &[u64],
+    rec_flags: &[u64],
+    rec_class: &[u64],
+    rec_at: &[u64],
+    rec_len: &[u64],
+    parents: &[u64],
+    class_no: u64,
+    work: &mut [u64],
+) -> BpSet
+    ensures { λ r. ⌜ Told (setAnswer (gathered (queryRefusal (given (now (names .entry)) (now («name_at» .entry)) (now («name_len» .entry)) (now («rec_flags» .entry)) (now («rec_class» .entry)) (now («rec_at» .entry)) (now («rec_len» .entry)) (now (parents .entry))) («class_no» ∷ []) (length (now (work .entry)))) (ancestors (viewIn (given (now (names .entry)) (now («name_at» .entry)) (now («name_len» .entry)) (now («rec_flags» .entry)) (now («rec_class» .entry)) (now («rec_at» .entry)) (now («rec_len» .entry)) (now (parents .entry)))) «class_no»))) (now (work .entry)) (now (work .exit)) r ⌝ }
+{
+    let a = ancestors_of(
+        names,
+        name_at,
+        name_len,
+        rec_flags,
+        rec_class,
+        rec_at,
+        rec_len,
+        parents,
+        class_no,
+        work,
+    );
+    set_answer(a)
+}
+
+#[no_mangle]
+pub extern "C" fn bp_supertype(
+    names: &[u8],
+    name_at: &[u64],
+    name_len: &[u64],
+    rec_flags: &[u64],
+    rec_class: &[u64],
+    rec_at: &[u64],
+    rec_len: &[u64],
+    parents: &[u64],
+    left: u64,
+    right: u64,
+    work: &mut [u64],
+) -> BpAnswer
+    ensures { λ r. ⌜ Told (numberAnswer (answered (queryRefusal (given (now (names .entry)) (now («name_at» .entry)) (now («name_len» .entry)) (now («rec_flags» .entry)) (now («rec_class» .entry)) (now («rec_at» .entry)) (now («rec_len» .entry)) (now (parents .entry))) (left ∷ right ∷ []) (length (now (work .entry)))) (numberOf (supertype (viewIn (given (now (names .entry)) (now («name_at» .entry)) (now («name_len» .entry)) (now («rec_flags» .entry)) (now («rec_class» .entry)) (now («rec_at» .entry)) (now («rec_len» .entry)) (now (parents .entry)))) left right)))) (now (work .entry)) (now (work .exit)) r ⌝ }
+{
+    let a = ask(
+        names,
+        name_at,
+        name_len,
+        rec_flags,
+        rec_class,
+        rec_at,
+        rec_len,
+        parents,
+        Query::Supertype,
+        left,
+        right,
+        work,
+    );
+    number_answer(a)
+}
+
+#[no_mangle]
+pub extern "C" fn bp_cast(
+    names: &[u8],
+    name_at: &[u64],
+    name_len: &[u64],
+    rec_flags: &[u64],
+    rec_class: &[u64],
+    rec_at: &[u64],
+    rec_len: &[u64],
+    parents: &[u64],
+    source: u64,
+    target: u64,
+    work: &mut [u64],
+) -> BpAnswer
+    ensures { λ r. ⌜ Told (numberAnswer (answered (queryRefusal (given (now (names .entry)) (now («name_at» .entry)) (now («name_len» .entry)) (now («rec_flags» .entry)) (now («rec_class» .entry)) (now («rec_at» .entry)) (now («rec_len» .entry)) (now (parents .entry))) (source ∷ target ∷ []) (length (now (work .entry)))) (cond (cast (viewIn (given (now (names .entry)) (now («name_at» .entry)) (now («name_len» .entry)) (now («rec_flags» .entry)) (now («rec_class» .entry)) (now («rec_at» .entry)) (now («rec_len» .entry)) (now (parents .entry)))) source target) 1 0))) (now (work .entry)) (now (work .exit)) r ⌝ }
+{
+    let a = ask(
+        names,
+        name_at,
+        name_len,
+        rec_flags,
+        rec_class,
+        rec_at,
+        rec_len,
+        parents,
+        Query::Cast,
+        source,
+        target,
+        work,
+    );
+    number_answer(a)
 }

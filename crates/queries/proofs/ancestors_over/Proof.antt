@@ -1,0 +1,60 @@
+-- `ancestors_over` meets its contract: the refusal, or the ancestors over the table.
+use borrow.Author.Needs.{needs}
+use mathlib.Core.Path.{_∙_}
+use Rattle.queries.specs.Queries.{given}
+use Rattle.queries.specs.Laws.{query-once, gathered-none, gathered-all, ancestors-ready}
+use Rattle.queries.proofs.ancestors_over.Statement.{statement}
+use Rattle.queries.proofs.ancestors_over.Tie as tie
+
+open-table-requires : tie.Need-open-table-requires
+open-table-requires c κs = search needs
+
+none-gathered-requires : tie.Need-none-gathered-requires
+none-gathered-requires c κs = search needs
+
+same-length : tie.Need-same-length
+same-length c = search needs
+
+same-length-2 : tie.Need-same-length-2
+same-length-2 c = search needs
+
+returns : tie.Need-returns
+returns c =
+    let a = c .before .before .before .before .before .before .before .before .before .before .before .before .before .before .before .before .before .before .before .before .args in
+    let o = c .before .before .before .before .before .before .before .open-table in
+    c .none-gathered .ensures ∙ gathered-none (o .result .refusal) _ _ (o .ensures .refusal-is ∙ query-once (given (a .names .now) (a .ats .now) (a .lens .now) (a .flags .now) (a .classes .now) (a .starts .now) (a .sizes .now) (a .parents .now)) (a .class)) (c .before .if1 .taken)
+
+ancestors-requires : tie.Need-ancestors-requires
+ancestors-requires c κs = search needs
+
+gather-requires : tie.Need-gather-requires
+gather-requires c κs = search needs
+
+same-length-3 : tie.Need-same-length-3
+same-length-3 c = search needs
+
+same-length-4 : tie.Need-same-length-4
+same-length-4 c = search needs
+
+returns-2 : tie.Need-returns-2
+returns-2 c =
+    let a = c .before .before .before .before .before .before .before .before .before .before .before .before .before .before .before .before .before .before .before .before .before .before .args in
+    let o = c .before .before .before .before .before .before .before .before .before .open-table in
+    let none = c .before .before .before .if1 .left in
+    c .gather .ensures
+    ∙ gathered-all (o .result .refusal) _ _ _ (o .ensures .refusal-is ∙ query-once (given (a .names .now) (a .ats .now) (a .lens .now) (a .flags .now) (a .classes .now) (a .starts .now) (a .sizes .now) (a .parents .now)) (a .class)) none (ancestors-ready (o .ensures .ready none) (a .class) _ (c .before .ancestors .ensures))
+
+pub ancestors-over-spec : {M : Type 1} → statement M
+ancestors-over-spec =
+    tie.close
+    (tie.spec
+    open-table-requires
+    none-gathered-requires
+    same-length
+    same-length-2
+    returns
+    ancestors-requires
+    gather-requires
+    same-length-3
+    same-length-4
+    returns-2)

@@ -1,0 +1,50 @@
+-- `ask_over` meets its contract: the refusal, or the answer over the table.
+use borrow.Author.Needs.{needs}
+use Rattle.queries.specs.Laws.{answered-none, answered-value, value-ready}
+use Rattle.queries.proofs.ask_over.Statement.{statement}
+use Rattle.queries.proofs.ask_over.Tie as tie
+
+open-table-requires : tie.Need-open-table-requires
+open-table-requires c κs = search needs
+
+same-length : tie.Need-same-length
+same-length c = search needs
+
+same-length-2 : tie.Need-same-length-2
+same-length-2 c = search needs
+
+returns : tie.Need-returns
+returns c =
+    let o = c .before .before .before .before .before .before .open-table in
+    answered-none (o .result .refusal) _ _ (o .ensures .refusal-is) (c .if1 .taken)
+
+value-of-requires : tie.Need-value-of-requires
+value-of-requires c κs =
+    let r = c .before .before .before .before .before .before .before .before .open-table .ensures .ready (c .before .before .if1 .left) in
+    (r .wide, r .few, r .object-in, r .left-in, r .right-in)
+
+same-length-3 : tie.Need-same-length-3
+same-length-3 c = search needs
+
+same-length-4 : tie.Need-same-length-4
+same-length-4 c = search needs
+
+returns-2 : tie.Need-returns-2
+returns-2 c =
+    let a = c .before .before .before .before .before .before .before .before .before .before .before .before .before .before .before .before .before .before .before .before .before .before .args in
+    let o = c .before .before .before .before .before .before .before .before .before .open-table in
+    let none = c .before .before .before .if1 .left in
+    answered-value (o .result .refusal) _ _ _ (o .ensures .refusal-is) none (value-ready (o .ensures .ready none) (a .q) _ (c .value-of .ensures))
+
+pub ask-over-spec : {M : Type 1} → statement M
+ask-over-spec =
+    tie.close
+    (tie.spec
+    open-table-requires
+    same-length
+    same-length-2
+    returns
+    value-of-requires
+    same-length-3
+    same-length-4
+    returns-2)
