@@ -3,6 +3,8 @@
 use crate::report::UNREAD;
 use crate::text;
 use crate::text::Number;
+ghost use mathlib.Core.Path.{_≡_};
+ghost use lib.ListN.{length};
 
 // The place of the name among the names; how many numbers there are, and how many of them are arguments.
 pub struct Case {
@@ -107,6 +109,13 @@ fn field(r: Reading, word: &[u8], numbers: &mut [u64], store: &mut [u8]) -> Read
         return bytes(r, &word[1..], numbers, store);
     }
     number(r, word, numbers)
+}
+
+// Room for a whole input. The contract gives the length, which lending the array needs.
+pub fn room() -> [u8; 524288]
+    ensures { λ r. ⌜ 524288 ≡ length r ⌝ }
+{
+    [0; 524288]
 }
 
 // Whether a line is to be a case.

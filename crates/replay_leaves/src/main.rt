@@ -68,7 +68,7 @@ fn run(input: &mut [u8], counts: &mut [u64]) {
 }
 
 fn main() {
-    let mut input = [0u8; 524288];
+    let mut input = cases::room();
     let mut counts = [0u64; 128];
     run(&mut input, &mut counts);
 }

@@ -2,6 +2,7 @@
 
 pub const LEAVES: &str = include_str!("../../../crates/replay_leaves/stdin");
 pub const DESCRIPTORS: &str = include_str!("../../../crates/replay_descriptors/stdin");
+pub const TABLES: &str = include_str!("../../../crates/replay_tables/stdin");
 
 /// Every file, in the order of the recorder's.
-pub const FILES: [&str; 2] = [LEAVES, DESCRIPTORS];
+pub const FILES: [&str; 3] = [LEAVES, DESCRIPTORS, TABLES];

@@ -7,6 +7,7 @@ mod descriptors;
 pub mod out;
 mod sets;
 mod sorted;
+mod tables;
 mod types;
 
 pub use judge::rng;
@@ -77,8 +78,18 @@ const DESCRIPTORS: &[Function] = &[
     function("utf8", "bytes = length of the longest whole valid prefix", "std::str::from_utf8", descriptors::utf8),
 ];
 
+#[rustfmt::skip]
+const TABLES: &[Function] = &[
+    function("table", "room names flags class at len parents = refusal of the ancestors of class 0", "rules", tables::tables),
+    function("pair", "a b = refusal relation distance supertype cast of a and b over the last table: relation 0 yes, 1 no, 2 unknown", "subtype_relation, distances, least_common_supertype, is_cast_convertible of ClassHierarchyIndex in hierarchy.rs; rules for refusals", with_the_table),
+    function("ancestors", "class = refusal count lowest and the list of words of the set of its ancestors, without the zeros at its end", "ancestor_names of ClassHierarchyIndex; rules for refusals", with_the_table),
+];
+
+/// For a function whose lines stand after those of the tables that they are about.
+fn with_the_table(_: &mut Rng, _: &mut Out) {}
+
 /// Every file that can be recorded.
-pub static FILES: [File; 2] = [
+pub static FILES: [File; 3] = [
     File {
         name: "leaves",
         about: "\
@@ -99,6 +110,19 @@ pub static FILES: [File; 2] = [
             # too long for a line; the tests of host/bracepuffin have them.\n",
         most_tokens: 400,
         functions: DESCRIPTORS,
+    },
+    File {
+        name: "tables",
+        about: "\
+            # Numbers are lower-case hex without leading zeros. A list: the length, then the members. names: the\n\
+            # bytes that names are cut from (one token, x and two digits a byte), the list of their places, the list\n\
+            # of their lengths. flags, class, at, len: a list each, an entry a record; parents: the list that records\n\
+            # cut theirs from. room: how many working words are lent. A table holds until the next one. A refused\n\
+            # answer has its number, then zeros. ffffffffffffffff: no answer.\n\
+            # rules: those of the scope paper, written apart in host/judge/src/classes.rs. Tables that pass the\n\
+            # limits (8) are too long for a line; the tests of host/bracepuffin have them.\n",
+        most_tokens: 1600,
+        functions: TABLES,
     },
 ];
 

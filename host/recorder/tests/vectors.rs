@@ -2,7 +2,7 @@
 
 use std::collections::{BTreeMap, BTreeSet};
 
-use judge::stored::{DESCRIPTORS, LEAVES};
+use judge::stored::{DESCRIPTORS, LEAVES, TABLES};
 use recorder::out::{bytes, MAX_BYTES};
 use recorder::{record, File, FILES};
 
@@ -97,11 +97,17 @@ fn every_line_keeps_the_format() {
 fn functions_are_grouped_in_the_order_of_the_table() {
     for (file, text) in stored() {
         let mut names: Vec<&str> = cases(text).map(|(name, ..)| name).collect();
-        names.dedup();
-        let listed = file.functions.iter().map(|function| function.name);
-        assert_eq!(names, listed.collect::<Vec<_>>());
-        for name in names {
-            assert!((1..=8).contains(&name.len()));
+        let listed = Vec::from_iter(file.functions.iter().map(|function| function.name));
+        match file.name {
+            // What is asked about a table stands after it.
+            "tables" => assert!(names.iter().all(|name| listed.contains(name))),
+            _ => {
+                names.dedup();
+                assert_eq!(names, listed);
+            }
+        }
+        for name in listed {
+            assert!(!name.is_empty());
             let is_letter = |byte: u8| byte == b'_' || byte.is_ascii_lowercase();
             assert!(name
                 .bytes()
@@ -117,8 +123,9 @@ fn every_function_has_hundreds_of_cases_and_no_rare_answer() {
         for (name, _, answer) in cases(text) {
             *shares.entry(name).or_default().entry(answer).or_default() += 1;
         }
-        // All pairs of types stand in one line.
+        // All pairs of types stand in one line, and there are fewer tables than questions about them.
         shares.remove("pairs");
+        shares.remove("table");
         for (name, shares) in shares {
             assert!(shares.values().sum::<usize>() >= 390, "{name}");
             assert!(shares.len() >= 2, "{name}");
@@ -129,6 +136,34 @@ fn every_function_has_hundreds_of_cases_and_no_rare_answer() {
             );
         }
     }
+}
+
+/// What is told apart about tables, each many times.
+#[test]
+fn every_answer_about_tables_occurs() {
+    let many = |function: &str, place: usize, expected: &str, least: usize| {
+        let mut shares = BTreeMap::<u64, usize>::new();
+        for (_, _, answer) in cases(TABLES).filter(|(name, ..)| *name == function) {
+            let answer = numbers(answer);
+            // A refused answer counts under its refusal alone.
+            if place == 0 || answer[0] == 0 {
+                *shares.entry(answer[place]).or_default() += 1;
+            }
+        }
+        for answer in numbers(expected) {
+            let share = shares.get(&answer).copied().unwrap_or(0);
+            assert!(share >= least, "{function} {place} {answer:x}: {share}");
+        }
+        shares.len()
+    };
+    let refusals = "0 3 5 6 9 a 16";
+    for function in ["table", "pair", "ancestors"] {
+        assert_eq!(many(function, 0, refusals, 4), numbers(refusals).len());
+    }
+    // Relation, distance, cast.
+    assert_eq!(many("pair", 1, "0 1 2", 500), 3);
+    many("pair", 2, "0 1 2 3 3fffffffffffffff ffffffffffffffff", 20);
+    assert_eq!(many("pair", 4, "0 1", 500), 2);
 }
 
 /// The refusals that a function of descriptors can give in a line, each more than once.
@@ -278,6 +313,10 @@ fn telling_lines_are_there() {
         "w_type x6162 1 ffffffffffffffff 1 2 5 28 = 3 x",
         "lookup x 0 0 x = 17 0",
         "utf8 xeda080 = 0",
+        // Object alone is its own ancestor
+        "table 2000 x6a6176612f6c616e672f4f626a656374 1 0 1 10 0 0 0 0 0 = 0",
+        "pair 0 0 = 0 0 0 0 1",
+        "ancestors 0 = 0 1 0 1 1",
     ];
     for line in expected {
         assert!(lines.contains(line), "{line}");

@@ -1,0 +1,179 @@
+//! What the boundary must answer about classes: the rules of the paper for what is refused, and hierarchy.rs for the
+//! answer to everything that is not.
+
+use std::collections::BTreeSet;
+
+use dexdec::hierarchy::{
+    self, ClassHierarchyIndex, ReferenceTypeInfo, SubtypeRelation, TypeHierarchy,
+};
+
+use crate::paper::Table;
+
+pub const WORK: usize = 8192;
+pub const MAX_PARENTS: u64 = 254;
+pub const MAX_PAIRS: usize = 4096;
+pub const OBJECT: &str = "java/lang/Object";
+
+const NONE: u64 = u64::MAX;
+
+/// A class table as it is lent: record i has flags, a class, and `len[i]` entries of `parents` from `at[i]` on.
+#[derive(Debug, Clone, Default, PartialEq, Eq)]
+pub struct Classes {
+    pub names: Table,
+    pub flags: Vec<u64>,
+    pub class: Vec<u64>,
+    pub at: Vec<u64>,
+    pub len: Vec<u64>,
+    pub parents: Vec<u64>,
+}
+
+impl Classes {
+    /// These names, ascending, and no record.
+    pub fn of<T: AsRef<[u8]>>(names: &[T]) -> Self {
+        Self {
+            names: Table::of(names),
+            ..Self::default()
+        }
+    }
+
+    pub fn push(&mut self, flags: u64, class: u64, parents: &[u64]) {
+        self.flags.push(flags);
+        self.class.push(class);
+        self.at.push(self.parents.len() as u64);
+        self.len.push(parents.len() as u64);
+        self.parents.extend_from_slice(parents);
+    }
+
+    fn parents_of(&self, row: usize) -> Option<&[u64]> {
+        let at = usize::try_from(self.at[row]).ok()?;
+        let len = usize::try_from(self.len[row]).ok()?;
+        self.parents.get(at..at.checked_add(len)?)
+    }
+
+    /// The names, if all rows are sound; else the first refusal in row order.
+    pub fn names(&self) -> Result<Vec<String>, u64> {
+        let records = self.flags.len();
+        let equal = self.class.len() == records && self.at.len() == records;
+        if self.names.at.len() != self.names.len.len() || !equal || self.len.len() != records {
+            return Err(3);
+        }
+        let names = self.names.names()?;
+        let mut pairs = BTreeSet::new();
+        for row in 0..records {
+            let parents = self.parents_of(row).ok_or(3_u64)?;
+            if self.len[row] > MAX_PARENTS {
+                return Err(3);
+            }
+            let is_class = |number: &u64| *number < names.len() as u64;
+            if !is_flags(self.flags[row]) || !is_class(&self.class[row]) {
+                return Err(6);
+            }
+            if !parents.iter().all(is_class) {
+                return Err(6);
+            }
+            pairs.extend(parents.iter().map(|parent| (self.class[row], *parent)));
+            if pairs.len() > MAX_PAIRS {
+                return Err(8);
+            }
+        }
+        Ok(names)
+    }
+
+    /// What a query about these numbers is refused with a working slice of that many words: 22, the table, 6, 9.
+    pub fn refusal(&self, numbers: &[u64], work: usize) -> u64 {
+        if work < WORK {
+            return 22;
+        }
+        let names = match self.names() {
+            Ok(names) => names,
+            Err(number) => return number,
+        };
+        if numbers.iter().any(|number| *number >= names.len() as u64) {
+            return 6;
+        }
+        match names.iter().any(|name| name == OBJECT) {
+            true => 0,
+            false => 9,
+        }
+    }
+
+    /// The index of hierarchy.rs over the same records, for a table that is not refused.
+    pub fn judge(&self) -> Judge {
+        let names = self.names().expect("a sound table");
+        let mut index = ClassHierarchyIndex::default();
+        let name = |number: &u64| names[*number as usize].clone();
+        for row in 0..self.flags.len() {
+            let class = name(&self.class[row]);
+            let parents = self.parents_of(row).expect("inside").iter().map(name);
+            match self.flags[row] {
+                0 => index.add(class, parents),
+                flags => index.add_declared_type(class, parents, facts(flags)),
+            }
+        }
+        Judge { names, index }
+    }
+}
+
+/// 1 is declared, 2 interface, 4 final; the last two need the first.
+fn is_flags(flags: u64) -> bool {
+    [0, 1, 3, 5, 7].contains(&flags)
+}
+
+fn facts(flags: u64) -> ReferenceTypeInfo {
+    ReferenceTypeInfo {
+        is_interface: flags & 2 != 0,
+        is_final: flags & 4 != 0,
+    }
+}
+
+/// hierarchy.rs asked by numbers, and its answers in the form of the boundary.
+pub struct Judge {
+    pub names: Vec<String>,
+    pub index: ClassHierarchyIndex,
+}
+
+impl Judge {
+    fn name(&self, number: u64) -> &str {
+        &self.names[number as usize]
+    }
+
+    fn number(&self, name: &String) -> u64 {
+        self.names.binary_search(name).expect("a name of the table") as u64
+    }
+
+    /// `subtype_relation`.
+    pub fn relation(&self, value: u64, expected: u64) -> u64 {
+        let (value, expected) = (self.name(value), self.name(expected));
+        match self.index.subtype_relation(value, expected) {
+            SubtypeRelation::Yes => 0,
+            SubtypeRelation::No => 1,
+            SubtypeRelation::Unknown => 2,
+        }
+    }
+
+    /// The entry of `distances`.
+    pub fn distance(&self, value: u64, expected: u64) -> u64 {
+        let distances = hierarchy::distances(&self.index, self.name(value));
+        let distance = distances.get(self.name(expected));
+        distance.map_or(NONE, |distance| *distance as u64)
+    }
+
+    /// `ancestor_names`, ascending.
+    pub fn ancestors(&self, class: u64) -> Vec<u64> {
+        let names = self.index.ancestor_names(self.name(class));
+        names.iter().map(|name| self.number(name)).collect()
+    }
+
+    /// `least_common_supertype`.
+    pub fn supertype(&self, left: u64, right: u64) -> u64 {
+        let (left, right) = (self.name(left), self.name(right));
+        let found = self.index.least_common_supertype(left, right);
+        found.map_or(NONE, |name| self.number(&name))
+    }
+
+    /// `is_cast_convertible`.
+    pub fn cast(&self, source: u64, target: u64) -> u64 {
+        let (source, target) = (self.name(source), self.name(target));
+        u64::from(self.index.is_cast_convertible(source, target))
+    }
+}
