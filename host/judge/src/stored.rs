@@ -1,18 +1,8 @@
-//! The stored vectors, as the program `replay` reads them: one file, each part beginning with its own header.
+//! The stored vectors: the input of each program that replays them.
 
-const STORED: &str = include_str!("../../../crates/replay/stdin");
+pub const LEAVES: &str = include_str!("../../../crates/replay_leaves/stdin");
+pub const DESCRIPTORS: &str = include_str!("../../../crates/replay_descriptors/stdin");
+pub const TABLES: &str = include_str!("../../../crates/replay_tables/stdin");
 
-/// How a part's header begins.
-const BEGIN: &str = "# Test vectors:";
-
-/// The part at a place: 0 is `leaves`, 1 is `descriptors`, in the order of the recorder's files.
-pub fn part(place: usize) -> &'static str {
-    let begins: Vec<usize> = STORED.match_indices(BEGIN).map(|(at, _)| at).collect();
-    let end = begins.get(place + 1).copied().unwrap_or(STORED.len());
-    &STORED[begins[place]..end]
-}
-
-/// How many parts there are.
-pub fn parts() -> usize {
-    STORED.matches(BEGIN).count()
-}
+/// Every file, in the order of the recorder's.
+pub const FILES: [&str; 3] = [LEAVES, DESCRIPTORS, TABLES];

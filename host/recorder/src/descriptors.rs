@@ -52,19 +52,34 @@ fn some_damaged(rng: &mut Rng, real: &[&str], count: u64) -> Vec<Vec<u8>> {
 
 pub fn read_type(rng: &mut Rng, out: &mut Out) {
     each_string(&ALPHABET, 2, &mut |d| type_case(out, d, judge::read_type));
-    each_string(b"[LV;", 4, &mut |d| type_case(out, d, judge::read_type));
+    each_string(b"[LV;", 3, &mut |d| type_case(out, d, judge::read_type));
+    for d in deep_types() {
+        type_case(out, &d, judge::read_type);
+    }
     for real in REAL_TYPES {
         type_case(out, real.as_bytes(), judge::read_type);
     }
-    for d in some_damaged(rng, &REAL_TYPES, out.cases(150)) {
+    for d in some_damaged(rng, &REAL_TYPES, out.cases(120)) {
         type_case(out, &d, judge::read_type);
     }
-    each_random(rng, out.cases(200), any_type, |d| {
+    each_random(rng, out.cases(160), any_type, |d| {
         type_case(out, d, judge::read_type);
     });
 }
 
+/// About as many dimensions as there may be.
+fn deep_types() -> impl Iterator<Item = Vec<u8>> {
+    let bases = ["", "I", "V", "La.b;"];
+    bases.into_iter().flat_map(|base| {
+        let dims = [255, 256].into_iter();
+        dims.map(move |dims| [vec![b'['; dims], base.as_bytes().to_vec()].concat())
+    })
+}
+
 pub fn read_type_strict(rng: &mut Rng, out: &mut Out) {
+    for d in deep_types() {
+        type_case(out, &d, judge::read_type_strict);
+    }
     for name in NAMES {
         for (before, after) in [
             ("L", ";"),
@@ -81,10 +96,10 @@ pub fn read_type_strict(rng: &mut Rng, out: &mut Out) {
         let d = [b"L", name, b";"].concat();
         type_case(out, &d, judge::read_type_strict);
     });
-    for d in some_damaged(rng, &REAL_TYPES, out.cases(200)) {
+    for d in some_damaged(rng, &REAL_TYPES, out.cases(100)) {
         type_case(out, &d, judge::read_type_strict);
     }
-    each_random(rng, out.cases(400), any_type, |d| {
+    each_random(rng, out.cases(240), any_type, |d| {
         type_case(out, d, judge::read_type_strict);
     });
 }
@@ -134,13 +149,21 @@ fn each_room(out: &mut Out, judge: fn(&[u8]) -> MethodAnswer) {
 
 fn each_method(rng: &mut Rng, out: &mut Out, judge: fn(&[u8]) -> MethodAnswer) {
     each_room(out, judge);
+    for (parameters, rest) in [(255, ")V"), (256, ")V"), (255, "V)V"), (1, ")")] {
+        let d = format!("({}{rest}", "I".repeat(parameters));
+        method_case(out, d.as_bytes(), ENOUGH, judge);
+    }
+    for before in ["(I", "(I)"] {
+        let deep = format!("{before}{}", "[".repeat(256));
+        method_case(out, deep.as_bytes(), ENOUGH, judge);
+    }
     for real in REAL_METHODS {
         method_case(out, real.as_bytes(), ENOUGH, judge);
     }
-    for d in some_damaged(rng, &REAL_METHODS, out.cases(200)) {
+    for d in some_damaged(rng, &REAL_METHODS, out.cases(100)) {
         method_case(out, &d, ENOUGH, judge);
     }
-    each_random(rng, out.cases(300), any_method, |d| {
+    each_random(rng, out.cases(150), any_method, |d| {
         method_case(out, d, ENOUGH, judge);
     });
 }
@@ -179,6 +202,9 @@ pub fn read_method_strict(rng: &mut Rng, out: &mut Out) {
             method_case(out, d.as_bytes(), ENOUGH, judge::read_method_strict);
         }
     }
+    for d in ["(L;)V", "()L;", "(La.b;L;)V"] {
+        method_case(out, d.as_bytes(), ENOUGH, judge::read_method_strict);
+    }
     each_method(rng, out, judge::read_method_strict);
 }
 
@@ -213,7 +239,7 @@ fn telling_tables() -> Vec<Table> {
         place(b"\xff", &[0], &[1, 1]),
         of(&[b""]),
         of(&[b"a", b""]),
-        of(&[&[b'n'; 150], b""]),
+        of(&[&[b'n'; 40], b""]),
         place(b"ab", &[0], &[256]),
         place(b"ab", &[0], &[u64::MAX]),
         place(b"ab", &[1], &[2]),
@@ -269,7 +295,7 @@ fn write_type_case(out: &mut Out, table: &Table, word: u64, room: u64) {
 
 pub fn write_type(rng: &mut Rng, out: &mut Out) {
     for table in telling_tables() {
-        for word in [0, 5, 1 << 48, 0x0101_0000_0000_0001, u64::MAX] {
+        for word in [5, 0x0101_0000_0000_0001, u64::MAX] {
             write_type_case(out, &table, word, 40);
         }
     }
@@ -286,13 +312,16 @@ pub fn write_type(rng: &mut Rng, out: &mut Out) {
         2 << 48,
         3 << 48,
     ] {
-        for dimensions in [0, 1, 2, 100] {
+        for dimensions in [0, 1, 2] {
             for room in [0, 1, 2, 3, 5, 6, 0x200] {
                 write_type_case(out, &table, dimensions << 56 | word, room);
             }
         }
+        for room in [0xff, 0x200] {
+            write_type_case(out, &table, 0xff << 56 | word, room);
+        }
     }
-    for _ in 0..out.cases(600) {
+    for _ in 0..out.cases(210) {
         let table = any_table(rng, 4);
         let word = any_word(rng, table.at.len());
         let needed = table.write_type(word, usize::MAX).ok();
@@ -324,7 +353,13 @@ pub fn write_method(rng: &mut Rng, out: &mut Out) {
             }
         }
     }
-    for _ in 0..out.cases(640) {
+    for count in [255, 256] {
+        for (last, room) in [(5, 0x102), (5, 0x101), (11, 0x200)] {
+            let params = [vec![5; count - 1], vec![last]].concat();
+            write_method_case(out, &table, &params, 0, room);
+        }
+    }
+    for _ in 0..out.cases(210) {
         let table = any_table(rng, 3);
         let names = table.at.len();
         let count = rng.below(4);
@@ -348,7 +383,7 @@ fn lookup_case(out: &mut Out, table: &Table, key: &[u8]) {
 
 pub fn lookup(rng: &mut Rng, out: &mut Out) {
     for table in telling_tables() {
-        for key in [&b""[..], b"a", b"ab", b"b", b"\xff"] {
+        for key in [&b""[..], b"a", b"\xff"] {
             lookup_case(out, &table, key);
         }
     }
@@ -361,7 +396,7 @@ pub fn lookup(rng: &mut Rng, out: &mut Out) {
             lookup_case(out, &table, key.as_bytes());
         }
     }
-    for _ in 0..out.cases(680) {
+    for _ in 0..out.cases(250) {
         let table = any_table(rng, 6);
         let key = any_key(rng, &table);
         lookup_case(out, &table, &key);

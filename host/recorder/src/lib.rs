@@ -7,6 +7,7 @@ mod descriptors;
 pub mod out;
 mod sets;
 mod sorted;
+mod tables;
 mod types;
 
 pub use judge::rng;
@@ -28,7 +29,7 @@ pub struct File {
 
 /// A recorded function.
 pub struct Function {
-    /// At most 8 characters of a to z, 0 to 9 and `_`.
+    /// One word of a to z, 0 to 9 and `_`.
     pub name: &'static str,
     /// Arguments and answer, for the header.
     pub form: &'static str,
@@ -53,28 +54,16 @@ const fn function(
 
 #[rustfmt::skip]
 const LEAVES: &[Function] = &[
-    function("order", "a b = 0 less, 1 equal, 2 greater", "derived Ord of ArgType in ty.rs", types::order),
+    function("pairs", "list of words = how many pairs of them have the order of their places", "derived Ord of ArgType in ty.rs", types::pairs),
+    function("order", "a b = 0 less, 1 equal, 2 greater", "derived Ord of ArgType", types::order),
     function("legal", "names w = 0 or 1", "words::parse over that many names", types::legal),
-    function("wide", "w = 0 or 1", "ArgType::is_wide", types::wide),
-    function("ref", "w = 0 or 1", "ArgType::is_reference", types::reference),
-    function("known", "w = 0 or 1", "ArgType::is_known", types::known),
-    function("concrete", "w = 0 or 1", "TypeLattice::is_concrete", types::concrete),
+    function("edits", "names w = four numbers: bit 10 p + d of number q says whether w is legal after an exclusive or of d with its digit 4 q + p, the lowest digit being 0", "words::parse", types::edits),
+    function("word", "w = wide reference known concrete categories array element", "ArgType::is_wide, is_reference, is_known; TypeLattice::is_concrete, categories (a bit each); ArgType::array, none past 255 dimensions; as_array_element", types::of_word),
     function("hint", "object w = word", "TypeLattice::concrete_hint, class `object` named java/lang/Object", types::hint),
-    function("cats", "w = list of categories", "TypeLattice::categories", types::categories),
-    function("array", "w = word, none past 255 dimensions", "ArgType::array", types::array),
-    function("element", "w = word", "ArgType::as_array_element", types::element),
-    function("s_with", "set i = set", "BTreeSet::insert where i is below 400", sets::with),
-    function("s_out", "set i = set", "BTreeSet::remove", sets::out),
-    function("s_union", "set set = set", "BTreeSet::union", sets::union),
-    function("s_inter", "set set = set", "BTreeSet::intersection", sets::intersection),
-    function("s_diff", "set set = set", "BTreeSet::difference", sets::difference),
-    function("s_count", "set = number of members", "BTreeSet::len", sets::count),
-    function("s_low", "set = least member, 400 if empty", "BTreeSet::first", sets::lowest),
-    function("s_same", "set set = 0 or 1", "BTreeSet::eq", sets::same),
-    function("s_has", "set i = 0 or 1", "BTreeSet::contains", sets::has),
-    function("t_find", "entries x = found, position", "slice::binary_search", sorted::find),
-    function("t_put", "room entries x = 0 old, 1 new or 2 full, entries", "BTreeSet::insert", sorted::put),
-    function("t_run", "entries k c = first, past: where e / k = c", "entries below c k and below c k + k", sorted::run),
+    function("set", "set i = has count lowest with without: lowest is 400 if empty, with and without are sets", "BTreeSet::contains, len, first, insert where i is below 400, remove", sets::one),
+    function("sets", "set set = union intersection difference same", "BTreeSet::union, intersection, difference, eq", sets::two),
+    function("put", "room entries x = found position outcome entries: outcome 0 old, 1 new, 2 full", "slice::binary_search; BTreeSet::insert", sorted::put),
+    function("run", "entries k c = first, past: where e / k = c", "entries below c k and below c k + k", sorted::run),
 ];
 
 #[rustfmt::skip]
@@ -89,14 +78,24 @@ const DESCRIPTORS: &[Function] = &[
     function("utf8", "bytes = length of the longest whole valid prefix", "std::str::from_utf8", descriptors::utf8),
 ];
 
+#[rustfmt::skip]
+const TABLES: &[Function] = &[
+    function("table", "room names flags class at len parents = refusal of the ancestors of class 0", "rules", tables::tables),
+    function("pair", "a b = refusal relation distance supertype cast of a and b over the last table: relation 0 yes, 1 no, 2 unknown", "subtype_relation, distances, least_common_supertype, is_cast_convertible of ClassHierarchyIndex in hierarchy.rs; rules for refusals", with_the_table),
+    function("ancestors", "class = refusal count lowest and the list of words of the set of its ancestors, without the zeros at its end", "ancestor_names of ClassHierarchyIndex; rules for refusals", with_the_table),
+];
+
+/// For a function whose lines stand after those of the tables that they are about.
+fn with_the_table(_: &mut Rng, _: &mut Out) {}
+
 /// Every file that can be recorded.
-pub static FILES: [File; 2] = [
+pub static FILES: [File; 3] = [
     File {
         name: "leaves",
         about: "\
             # Numbers are lower-case hex without leading zeros. A list, a set or entries: the length, then the\n\
             # members, ascending. A word w stands for a type over 1,024 names. ffffffffffffffff: no answer.\n",
-        most_tokens: 40,
+        most_tokens: 128,
         functions: LEAVES,
     },
     File {
@@ -107,10 +106,23 @@ pub static FILES: [File; 2] = [
             # the list of their places, the list of their lengths. parameters: a list of words. entries, room: how\n\
             # many entries or bytes are lent. A refused answer has its number, with offset and byte where there are\n\
             # any, then zeros and no bytes.\n\
-            # rules: those of the scope paper, written apart in host/judge/src/paper.rs. What passes a limit is\n\
-            # too long for a line; the tests of host/bracepuffin have it.\n",
-        most_tokens: 64,
+            # rules: those of the scope paper, written apart in host/judge/src/paper.rs. Tables of 1,025 names are\n\
+            # too long for a line; the tests of host/bracepuffin have them.\n",
+        most_tokens: 400,
         functions: DESCRIPTORS,
+    },
+    File {
+        name: "tables",
+        about: "\
+            # Numbers are lower-case hex without leading zeros. A list: the length, then the members. names: the\n\
+            # bytes that names are cut from (one token, x and two digits a byte), the list of their places, the list\n\
+            # of their lengths. flags, class, at, len: a list each, an entry a record; parents: the list that records\n\
+            # cut theirs from. room: how many working words are lent. A table holds until the next one. A refused\n\
+            # answer has its number, then zeros. ffffffffffffffff: no answer.\n\
+            # rules: those of the scope paper, written apart in host/judge/src/classes.rs. Tables that pass the\n\
+            # limits (8) are too long for a line; the tests of host/bracepuffin have them.\n",
+        most_tokens: 1600,
+        functions: TABLES,
     },
 ];
 

@@ -3,7 +3,7 @@
 use std::collections::HashSet;
 
 /// No line is longer, so that a reader can have a fixed buffer.
-pub const MAX_BYTES: usize = 400;
+pub const MAX_BYTES: usize = 4096;
 
 pub struct Out {
     name: &'static str,
@@ -35,19 +35,26 @@ impl Out {
         assert!(fits, "{} {arguments:x?}", self.name);
     }
 
-    /// Writes one case unless it would make too long a line.
-    pub fn case_if_short(&mut self, arguments: &[u64], answer: &[u64]) {
-        self.tokens_if_short(&numbers(arguments), &numbers(answer));
+    /// Writes one case that those after it are about: what was written before it counts no more as written.
+    pub fn begin(&mut self, name: &str, arguments: &[String], answer: &[String]) {
+        self.seen.clear();
+        let fits = self.tokens_of(name, arguments, answer);
+        assert!(fits, "{name} {arguments:?}");
+    }
+
+    /// Writes one case of a function of that name.
+    pub fn case_of(&mut self, name: &str, arguments: &[u64], answer: &[u64]) {
+        let fits = self.tokens_of(name, &numbers(arguments), &numbers(answer));
+        assert!(fits, "{name} {arguments:x?}");
     }
 
     /// Writes one case of tokens unless it would make too long a line; whether it fits.
     pub fn tokens_if_short(&mut self, arguments: &[String], answer: &[String]) -> bool {
-        let line = format!(
-            "{} {} = {}\n",
-            self.name,
-            arguments.join(" "),
-            answer.join(" ")
-        );
+        self.tokens_of(self.name, arguments, answer)
+    }
+
+    fn tokens_of(&mut self, name: &str, arguments: &[String], answer: &[String]) -> bool {
+        let line = format!("{name} {} = {}\n", arguments.join(" "), answer.join(" "));
         // The line break counts.
         if arguments.len() + answer.len() > self.most_tokens || line.len() > MAX_BYTES {
             return false;

@@ -83,14 +83,17 @@ fn numbers(set: &Set) -> Vec<u64> {
     list(set.iter().copied())
 }
 
-/// How many random cases a function of sets has in the smallest file.
-const CASES: u64 = 600;
+/// How many random cases each form has in the smallest file.
+const CASES: u64 = 640;
 
-/// Cases of a set and a number: every edge, then random ones.
-fn set_and_number(rng: &mut Rng, out: &mut Out, judge: fn(&Set, u64) -> Vec<u64>) {
+/// A set and a number: every edge, words of the set one by one, then random ones.
+pub fn one(rng: &mut Rng, out: &mut Out) {
     let edges = EDGES.into_iter().chain(PAST);
     let mut cases: Vec<(Set, u64)> = edges.clone().map(|i| (Set::new(), i)).collect();
     cases.extend(edges.map(|i| (Set::from([0, 63, 64, 1023]), i)));
+    cases.extend(EDGES.map(|i| (Set::from([i]), i)));
+    cases.extend((0..16).map(|word| (Set::from([64 * word, 64 * word + 63]), 64 * word)));
+    cases.push((EDGES.into_iter().collect(), 64));
     for _ in 0..out.cases(CASES) {
         let set = set(rng, 17);
         let i = asked(rng, &set);
@@ -99,12 +102,26 @@ fn set_and_number(rng: &mut Rng, out: &mut Out, judge: fn(&Set, u64) -> Vec<u64>
     for (set, i) in cases {
         let mut arguments = numbers(&set);
         arguments.push(i);
-        out.case(&arguments, &judge(&set, i));
+        out.case(&arguments, &one_judge(&set, i));
     }
 }
 
-/// Cases of two sets: the empty one and a few others both ways, then random ones.
-fn two_sets(rng: &mut Rng, out: &mut Out, judge: fn(&Set, &Set) -> Vec<u64>) {
+/// Has, count, lowest, with, without.
+fn one_judge(set: &Set, i: u64) -> Vec<u64> {
+    let (mut with, mut without) = (set.clone(), set.clone());
+    if i < LIMIT {
+        with.insert(i);
+    }
+    without.remove(&i);
+    let lowest = set.first().copied().unwrap_or(LIMIT);
+    let mut answer = vec![u64::from(set.contains(&i)), set.len() as u64, lowest];
+    answer.extend(numbers(&with));
+    answer.extend(numbers(&without));
+    answer
+}
+
+/// Two sets: the empty one and a few others both ways, then random ones.
+pub fn two(rng: &mut Rng, out: &mut Out) {
     let fixed = [
         Set::new(),
         Set::from([0]),
@@ -124,65 +141,15 @@ fn two_sets(rng: &mut Rng, out: &mut Out, judge: fn(&Set, &Set) -> Vec<u64>) {
     for (first, second) in cases {
         let mut arguments = numbers(&first);
         arguments.extend(numbers(&second));
-        out.case(&arguments, &judge(&first, &second));
+        out.case(&arguments, &two_judge(&first, &second));
     }
 }
 
-/// Cases of one set: each edge alone, then random ones.
-fn one_set(rng: &mut Rng, out: &mut Out, judge: fn(&Set) -> u64) {
-    let mut cases = vec![Set::new(), EDGES.into_iter().collect()];
-    cases.extend(EDGES.map(|i| Set::from([i])));
-    cases.extend((0..16).map(|word| Set::from([64 * word, 64 * word + 63])));
-    for _ in 0..out.cases(CASES) {
-        cases.push(set(rng, 36));
-    }
-    for set in cases {
-        out.case(&numbers(&set), &[judge(&set)]);
-    }
-}
-
-pub fn with(rng: &mut Rng, out: &mut Out) {
-    set_and_number(rng, out, |set, i| {
-        let mut changed = set.clone();
-        if i < LIMIT {
-            changed.insert(i);
-        }
-        numbers(&changed)
-    });
-}
-
-pub fn out(rng: &mut Rng, out: &mut Out) {
-    set_and_number(rng, out, |set, i| {
-        let mut changed = set.clone();
-        changed.remove(&i);
-        numbers(&changed)
-    });
-}
-
-pub fn has(rng: &mut Rng, out: &mut Out) {
-    set_and_number(rng, out, |set, i| vec![u64::from(set.contains(&i))]);
-}
-
-pub fn union(rng: &mut Rng, out: &mut Out) {
-    two_sets(rng, out, |a, b| list(a.union(b).copied()));
-}
-
-pub fn intersection(rng: &mut Rng, out: &mut Out) {
-    two_sets(rng, out, |a, b| list(a.intersection(b).copied()));
-}
-
-pub fn difference(rng: &mut Rng, out: &mut Out) {
-    two_sets(rng, out, |a, b| list(a.difference(b).copied()));
-}
-
-pub fn same(rng: &mut Rng, out: &mut Out) {
-    two_sets(rng, out, |a, b| vec![u64::from(a == b)]);
-}
-
-pub fn count(rng: &mut Rng, out: &mut Out) {
-    one_set(rng, out, |set| set.len() as u64);
-}
-
-pub fn lowest(rng: &mut Rng, out: &mut Out) {
-    one_set(rng, out, |set| set.first().copied().unwrap_or(LIMIT));
+/// Union, intersection, difference, same.
+fn two_judge(a: &Set, b: &Set) -> Vec<u64> {
+    let mut answer = list(a.union(b).copied());
+    answer.extend(list(a.intersection(b).copied()));
+    answer.extend(list(a.difference(b).copied()));
+    answer.push(u64::from(a == b));
+    answer
 }

@@ -6,7 +6,7 @@ use crate::out::{list, Out};
 use crate::rng::Rng;
 
 /// How many random cases each function has in the smallest file.
-const CASES: u64 = 800;
+const CASES: u64 = 540;
 
 const EXTREMES: [u64; 8] = [
     0,
@@ -89,18 +89,6 @@ fn cases(rng: &mut Rng, out: &Out, most: u64) -> Vec<(Vec<u64>, u64)> {
     cases
 }
 
-pub fn find(rng: &mut Rng, out: &mut Out) {
-    for (entries, x) in cases(rng, out, 30) {
-        let answer = match entries.binary_search(&x) {
-            Ok(place) => [1, place as u64],
-            Err(place) => [0, place as u64],
-        };
-        let mut arguments = list(entries);
-        arguments.push(x);
-        out.case_if_short(&arguments, &answer);
-    }
-}
-
 pub fn put(rng: &mut Rng, out: &mut Out) {
     for (entries, x) in cases(rng, out, 15) {
         let length = entries.len() as u64;
@@ -112,7 +100,17 @@ pub fn put(rng: &mut Rng, out: &mut Out) {
         let mut arguments = vec![room];
         arguments.extend(list(entries.iter().copied()));
         arguments.push(x);
-        out.case_if_short(&arguments, &put_judge(room, entries, x));
+        let mut answer = find_judge(&entries, x).to_vec();
+        answer.extend(put_judge(room, entries, x));
+        out.case(&arguments, &answer);
+    }
+}
+
+/// Whether it is there, and where.
+fn find_judge(entries: &[u64], x: u64) -> [u64; 2] {
+    match entries.binary_search(&x) {
+        Ok(place) => [1, place as u64],
+        Err(place) => [0, place as u64],
     }
 }
 
@@ -149,7 +147,7 @@ pub fn run(rng: &mut Rng, out: &mut Out) {
         let answer = run_judge(&entries, k, c);
         let mut arguments = list(entries);
         arguments.extend([k, c]);
-        out.case_if_short(&arguments, &answer);
+        out.case(&arguments, &answer);
     }
 }
 

@@ -13,8 +13,8 @@ use crate::rng::Rng;
 const OBJECT: &str = "java/lang/Object";
 const NAMES: usize = 1024;
 
-/// How many random words each function of one word has in the smallest file.
-const CASES: u64 = 640;
+/// How many random words are asked about in the smallest file.
+const CASES: u64 = 900;
 
 /// 1,024 names, ascending, of many lengths; prefixes of each other and bytes past ASCII occur.
 fn names() -> Vec<String> {
@@ -187,15 +187,35 @@ fn legal_word(ty: &ArgType, names: &[String]) -> u64 {
     word(ty, names).expect("a type with a word")
 }
 
+/// Some hundred types in one line, ascending: the order of every pair of them is that of their places.
+pub fn pairs(_: &mut Rng, out: &mut Out) {
+    let names = names();
+    let mut lists = vec![ordered_types(&names)];
+    lists.push(lists[0].iter().step_by(7).cloned().collect());
+    lists.push(lists[0][..1].to_vec());
+    for types in lists {
+        let words = types.iter().map(|ty| legal_word(ty, &names));
+        out.case(&list(words), &[(types.len() * types.len()) as u64]);
+    }
+}
+
+/// Neighbours among those both ways, then random pairs, half of them close to each other.
 pub fn order(rng: &mut Rng, out: &mut Out) {
     let names = names();
-    let telling = ordered_types(&names);
-    for left in &telling {
-        for right in &telling {
-            order_case(left, right, &names, out);
-        }
+    for pair in ordered_types(&names).windows(2) {
+        order_case(&pair[0], &pair[1], &names, out);
+        order_case(&pair[1], &pair[0], &names, out);
+        order_case(&pair[0], &pair[0], &names, out);
     }
-    for _ in 0..out.cases(180) {
+    let telling = [
+        (deep(2, ArgType::INT), deep(1, unknown(&[]))),
+        (unknown(&[Int]), unknown(&[Boolean, Int])),
+        (unknown(&[]), unknown(&[Void])),
+    ];
+    for (left, right) in telling {
+        order_case(&left, &right, &names, out);
+    }
+    for _ in 0..out.cases(250) {
         let left = any_type(rng, &names);
         order_case(&left, &any_type(rng, &names), &names, out);
         order_case(&left, &near(rng, &left, &names), &names, out);
@@ -217,7 +237,7 @@ fn order_case(left: &ArgType, right: &ArgType, names: &[String], out: &mut Out) 
 pub fn legal(rng: &mut Rng, out: &mut Out) {
     let names = names();
     let mut cases = fixed_legal_cases(&names);
-    for _ in 0..out.cases(200) {
+    for _ in 0..out.cases(100) {
         let count = *rng.pick(&[0, 1, 5, 100, 1023, 1024]);
         let word = legal_word(&any_type(rng, &names), &names);
         let once = word ^ edit(rng);
@@ -248,73 +268,73 @@ fn fixed_legal_cases(names: &[String]) -> Vec<(usize, u64)> {
             cases.push((count, 0xff << 56 | 1 << 48 | number));
         }
     }
-    // Every word that differs in one digit from these.
-    let edited = [
-        (4, 0x0000_0000_0000_0005),
-        (0x123, 0x0301_0000_0000_0110),
-        (0, 0x0002_0000_0000_0000),
-        (1, 0x0102_2150_0000_0000),
-        (1024, 0x0002_a567_8132_49a0),
-    ];
-    for (count, word) in edited {
-        let changes = (0..16).flat_map(|place| (1..16).map(move |digit| digit << (4 * place)));
-        cases.extend(changes.map(|change: u64| (count, word ^ change)));
-    }
     cases
 }
 
-/// The telling words, and random ones, over the same names.
-fn each_type(rng: &mut Rng, out: &mut Out, judge: impl Fn(&ArgType, &[String]) -> Vec<u64>) {
+/// Words of every kind of base with every change of one digit: bit 16 p + d of answer q says whether the word is
+/// legal after its digit 4 q + p, counted from the low end, was combined with d by exclusive or.
+pub fn edits(rng: &mut Rng, out: &mut Out) {
+    let names = names();
+    let mut cases: Vec<(usize, u64)> = telling_types(&names)
+        .iter()
+        .map(|ty| (NAMES, legal_word(ty, &names)))
+        .collect();
+    for count in [0, 1, 2, 15, 16, 17, 255, 256, 273, 1023, 1024] {
+        for number in [0, 1, 15, 16, 255, 256, 272, 1022, 1023] {
+            cases.push((count, 1 << 48 | number));
+        }
+    }
+    for _ in 0..out.cases(140) {
+        let count = *rng.pick(&[0, 1, 5, 100, 1023, 1024]);
+        // Few dimensions: they are never refused, and many cost time.
+        let word = legal_word(&any_type(rng, &names), &names) & 0x03ff_ffff_ffff_ffff;
+        cases.extend([(count, word), (NAMES, word ^ edit(rng) >> 8)]);
+    }
+    for (count, word) in cases {
+        out.case(&[count as u64, word], &edits_judge(word, &names[..count]));
+    }
+}
+
+fn edits_judge(word: u64, names: &[String]) -> [u64; 4] {
+    let mut bits = [0; 4];
+    for place in 0..16 {
+        for digit in 0..16 {
+            let is_legal = parse(word ^ digit << (4 * place), names).is_ok();
+            bits[place / 4] |= u64::from(is_legal) << (16 * (place as u64 % 4) + digit);
+        }
+    }
+    bits
+}
+
+/// Telling words, every list of one or two categories (of all types only seven are wide, five of them lists), and
+/// random ones.
+pub fn of_word(rng: &mut Rng, out: &mut Out) {
     let names = names();
     let mut types = telling_types(&names);
+    for first in CATEGORIES {
+        types.push(unknown(&[first]));
+        let others = CATEGORIES.into_iter().filter(|second| *second != first);
+        types.extend(others.map(|second| unknown(&[first, second])));
+    }
     types.extend((0..out.cases(CASES)).map(|_| any_type(rng, &names)));
     for ty in types {
-        out.case(&[legal_word(&ty, &names)], &judge(&ty, &names));
+        out.case(&[legal_word(&ty, &names)], &of_word_judge(&ty, &names));
     }
 }
 
-/// Only seven types are wide, five of them lists: every list of one or two categories is tried.
-pub fn wide(rng: &mut Rng, out: &mut Out) {
-    let mut lists: Vec<ArgType> = CATEGORIES.map(|one| unknown(&[one])).to_vec();
-    for first in CATEGORIES {
-        let others = CATEGORIES.into_iter().filter(|second| *second != first);
-        lists.extend(others.map(|second| unknown(&[first, second])));
-    }
-    for ty in lists {
-        out.case(&[legal_word(&ty, &[])], &[u64::from(ty.is_wide())]);
-    }
-    each_type(rng, out, |ty, _| vec![u64::from(ty.is_wide())]);
-}
-
-pub fn reference(rng: &mut Rng, out: &mut Out) {
-    each_type(rng, out, |ty, _| vec![u64::from(ty.is_reference())]);
-}
-
-pub fn known(rng: &mut Rng, out: &mut Out) {
-    each_type(rng, out, |ty, _| vec![u64::from(ty.is_known())]);
-}
-
-pub fn concrete(rng: &mut Rng, out: &mut Out) {
-    each_type(rng, out, |ty, _| vec![u64::from(lattice::is_concrete(ty))]);
-}
-
-pub fn categories(rng: &mut Rng, out: &mut Out) {
-    each_type(rng, out, |ty, _| {
-        list(lattice::categories(ty).into_iter().map(category_number))
-    });
-}
-
-pub fn array(rng: &mut Rng, out: &mut Out) {
-    each_type(rng, out, |ty, names| {
-        vec![word(&ArgType::array(ty.clone()), names).unwrap_or(MISSING)]
-    });
-}
-
-pub fn element(rng: &mut Rng, out: &mut Out) {
-    each_type(rng, out, |ty, names| {
-        let element = ty.as_array_element();
-        vec![element.map_or(MISSING, |element| legal_word(element, names))]
-    });
+fn of_word_judge(ty: &ArgType, names: &[String]) -> [u64; 7] {
+    let categories = lattice::categories(ty).into_iter().map(category_number);
+    let array = word(&ArgType::array(ty.clone()), names);
+    let element = ty.as_array_element();
+    [
+        u64::from(ty.is_wide()),
+        u64::from(ty.is_reference()),
+        u64::from(ty.is_known()),
+        u64::from(lattice::is_concrete(ty)),
+        categories.fold(0, |set, category| set | 1 << category),
+        array.unwrap_or(MISSING),
+        element.map_or(MISSING, |element| legal_word(element, names)),
+    ]
 }
 
 pub fn hint(rng: &mut Rng, out: &mut Out) {
@@ -325,7 +345,7 @@ pub fn hint(rng: &mut Rng, out: &mut Out) {
         cases.extend(CATEGORIES.map(|category| (at, unknown(&[category]))));
         cases.extend(telling_types(names).into_iter().map(|ty| (at, ty)));
     }
-    for _ in 0..out.cases(CASES / 2) {
+    for _ in 0..out.cases(CASES / 4) {
         let at = rng.below(5) as usize;
         cases.push((at, any_type(rng, &tables[at])));
     }

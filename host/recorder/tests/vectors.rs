@@ -2,20 +2,13 @@
 
 use std::collections::{BTreeMap, BTreeSet};
 
+use judge::stored::{DESCRIPTORS, LEAVES, TABLES};
 use recorder::out::{bytes, MAX_BYTES};
 use recorder::{record, File, FILES};
 
-fn leaves() -> &'static str {
-    judge::stored::part(0)
-}
-
-fn descriptors() -> &'static str {
-    judge::stored::part(1)
-}
-
 /// Each file with what is stored of it.
 fn stored() -> impl Iterator<Item = (&'static File, &'static str)> {
-    FILES.iter().zip([leaves(), descriptors()])
+    FILES.iter().zip(judge::stored::FILES)
 }
 
 /// The number in the header line `# name number`.
@@ -64,11 +57,6 @@ fn rewritten(token: &str) -> String {
 }
 
 #[test]
-fn there_is_a_part_for_each_file() {
-    assert_eq!(judge::stored::parts(), FILES.len());
-}
-
-#[test]
 fn the_stored_vectors_are_what_the_recorder_writes() {
     for (file, text) in stored() {
         let (seed, size) = (header_number(text, "seed"), header_number(text, "size"));
@@ -101,20 +89,25 @@ fn every_line_keeps_the_format() {
             .lines()
             .all(|line| line.starts_with('#') || line.len() < MAX_BYTES));
         assert!(text.ends_with('\n') && text.is_ascii());
+        assert!(text.len() <= 400_000, "{}", file.name);
     }
-    assert!(leaves().len() <= 1_000_000);
-    assert!(descriptors().len() <= 500_000);
 }
 
 #[test]
 fn functions_are_grouped_in_the_order_of_the_table() {
     for (file, text) in stored() {
         let mut names: Vec<&str> = cases(text).map(|(name, ..)| name).collect();
-        names.dedup();
-        let listed = file.functions.iter().map(|function| function.name);
-        assert_eq!(names, listed.collect::<Vec<_>>());
-        for name in names {
-            assert!((1..=8).contains(&name.len()));
+        let listed = Vec::from_iter(file.functions.iter().map(|function| function.name));
+        match file.name {
+            // What is asked about a table stands after it.
+            "tables" => assert!(names.iter().all(|name| listed.contains(name))),
+            _ => {
+                names.dedup();
+                assert_eq!(names, listed);
+            }
+        }
+        for name in listed {
+            assert!(!name.is_empty());
             let is_letter = |byte: u8| byte == b'_' || byte.is_ascii_lowercase();
             assert!(name
                 .bytes()
@@ -130,34 +123,64 @@ fn every_function_has_hundreds_of_cases_and_no_rare_answer() {
         for (name, _, answer) in cases(text) {
             *shares.entry(name).or_default().entry(answer).or_default() += 1;
         }
+        // All pairs of types stand in one line, and there are fewer tables than questions about them.
+        shares.remove("pairs");
+        shares.remove("table");
         for (name, shares) in shares {
-            assert!(shares.values().sum::<usize>() >= 400, "{name}");
+            assert!(shares.values().sum::<usize>() >= 390, "{name}");
             assert!(shares.len() >= 2, "{name}");
-            // Seven, since only seven types are wide.
             let few_answers = shares.len() <= 3;
             assert!(
-                !few_answers || shares.values().all(|share| *share >= 7),
+                !few_answers || shares.values().all(|share| *share >= 50),
                 "{name}: {shares:?}"
             );
         }
     }
 }
 
+/// What is told apart about tables, each many times.
+#[test]
+fn every_answer_about_tables_occurs() {
+    let many = |function: &str, place: usize, expected: &str, least: usize| {
+        let mut shares = BTreeMap::<u64, usize>::new();
+        for (_, _, answer) in cases(TABLES).filter(|(name, ..)| *name == function) {
+            let answer = numbers(answer);
+            // A refused answer counts under its refusal alone.
+            if place == 0 || answer[0] == 0 {
+                *shares.entry(answer[place]).or_default() += 1;
+            }
+        }
+        for answer in numbers(expected) {
+            let share = shares.get(&answer).copied().unwrap_or(0);
+            assert!(share >= least, "{function} {place} {answer:x}: {share}");
+        }
+        shares.len()
+    };
+    let refusals = "0 3 5 6 9 a 16";
+    for function in ["table", "pair", "ancestors"] {
+        assert_eq!(many(function, 0, refusals, 4), numbers(refusals).len());
+    }
+    // Relation, distance, cast.
+    assert_eq!(many("pair", 1, "0 1 2", 500), 3);
+    many("pair", 2, "0 1 2 3 3fffffffffffffff ffffffffffffffff", 20);
+    assert_eq!(many("pair", 4, "0 1", 500), 2);
+}
+
 /// The refusals that a function of descriptors can give in a line, each more than once.
 #[test]
 fn every_refusal_occurs() {
     let expected = [
-        ("d_type", "0 b c d e f"),
-        ("d_strict", "0 b c d e f 18"),
-        ("d_method", "0 b c d e f 10 11 16"),
-        ("m_strict", "0 b c d e f 10 11 16 18"),
+        ("d_type", "0 b c d e f 12"),
+        ("d_strict", "0 b c d e f 12 18"),
+        ("d_method", "0 b c d e f 10 11 12 13 16"),
+        ("m_strict", "0 b c d e f 10 11 12 13 16 18"),
         ("w_type", "0 3 5 7 a 16"),
-        ("w_method", "0 3 5 7 a 16"),
+        ("w_method", "0 3 5 7 8 a 16"),
         ("lookup", "0 3 5 a 17"),
     ];
     for (function, refusals) in expected {
         let mut shares = BTreeMap::<u64, usize>::new();
-        for (_, _, answer) in cases(descriptors()).filter(|(name, ..)| *name == function) {
+        for (_, _, answer) in cases(DESCRIPTORS).filter(|(name, ..)| *name == function) {
             let refusal = answer.split(' ').next().expect("a refusal");
             *shares.entry(numbers(refusal)[0]).or_default() += 1;
         }
@@ -176,11 +199,11 @@ fn every_refusal_occurs() {
 #[test]
 fn sets_and_entries_are_ascending() {
     let is_list = |list: &[u64]| list.windows(2).all(|pair| pair[0] < pair[1]);
-    for (name, arguments, _) in cases(leaves()) {
+    for (name, arguments, _) in cases(LEAVES) {
         let arguments = numbers(arguments);
         let start = match name {
-            "t_put" => 1,
-            _ if name.starts_with("s_") || name.starts_with("t_") => 0,
+            "put" => 1,
+            "set" | "sets" | "run" => 0,
             _ => continue,
         };
         let length = arguments[start] as usize;
@@ -194,7 +217,7 @@ fn sets_and_entries_are_ascending() {
 #[test]
 fn the_order_recorded_is_an_order() {
     let mut answers = BTreeMap::new();
-    for (_, arguments, answer) in cases(leaves()).filter(|(name, ..)| *name == "order") {
+    for (_, arguments, answer) in cases(LEAVES).filter(|(name, ..)| *name == "order") {
         let arguments = numbers(arguments);
         answers.insert((arguments[0], arguments[1]), numbers(answer)[0]);
     }
@@ -207,8 +230,48 @@ fn the_order_recorded_is_an_order() {
 }
 
 #[test]
+fn some_hundred_types_stand_in_one_line() {
+    let sizes = cases(LEAVES)
+        .filter(|(name, ..)| *name == "pairs")
+        .map(|(_, arguments, answer)| (numbers(arguments)[0], numbers(answer)[0]));
+    let sizes: Vec<(u64, u64)> = sizes.collect();
+    assert!(sizes.iter().all(|(types, pairs)| *pairs == types * types));
+    assert!(sizes.iter().any(|(types, _)| *types >= 90));
+}
+
+/// The word itself is bit 0 of each digit, and the lines of `legal` say the same.
+#[test]
+fn edits_agree_with_legal() {
+    let of = |function| cases(LEAVES).filter(move |(name, ..)| *name == function);
+    let legal: BTreeMap<Vec<u64>, u64> = of("legal")
+        .map(|(_, arguments, answer)| (numbers(arguments), numbers(answer)[0]))
+        .collect();
+    let mut met = 0;
+    for (_, arguments, answer) in of("edits") {
+        let (arguments, bits) = (numbers(arguments), numbers(answer));
+        let digits = bits
+            .iter()
+            .flat_map(|bits| [0, 16, 32, 48].map(|at| bits >> at & 1));
+        assert_eq!(digits.clone().max(), digits.min());
+        for edit in 0..256 {
+            let (place, digit) = (edit / 16, edit % 16);
+            let edited = vec![arguments[0], arguments[1] ^ digit << (4 * place)];
+            if let Some(answer) = legal.get(&edited) {
+                let bit = 16 * (place % 4) + digit;
+                assert_eq!(bits[place as usize / 4] >> bit & 1, *answer);
+                met += 1;
+            }
+        }
+    }
+    assert!(met >= 300, "{met}");
+}
+
+#[test]
 fn telling_lines_are_there() {
-    let lines: BTreeSet<&str> = leaves().lines().chain(descriptors().lines()).collect();
+    let lines: BTreeSet<&str> = judge::stored::FILES
+        .into_iter()
+        .flat_map(str::lines)
+        .collect();
     let expected = [
         // [[I before [Unknown[]; Unknown[Int] after Unknown[Boolean, Int]
         "order 200000000000005 102000000000000 = 0",
@@ -220,23 +283,18 @@ fn telling_lines_are_there() {
         "legal 5 1000000000004 = 1",
         "legal 5 1000000000005 = 0",
         // Unknown[] is wide: no category says otherwise
-        "wide 2000000000000 = 1",
-        "ref 100000000000000 = 1",
-        "known 102000000000000 = 1",
-        "concrete ff00000000000000 = 1",
+        "word 2000000000000 = 1 0 0 0 0 102000000000000 ffffffffffffffff",
+        "word 100000000000000 = 0 1 1 1 400 200000000000000 0",
+        "word 102000000000000 = 0 1 1 0 400 202000000000000 2000000000000",
+        "word fe00000000000005 = 0 1 1 1 400 ff00000000000005 fd00000000000005",
+        "word ff00000000000005 = 0 1 1 1 400 ffffffffffffffff fe00000000000005",
         "hint 309 2190000000000 = 1000000000309",
         "hint 309 21a0000000000 = ffffffffffffffff",
         "hint 309 2100000000000 = 0",
-        "cats 2000000000000 = 0",
-        "cats 2a567813249a0 = a 1 2 3 4 5 6 7 8 9 a",
-        "array ff00000000000005 = ffffffffffffffff",
-        "array fe00000000000005 = ff00000000000005",
-        "element 5 = ffffffffffffffff",
-        "s_with 0 400 = 0",
-        "s_has 4 0 3f 40 3ff ffffffffffffffff = 0",
-        "s_low 0 = 400",
-        "t_find 0 0 = 0 0",
-        "t_run 2 0 ffffffffffffffff 400 ffffffffffffffff = 2 2",
+        "set 0 400 = 0 0 400 0 0",
+        "set 4 0 3f 40 3ff ffffffffffffffff = 0 4 0 4 0 3f 40 3ff 4 0 3f 40 3ff",
+        "put 0 0 0 = 0 0 2 0",
+        "run 2 0 ffffffffffffffff 400 ffffffffffffffff = 2 2",
         // [V is 13 at 1, L; 14 at 0, L ff without ';' 11 at its end
         "d_type x5b56 = d 1 0 0 0 0 0 0",
         "d_type x4c3b = e 0 0 0 0 0 0 0",
@@ -255,6 +313,10 @@ fn telling_lines_are_there() {
         "w_type x6162 1 ffffffffffffffff 1 2 5 28 = 3 x",
         "lookup x 0 0 x = 17 0",
         "utf8 xeda080 = 0",
+        // Object alone is its own ancestor
+        "table 2000 x6a6176612f6c616e672f4f626a656374 1 0 1 10 0 0 0 0 0 = 0",
+        "pair 0 0 = 0 0 0 0 1",
+        "ancestors 0 = 0 1 0 1 1",
     ];
     for line in expected {
         assert!(lines.contains(line), "{line}");

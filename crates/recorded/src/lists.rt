@@ -1,0 +1,28 @@
+// Lists among numbers: the length, then the members.
+ghost use Prim.Native.Nat.{_-_, _≤_};
+ghost use lib.ListN.{length};
+
+// The end of the list at `at`; 0 where there is no whole list.
+pub fn end(a: &[u64], at: usize) -> usize
+    ensures { λ r. ⌜ r ≤ length (now (a .entry)) ⌝ }
+{
+    if a.len() <= at {
+        return 0;
+    }
+    let n = a[at] as usize;
+    if a.len() - at - 1 < n {
+        return 0;
+    }
+    at + 1 + n
+}
+
+// The end of the list at `at` where exactly `more` numbers follow it, else 0.
+pub fn end_before(a: &[u64], at: usize, more: usize) -> usize
+    ensures { λ r. ⌜ r ≤ length (now (a .entry)) - more ⌝ }
+{
+    let e = end(a, at);
+    if a.len() - e == more {
+        return e;
+    }
+    0
+}

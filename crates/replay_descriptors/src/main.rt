@@ -1,0 +1,71 @@
+// Replays recorded answers about descriptors and names: reads cases on standard input, one a line, calls the functions
+// named there, and prints for each how many cases agree, and of how many. The crate `recorded` says what a case looks
+// like; the input's first lines say what each function's arguments and answers are.
+mod reading;
+mod writing;
+
+use recorded::answers::Verdict;
+use recorded::cases;
+use recorded::cases::Case;
+use recorded::report;
+use recorded::text;
+
+const NAMES: [u8; 61] = *b"d_type d_strict d_method m_strict w_type w_method lookup utf8";
+
+// The function at a place of the names, on its arguments and the answers recorded. Bytes among them are places in `store`.
+fn call(place: usize, store: &[u8], a: &[u64], r: &[u64]) -> Verdict {
+    match place {
+        0 => reading::of_type(false, store, a, r),
+        1 => reading::of_type(true, store, a, r),
+        2 => reading::of_method(false, store, a, r),
+        3 => reading::of_method(true, store, a, r),
+        4 => writing::of_type(store, a, r),
+        5 => writing::of_method(store, a, r),
+        6 => writing::lookup(store, a, r),
+        7 => reading::utf8(store, a, r),
+        _ => Verdict::Unread,
+    }
+}
+
+fn judge(c: Case, store: &[u8], numbers: &[u64]) -> Verdict {
+    let split = c.split;
+    let count = c.count;
+    if numbers.len() < count {
+        return Verdict::Unread;
+    }
+    if count < split {
+        return Verdict::Unread;
+    }
+    call(c.place, store, &numbers[0..split], &numbers[split..count])
+}
+
+fn one_line(line: &[u8], counts: &mut [u64]) {
+    let mut numbers = [0u64; 512];
+    let mut store = [0u8; 1024];
+    if cases::is_case(line) {
+        let c = cases::read(&NAMES, line, &mut numbers, &mut store);
+        report::record(counts, c.place, judge(c, &store, &numbers));
+    }
+}
+
+fn each_line(input: &[u8], counts: &mut [u64]) {
+    let mut i: usize = 0;
+    while i < input.len() {
+        let e = text::part_end(input, i, b'\n');
+        one_line(&input[i..e], counts);
+        i = e + 1;
+    }
+}
+
+fn run(input: &mut [u8], counts: &mut [u64]) {
+    let n = io::read_full(libc::STDIN_FILENO, input);
+    report::note_full(counts, n == input.len());
+    each_line(&input[..n], counts);
+    report::print(&NAMES, counts);
+}
+
+fn main() {
+    let mut input = cases::room();
+    let mut counts = [0u64; 128];
+    run(&mut input, &mut counts);
+}

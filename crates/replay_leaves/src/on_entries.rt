@@ -1,0 +1,71 @@
+// The functions on sorted entries. Entries among the arguments or the answers are a list.
+use recorded::answers;
+use recorded::answers::Verdict;
+use recorded::lists;
+use sorted::Found;
+use sorted::Put;
+
+// The most entries that a case may have room for.
+const ROOM: usize = 64;
+
+fn copy(entries: &[u64], to: &mut [u64]) {
+    let mut i: usize = 0;
+    while i < entries.len() && i < to.len() {
+        to[i] = entries[i];
+        i += 1;
+    }
+}
+
+// What `find` says: whether x is there, and its position.
+fn is_found(entries: &[u64], x: u64, r: &[u64]) -> bool {
+    let f = sorted::find(entries, entries.len(), x);
+    match f {
+        Found::At(p) => answers::is_same(&[1, p as u64], r),
+        Found::Absent(p) => answers::is_same(&[0, p as u64], r),
+    }
+}
+
+// Whether an outcome, how many entries there are then, and the entries are those recorded.
+fn is_left(outcome: u64, n: usize, table: &[u64], r: &[u64]) -> Verdict {
+    if r.len() < 2 || table.len() < n {
+        return Verdict::Unread;
+    }
+    let is_said = answers::is_same(&[outcome, n as u64], &r[0..2]);
+    answers::judged(is_said && answers::is_same(&table[0..n], &r[2..]))
+}
+
+// Inserts x into the first `room` entries of a table.
+fn insert_in(entries: &[u64], room: usize, x: u64, table: &mut [u64], r: &[u64]) -> Verdict {
+    let n = entries.len();
+    if table.len() < room || room < n {
+        return Verdict::Unread;
+    }
+    copy(entries, &mut table[0..room]);
+    let p = sorted::insert(&mut table[0..room], n, x);
+    match p {
+        Put::Old => is_left(0, n, table, r),
+        Put::New => is_left(1, n + 1, table, r),
+        Put::Full => is_left(2, n, table, r),
+    }
+}
+
+pub fn put(a: &[u64], r: &[u64]) -> Verdict {
+    let mut table = [0u64; ROOM];
+    let e = lists::end_before(a, 1, 1);
+    if e < 2 || r.len() < 2 {
+        return Verdict::Unread;
+    }
+    if is_found(&a[2..e], a[e], &r[0..2]) {
+        return insert_in(&a[2..e], a[0] as usize, a[e], &mut table, &r[2..]);
+    }
+    Verdict::Differs
+}
+
+pub fn run(a: &[u64], r: &[u64]) -> Verdict {
+    let e = lists::end_before(a, 0, 2);
+    if e == 0 {
+        return Verdict::Unread;
+    }
+    let s = sorted::run(&a[1..e], e - 1, a[e], a[e + 1]);
+    answers::all(&[s.first as u64, s.past as u64], r)
+}
