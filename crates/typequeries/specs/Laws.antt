@@ -11,7 +11,7 @@ use borrow.Author.Tests.{eq-eqb, ne-eqb, lt-ltb, le-ltb, eqb-true, eqb-false}
 use Rattle.ty.specs.Words.{legalWord, typeOf, wordOf, Legal}
 use Rattle.ty.specs.Round.{legal-more}
 use Rattle.names.specs.First as checks
-use Rattle.names.specs.First.{Check, check, both, first-hit, first-miss}
+use Rattle.names.specs.First.{both, first-hit, first-miss}
 use Rattle.view.specs.View.{View}
 use Rattle.lattice.specs.declared.Numbers.{Numbers}
 use Rattle.lattice.specs.Lattice.{World, join, isAssignable}
@@ -22,7 +22,7 @@ use Rattle.rows.specs.declared.Tables.{Tables}
 use Rattle.rows.specs.declared.Outcome.{Outcome}
 use Rattle.rows.specs.Rows.{noTables, Ran, Fills}
 use Rattle.queries.specs.declared.Answer.{Answer}
-use Rattle.queries.specs.Queries.{Given, even, noMarks, table, checkedTable, viewIn, answered, workAfter, Asked}
+use Rattle.queries.specs.Queries.{Given, even, noMarks, table, checkedTable, answered, workAfter, Asked}
 use Rattle.queries.specs.Laws.{checked-even, checked-uneven, good-in, object-known, view-filled, answered-none}
 use Rattle.typequeries.specs.declared.TypeQuery.{TypeQuery}
 use Rattle.typequeries.specs.declared.TypeQuery.the-variants.{Join, Assignable}
