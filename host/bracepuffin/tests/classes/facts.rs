@@ -99,6 +99,8 @@ fn repeated_records_unite_parents_and_the_last_declared_one_gives_the_facts() {
     // Two final classes, one declared an interface afterwards; an undeclared record changes nothing.
     let classes = table(&[(5, 0, &[]), (5, 1, &[]), (3, 1, &[2]), (0, 1, &[1])]);
     assert_eq!(answer(Query::Cast, &classes, 0, 1), 0);
+    let classes = table(&[(1, 0, &[]), (3, 1, &[]), (0, 1, &[])]);
+    assert_eq!(answer(Query::Cast, &classes, 0, 1), 1);
     let classes = table(&[(5, 0, &[]), (1, 0, &[]), (5, 1, &[]), (3, 1, &[2])]);
     assert_eq!(answer(Query::Cast, &classes, 0, 1), 1);
     let (_, set) = Query::Ancestors.ask(&classes, 1, 1, &mut work());
@@ -138,40 +140,42 @@ fn a_cast_by_facts_where_the_relation_is_unknown() {
     assert_eq!(answer(Query::Cast, &classes, 0, 1), 1);
 }
 
+/// c and d are above both a and b, and neither is above the other.
 #[test]
-fn equal_distances_are_decided_by_sum_and_then_by_name() {
-    // a and b have three parents in common: e by 1 and 1, d by 1 and 1, c by 1 and 2.
-    let names = ["a", "b", "c", "d", "e", "f", "java/lang/Object"];
-    let classes = with_names(
-        &names,
-        &[
-            (0, 0, &[2, 3, 4]),
-            (0, 1, &[5, 3, 4]),
-            (0, 5, &[2]),
-            (0, 2, &[]),
-            (0, 3, &[]),
-            (0, 4, &[]),
-        ],
-    );
-    assert_eq!(answer(Query::Supertype, &classes, 0, 1), 3);
-    // c and d both two steps away at most, but d by a smaller sum.
-    let classes = with_names(
-        &names,
-        &[(0, 0, &[5, 3]), (0, 1, &[5, 4]), (0, 5, &[2]), (0, 4, &[3])],
-    );
-    assert_eq!(answer(Query::Supertype, &classes, 0, 1), 5);
-    let classes = with_names(
-        &names,
-        &[
-            (0, 0, &[4, 5]),
-            (0, 1, &[5, 3]),
-            (0, 4, &[2, 3]),
-            (0, 5, &[2]),
-            (0, 3, &[]),
-            (0, 2, &[]),
-        ],
-    );
-    assert_eq!(answer(Query::Supertype, &classes, 0, 1), 5);
+fn the_nearest_of_two_common_ancestors() {
+    let names = [
+        "a",
+        "b",
+        "c",
+        "d",
+        "e",
+        "f",
+        "g",
+        "h",
+        "i",
+        "java/lang/Object",
+    ];
+    let nearest = |records: &[(u64, u64, &[u64])]| {
+        let classes = with_names(&names, records);
+        answer(Query::Supertype, &classes, 0, 1)
+    };
+    // Both by 1 and 1: the name decides.
+    assert_eq!(nearest(&[(0, 0, &[2, 3]), (0, 1, &[3, 2])]), 2);
+    // c by 2 and 2, d by 1 and 2: the greater one is the same, the sum decides.
+    let by_sum: [(u64, u64, &[u64]); 4] =
+        [(0, 0, &[3, 4]), (0, 1, &[5]), (0, 4, &[2]), (0, 5, &[2, 3])];
+    assert_eq!(nearest(&by_sum), 3);
+    // c by 1 and 4, d by 3 and 3: the greater one decides before the sum.
+    let by_greater: [(u64, u64, &[u64]); 7] = [
+        (0, 0, &[2, 4]),
+        (0, 4, &[5]),
+        (0, 5, &[3]),
+        (0, 1, &[6]),
+        (0, 6, &[7]),
+        (0, 7, &[3, 8]),
+        (0, 8, &[2]),
+    ];
+    assert_eq!(nearest(&by_greater), 3);
 }
 
 #[test]
