@@ -1,5 +1,6 @@
 /*
- * A worked call from C: reads a method's descriptor, looks its class up, and writes the descriptor again.
+ * Worked calls from C: reads a method's descriptor, looks its class up, and writes the descriptor again; then asks about
+ * the classes of a table.
  *
  *     cc -I include examples/call.c ../target/staticlib/libbracepuffin.a -o call && ./call
  */
@@ -27,6 +28,27 @@ static uint64_t word_of(const uint8_t *d, BpType t) {
     return BP_ARRAY(t.dims, BP_CLASS(found.class_no));
 }
 
+/* Records of the same names: String and List, an interface, are declared and have Object as their parent. */
+static const uint64_t rec_flags[] = {BP_DECLARED | BP_FINAL, BP_DECLARED | BP_INTERFACE};
+static const uint64_t rec_class[] = {1, 2};
+static const uint64_t rec_at[] = {0, 0};
+static const uint64_t rec_len[] = {1, 1};
+static const uint64_t parents[] = {0};
+#define TABLE NAMES, rec_flags, 2, rec_class, 2, rec_at, 2, rec_len, 2, parents, 1
+
+static void ask_classes(void) {
+    static uint64_t work[BP_WORK];
+    BpRelation relation = bp_relation(TABLE, 1, 2, work, BP_WORK);
+    printf("String to List: refusal %" PRIu64 ", relation %" PRIu64 "\n", relation.refusal, relation.relation);
+    BpSet above = bp_ancestors(TABLE, 1, work, BP_WORK);
+    printf("above String: %" PRIu64 " classes, set %" PRIx64 "\n", above.count, above.words[0]);
+    BpAnswer common = bp_supertype(TABLE, 1, 2, work, BP_WORK);
+    BpAnswer cast = bp_cast(TABLE, 1, 2, work, BP_WORK);
+    printf("common supertype %" PRIu64 ", cast %" PRIu64 "\n", common.value, cast.value);
+    BpAnswer none = bp_distance(TABLE, 1, 3, work, BP_WORK);
+    printf("to class 3: refusal %" PRIu64 "\n", none.refusal);
+}
+
 int main(void) {
     const uint8_t *d = (const uint8_t *)"([Ljava/lang/String;I)V";
     size_t n = strlen((const char *)d);
@@ -48,5 +70,7 @@ int main(void) {
 
     BpType bad = bp_read_type((const uint8_t *)"[V", 2);
     printf("[V: refusal %" PRIu64 " at %" PRIu64 "\n", bad.refusal, bad.offset);
+
+    ask_classes();
     return 0;
 }

@@ -1,17 +1,20 @@
 /*
- * Bracepuffin from C: descriptors and names.
+ * Bracepuffin from C: descriptors, names, class tables.
  *
  * Every function takes arbitrary numbers and bytes, allocates nothing and keeps nothing. A slice is a pointer and a
  * length in elements. The pointer is never null, not even for length 0; slices that are written overlap no other slice
  * of the call.
  *
  * A result begins with its refusal, 0 for none. In a refused result every other field is 0, but for offset and byte
- * where the refusal has them. A refused call leaves all lent memory as it came.
+ * where the refusal has them. A refused call leaves all lent memory as it came, but for the working slice of a query.
  *
- *    3  name columns of unequal length; a name of no bytes or of more than 255, or not inside its slice
+ *    3  columns of unequal length; a name of no bytes or of more than 255, or not inside its slice; a record of more
+ *       than 254 parents, or whose parents are not inside their slice
  *    5  a name not above the one before it
+ *    6  flags, a class or a parent of a record, or a class asked about, out of range
  *    7  no type word, or its class number not in the table
- *    8  more than 1,024 names, 24,576 name bytes or 255 parameters
+ *    8  more than 1,024 names, 24,576 name bytes, 4,096 distinct pairs of a class and a parent, or 255 parameters
+ *    9  a query over a table without the name java/lang/Object
  *   10  a name that is not well-formed UTF-8
  *   11  the descriptor ends too early                                       offset
  *   12  a byte that begins no type, or a name not well-formed from here on  offset, byte
@@ -22,7 +25,8 @@
  *   17  a parameter list that is not closed                                 offset
  *   18  the 256th dimension of one type                                     offset
  *   19  the 256th parameter                                                 offset
- *   22  fewer than 255 entries for parameters, or less room than what is to be written
+ *   22  fewer than 255 entries for parameters, less room than what is to be written, or a working slice of fewer than
+ *       8,192 words
  *   23  the name looked up is not in the table
  *   24  a name with '.', '[' or an empty part beside a slash                offset, of the L
  *
@@ -52,6 +56,24 @@ extern "C" {
  * Each call checks its table: 3 for columns of unequal length, then name by name 3, 10, 5, 8.
  */
 #define BP_NAMES BP_IN8(names), BP_IN64(name_at), BP_IN64(name_len)
+
+/*
+ * A class table: names as above, and records. Record j says that class rec_class[j] has the rec_len[j] entries of
+ * `parents` from rec_at[j] on among its direct parents, 0 to 254 of them, all of them class numbers. Its flags are the
+ * sum of BP_DECLARED, and with it BP_INTERFACE and BP_FINAL. Records come in any order. Several of one class unite
+ * their parents, and the last declared one gives interface and final. A class is recorded when it has a record, even
+ * one without parents. Cycles and parents of java/lang/Object are allowed; parents may be shared or unused.
+ *
+ * Each call checks its table: 3 for columns of unequal length, of names and of records; then name by name 3, 10, 5, 8;
+ * then record by record 3, 6, 8. A pair that is already there is never refused 8.
+ */
+#define BP_TABLE BP_NAMES, BP_IN64(rec_flags), BP_IN64(rec_class), BP_IN64(rec_at), BP_IN64(rec_len), BP_IN64(parents)
+
+/* Flags of a record; 0 is a record that is not declared. */
+enum { BP_DECLARED = 1, BP_INTERFACE = 2, BP_FINAL = 4 };
+
+/* The least number of words that a working slice must have. */
+#define BP_WORK 8192
 
 /* Categories of primitives. 9 and 10 stand for a class and an array that are not named; they are written L and [. */
 enum {
@@ -96,6 +118,29 @@ typedef struct BpFound {
     uint64_t refusal, class_no;
 } BpFound;
 
+/* How a class stands to another. */
+typedef struct BpRelation {
+    uint64_t refusal, relation;
+} BpRelation;
+
+/* A number, a class number, or 0 and 1. */
+typedef struct BpAnswer {
+    uint64_t refusal, value;
+} BpAnswer;
+
+/* A set of classes: bit i % 64, from the low end, of words[i / 64] is class i. */
+typedef struct BpSet {
+    uint64_t refusal, count, lowest;
+    uint64_t words[16];
+} BpSet;
+
+/* Values of BpRelation. BP_UNKNOWN: no, as far as is recorded, but a class that is reached has no record. */
+enum { BP_YES = 0, BP_NO = 1, BP_UNKNOWN = 2 };
+
+/* The distance of a java/lang/Object that is not reached; of a class that is no ancestor; no class. */
+#define BP_UNREACHED UINT64_C(4611686018427387903)
+#define BP_NONE      UINT64_MAX
+
 /*
  * Reads a type; V alone is one. The first fault in reading order is refused:
  * 11, 12, 13, 14, 18; then 15. In a class 11 (no ';') comes before 14, and 14 before 12.
@@ -130,6 +175,39 @@ BpWritten bp_write_method(BP_NAMES, BP_IN64(params), uint64_t result, BP_OUT8(ou
 
 /* The class number of a name. 3, 10, 5, 8 for the table; 23. */
 BpFound bp_lookup(BP_NAMES, BP_IN8(key));
+
+/*
+ * Queries over a class table. They refuse 22; 3, 10, 5, 6, 8 for the table, as above; 6 for a class number asked about;
+ * 9. `work` is scratch: what it holds before is without effect, and afterwards every word of it is 0, also where
+ * the call is refused. Only 22 leaves it as it came.
+ *
+ * An ancestor of a class is the class itself, every class reached from it by the parents that are recorded, and
+ * java/lang/Object.
+ */
+
+/* BP_YES where `expected` is an ancestor of `value`; else BP_UNKNOWN where a class that is reached from `value`, or it
+ * itself, has no record; else BP_NO. */
+BpRelation bp_relation(BP_TABLE, uint64_t value, uint64_t expected, BP_OUT64(work));
+
+/* The least number of steps from `value` to `expected`; BP_UNREACHED for a java/lang/Object that no step leads to;
+ * BP_NONE for no ancestor. */
+BpAnswer bp_distance(BP_TABLE, uint64_t value, uint64_t expected, BP_OUT64(work));
+
+/* The ancestors of a class, how many they are, and the lowest. */
+BpSet bp_ancestors(BP_TABLE, uint64_t class_no, BP_OUT64(work));
+
+/*
+ * The least common supertype: `right` where it is an ancestor of `left`; else `left` where it is one of `right`; else,
+ * of the common ancestors that have no other strictly below them, the first by the greater of its two distances, by their
+ * sum, by name. BP_NONE would be none, but java/lang/Object is always common.
+ */
+BpAnswer bp_supertype(BP_TABLE, uint64_t left, uint64_t right, BP_OUT64(work));
+
+/*
+ * 1 where a cast from `source` to `target` can succeed, else 0. It can where either is an ancestor of the other; else
+ * where both are declared and both are interfaces, or one is and the other is not final.
+ */
+BpAnswer bp_cast(BP_TABLE, uint64_t source, uint64_t target, BP_OUT64(work));
 
 #ifdef __cplusplus
 }

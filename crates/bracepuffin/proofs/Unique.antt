@@ -28,6 +28,10 @@ use Rattle.bracepuffin.proofs.bp_supertype.Reads as bp-supertype-reads
 use Rattle.bracepuffin.proofs.bp_supertype.Kinds as bp-supertype-kinds
 use Rattle.bracepuffin.proofs.bp_cast.Reads as bp-cast-reads
 use Rattle.bracepuffin.proofs.bp_cast.Kinds as bp-cast-kinds
+use Rattle.bracepuffin.proofs.bp_join.Reads as bp-join-reads
+use Rattle.bracepuffin.proofs.bp_join.Kinds as bp-join-kinds
+use Rattle.bracepuffin.proofs.bp_assignable.Reads as bp-assignable-reads
+use Rattle.bracepuffin.proofs.bp_assignable.Kinds as bp-assignable-kinds
 
 pub bp-read-type-one : (κs : Lfts 1) (a : Dens κs bp-read-type-kinds.ps) (r₁ r₂ : resT bp-read-type-kinds.r κs .Denot) (x₁ x₂ : AtExit (endedOf 1 bp-read-type-kinds.ps bp-read-type-kinds.r) κs)
     → bp-read-type-reads.Post κs a r₁ x₁ → bp-read-type-reads.Post κs a r₂ x₂ → r₁ ≡ r₂
@@ -76,3 +80,11 @@ bp-supertype-one κs a r₁ r₂ x₁ x₂ p q = (p .result ∙ sym (q .result),
 pub bp-cast-one : (κs : Lfts 9) (a : Dens κs bp-cast-kinds.ps) (r₁ r₂ : resT bp-cast-kinds.r κs .Denot) (x₁ x₂ : AtExit (endedOf 9 bp-cast-kinds.ps bp-cast-kinds.r) κs)
     → bp-cast-reads.Post κs a r₁ x₁ → bp-cast-reads.Post κs a r₂ x₂ → (r₁ ≡ r₂) × (now (x₁ .1 .1 .1 .1 .1 .1 .1 .1 .1 .1 .0) ≡ now (x₂ .1 .1 .1 .1 .1 .1 .1 .1 .1 .1 .0))
 bp-cast-one κs a r₁ r₂ x₁ x₂ p q = (p .result ∙ sym (q .result), p .memory ∙ sym (q .memory))
+
+pub bp-join-one : (κs : Lfts 9) (a : Dens κs bp-join-kinds.ps) (r₁ r₂ : resT bp-join-kinds.r κs .Denot) (x₁ x₂ : AtExit (endedOf 9 bp-join-kinds.ps bp-join-kinds.r) κs)
+    → bp-join-reads.Post κs a r₁ x₁ → bp-join-reads.Post κs a r₂ x₂ → (r₁ ≡ r₂) × (now (x₁ .1 .1 .1 .1 .1 .1 .1 .1 .1 .1 .0) ≡ now (x₂ .1 .1 .1 .1 .1 .1 .1 .1 .1 .1 .0))
+bp-join-one κs a r₁ r₂ x₁ x₂ p q = (p .result ∙ sym (q .result), p .memory ∙ sym (q .memory))
+
+pub bp-assignable-one : (κs : Lfts 9) (a : Dens κs bp-assignable-kinds.ps) (r₁ r₂ : resT bp-assignable-kinds.r κs .Denot) (x₁ x₂ : AtExit (endedOf 9 bp-assignable-kinds.ps bp-assignable-kinds.r) κs)
+    → bp-assignable-reads.Post κs a r₁ x₁ → bp-assignable-reads.Post κs a r₂ x₂ → (r₁ ≡ r₂) × (now (x₁ .1 .1 .1 .1 .1 .1 .1 .1 .1 .1 .0) ≡ now (x₂ .1 .1 .1 .1 .1 .1 .1 .1 .1 .1 .0))
+bp-assignable-one κs a r₁ r₂ x₁ x₂ p q = (p .result ∙ sym (q .result), p .memory ∙ sym (q .memory))

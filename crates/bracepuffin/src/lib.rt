@@ -13,6 +13,8 @@ use queries::Answer;
 use queries::Query;
 use queries::ancestors_of;
 use queries::ask;
+use typequeries::TypeQuery;
+use typequeries::ask_types;
 use writer::Written;
 use writer::write_method;
 use writer::write_type;
@@ -20,12 +22,15 @@ ghost use mathlib.Core.Path.{_≡_};
 ghost use mathlib.Core.Bool.{true, false, cond};
 ghost use mathlib.Core.List.{[], _∷_};
 ghost use lib.ListN.{length};
+ghost use Rattle.ty.specs.Words.{typeOf, wordOf};
 ghost use Rattle.descriptor.specs.Read.{readWhole, readStrict};
 ghost use Rattle.descriptor.specs.Answers.{methodOf, paramsAfter};
 ghost use Rattle.names.specs.Names.{lookUp};
 ghost use Rattle.writer.specs.Print.{printWord, printMethodWords, typeRefusal, methodRefusal};
 ghost use Rattle.view.specs.View.{relation, relationNumber, distance, numberOf, ancestors, supertype, cast};
+ghost use Rattle.lattice.specs.Lattice.{join, isAssignable};
 ghost use Rattle.queries.specs.Queries.{given, viewIn, queryRefusal, answered, gathered};
+ghost use Rattle.typequeries.specs.TypeQueries.{worldIn, typeQueryRefusal};
 ghost use Rattle.bracepuffin.specs.Boundary.{typeFound, typeAnswer, methodResult, bpMethod, foundAnswer, writtenAnswer, Wrote, relationAnswer, numberAnswer, setAnswer, Told};
 
 #[repr(C)]
@@ -443,6 +448,74 @@ pub extern "C" fn bp_cast(
         Query::Cast,
         source,
         target,
+        work,
+    );
+    number_answer(a)
+}
+
+// ---- types
+
+#[no_mangle]
+pub extern "C" fn bp_join(
+    names: &[u8],
+    name_at: &[u64],
+    name_len: &[u64],
+    rec_flags: &[u64],
+    rec_class: &[u64],
+    rec_at: &[u64],
+    rec_len: &[u64],
+    parents: &[u64],
+    left: u64,
+    right: u64,
+    work: &mut [u64],
+) -> BpAnswer
+    ensures { λ r. ⌜ Told (numberAnswer (answered (typeQueryRefusal (given (now (names .entry)) (now («name_at» .entry)) (now («name_len» .entry)) (now («rec_flags» .entry)) (now («rec_class» .entry)) (now («rec_at» .entry)) (now («rec_len» .entry)) (now (parents .entry))) (left ∷ right ∷ []) (length (now (work .entry)))) (wordOf (join (worldIn (given (now (names .entry)) (now («name_at» .entry)) (now («name_len» .entry)) (now («rec_flags» .entry)) (now («rec_class» .entry)) (now («rec_at» .entry)) (now («rec_len» .entry)) (now (parents .entry)))) (typeOf left) (typeOf right))))) (now (work .entry)) (now (work .exit)) r ⌝ }
+{
+    let a = ask_types(
+        names,
+        name_at,
+        name_len,
+        rec_flags,
+        rec_class,
+        rec_at,
+        rec_len,
+        parents,
+        TypeQuery::Join,
+        left,
+        right,
+        work,
+    );
+    number_answer(a)
+}
+
+#[no_mangle]
+pub extern "C" fn bp_assignable(
+    names: &[u8],
+    name_at: &[u64],
+    name_len: &[u64],
+    rec_flags: &[u64],
+    rec_class: &[u64],
+    rec_at: &[u64],
+    rec_len: &[u64],
+    parents: &[u64],
+    value: u64,
+    expected: u64,
+    work: &mut [u64],
+) -> BpAnswer
+    ensures { λ r. ⌜ Told (numberAnswer (answered (typeQueryRefusal (given (now (names .entry)) (now («name_at» .entry)) (now («name_len» .entry)) (now («rec_flags» .entry)) (now («rec_class» .entry)) (now («rec_at» .entry)) (now («rec_len» .entry)) (now (parents .entry))) (value ∷ expected ∷ []) (length (now (work .entry)))) (cond (isAssignable (worldIn (given (now (names .entry)) (now («name_at» .entry)) (now («name_len» .entry)) (now («rec_flags» .entry)) (now («rec_class» .entry)) (now («rec_at» .entry)) (now («rec_len» .entry)) (now (parents .entry)))) (typeOf value) (typeOf expected)) 1 0))) (now (work .entry)) (now (work .exit)) r ⌝ }
+{
+    let a = ask_types(
+        names,
+        name_at,
+        name_len,
+        rec_flags,
+        rec_class,
+        rec_at,
+        rec_len,
+        parents,
+        TypeQuery::Assignable,
+        value,
+        expected,
         work,
     );
     number_answer(a)

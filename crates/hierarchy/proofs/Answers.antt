@@ -3,21 +3,17 @@ use mathlib.Core.Path.{_≡_, refl, sym, ap, _∙_, subst}
 use mathlib.Core.Bool.{Bool, true, false, cond, not, _&&_, false≢true}
 use mathlib.Core.List.{List, [], _∷_, List·Memᴰ, List·Memᴰ·head, List·Memᴰ·tail, List·Memᴰ·not-nil, List·Memᴰ·cases-cons}
 use mathlib.Core.Logic.{⊎-elim}
-use Prim.Native.Nat.{ℕ, _≤_, _<_}
+use Prim.Native.Nat.{ℕ, _<_}
 use native.Mathlib.Omega.{arith}
-use borrow.Author.Tests.{eq-eqb, ne-eqb, lt-ltb, le-ltb}
-use lib.Dec.{ltb}
+use borrow.Author.Tests.{eq-eqb, ne-eqb}
 use lib.ListN.{length}
 use Rattle.sets.specs.Sets.{at, member, subtract, members, first}
 use Rattle.sets.specs.Bits.{first-le}
 use Rattle.sets.specs.Laws.{member-subtract, members-only, members-all, length-subtract, lowest-none, lowest-member}
 use Rattle.hierarchy.specs.declared.Classes.{Classes}
-use Rattle.hierarchy.specs.declared.Candidate.{Candidate}
 use Rattle.view.specs.declared.Relation.the-variants.{Yes, No, Unknown}
-use Rattle.view.specs.View.{View, reached, reach, ancestor, allRecorded, complete, relation, castByFacts, cast, nearer}
+use Rattle.view.specs.View.{View, reached, reach, ancestor, allRecorded, complete, relation, castByFacts, cast}
 use Rattle.view.specs.Reach.{level-formed}
-use Rattle.view.specs.Nearest.{greater, sum}
-use Rattle.view.specs.Pick.{before}
 use Rattle.hierarchy.specs.Table.{mark, mark-length, viewOf, parentView, castMarked}
 use Rattle.hierarchy.specs.Marks.{reached-marks, reach-marks, ancestor-marks}
 
@@ -162,53 +158,3 @@ module _ (pairs marks : List ℕ) (t : Classes) (source target : ℕ) where
       → castMarked marks source target ≡ cast (viewOf pairs marks t) source target
   unfolding cast castMarked
   cast-facts a b = simp (ancestor-marks pairs marks t source target, a, ancestor-marks pairs marks t target source, b)
-
--- ---- supertype: the order of two candidates
-
-module _ (a s c b t d : ℕ) where
-  pub by-greater : a < b → true ≡ before a s c b t d
-  by-greater h = simp (lt-ltb a b h)
-
-  pub not-by-greater : b < a → false ≡ before a s c b t d
-  not-by-greater h = simp (le-ltb a b (omega arith), ne-eqb a b (λ e. omega arith))
-
-  module _ (h : b ≤ a) (k : a ≤ b) where
-    pub by-sum : s < t → true ≡ before a s c b t d
-    by-sum l = simp (le-ltb a b h, eq-eqb a b (omega arith), lt-ltb s t l)
-
-    pub not-by-sum : t < s → false ≡ before a s c b t d
-    not-by-sum l = simp (le-ltb a b h, eq-eqb a b (omega arith), le-ltb s t (omega arith), ne-eqb s t (λ e. omega arith))
-
-    pub by-number : t ≤ s → s ≤ t → ltb c d ≡ before a s c b t d
-    by-number l m = simp (le-ltb a b h, eq-eqb a b (omega arith), le-ltb s t l, eq-eqb s t (omega arith))
-
--- a candidate whose numbers are its distances
-pub record Measured (v : View) (left right : ℕ) (a : Candidate) : Type 0 where
-  pub is-greater : a .greater ≡ greater v left right (a .class)
-  pub is-sum : a .sum ≡ sum v left right (a .class)
-
-pub measured-of : (v : View) (left right c : ℕ) (a : Candidate) → a .class ≡ c → a .greater ≡ greater v left right c → a .sum ≡ sum v left right c → Measured v left right a
-measured-of v left right c a e g s = record { is-greater = g ∙ ap (greater v left right) (sym e); is-sum = s ∙ ap (sum v left right) (sym e) }
-
--- the one that comes first is the nearer one, with its distances
-module _ (v : View) (left right : ℕ) (a b r : Candidate) (ma : Measured v left right a) (mb : Measured v left right b)
-    (e : r ≡ cond (before (a .greater) (a .sum) (a .class) (b .greater) (b .sum) (b .class)) a b) where
-  test : before (a .greater) (a .sum) (a .class) (b .greater) (b .sum) (b .class) ≡ nearer v left right (a .class) (b .class)
-  unfolding nearer
-  test = simp (ma .is-greater, ma .is-sum, mb .is-greater, mb .is-sum)
-
-  pub first-nearer : (c : ℕ) → a .class ≡ c → r .class ≡ cond (nearer v left right c (b .class)) c (b .class)
-  first-nearer c k =
-      ap (λ (x : Candidate). x .class) (e ∙ ap (λ (q : Bool). cond q a b) test) ∙ go (nearer v left right (a .class) (b .class))
-      ∙ ap (λ (x : ℕ). cond (nearer v left right x (b .class)) x (b .class)) k
-    where
-      go : (q : Bool) → cond q a b .class ≡ cond q (a .class) (b .class)
-      go true = refl
-      go false = refl
-
-  pub first-measured : Measured v left right r
-  first-measured = subst (Measured v left right) (sym e) (go (before (a .greater) (a .sum) (a .class) (b .greater) (b .sum) (b .class)))
-    where
-      go : (q : Bool) → Measured v left right (cond q a b)
-      go true = ma
-      go false = mb

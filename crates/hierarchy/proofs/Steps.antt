@@ -13,9 +13,8 @@ use Rattle.sets.specs.Sets.{at, insert, remove, members, first}
 use Rattle.sets.specs.Bits.{first-le}
 use Rattle.sorted.specs.Sorted.{runOf}
 use Rattle.sorted.specs.Places.{place-le}
-use Rattle.view.specs.View.{View, reach, insertAll, withParents}
+use Rattle.view.specs.View.{View, insertAll, withParents}
 use Rattle.view.specs.Frontier.{members-pop, members-none}
-use Rattle.view.specs.Lows.{strip}
 use Rattle.hierarchy.specs.Table.{parentsIn, between, mark}
 
 -- ---- with_parents: the keys of the run, one by one
@@ -81,20 +80,3 @@ expand-step v s f c e h = ap (withParents v s) (members-pop f c e h)
 pub expand-end : (v : View) (s f : List ℕ) (c : ℕ) → c ≡ first (at f) 1024 → 1024 ≤ c → withParents v s (members (at f) 0 1024) ≡ s
 unfolding withParents
 expand-end v s f c e h = ap (withParents v s) (members-none f (let l = first-le (at f) 1024 in omega arith))
-
--- ---- not_reaching: the same
-
-pub strip-step : (v : View) (d : ℕ) (s f : List ℕ) (c : ℕ) → c ≡ first (at f) 1024 → c < 1024
-    → strip v d s (members (at f) 0 1024) ≡ strip v d (cond (reach v c d) (remove s c) s) (members (at (remove f c)) 0 1024)
-unfolding strip
-strip-step v d s f c e h = ap (strip v d s) (members-pop f c e h)
-
-pub strip-end : (v : View) (d : ℕ) (s f : List ℕ) (c : ℕ) → c ≡ first (at f) 1024 → 1024 ≤ c → strip v d s (members (at f) 0 1024) ≡ s
-unfolding strip
-strip-end v d s f c e h = ap (strip v d s) (members-none f (let l = first-le (at f) 1024 in omega arith))
-
--- ---- what is left of a set, one less with each turn
-
-pub left-less : (f : List ℕ) (c : ℕ) (next : List ℕ) → c ≡ first (at f) 1024 → c < 1024 → next ≡ remove f c
-    → length (members (at next) 0 1024) < length (members (at f) 0 1024)
-left-less f c next e h q = let m = ap length (members-pop f c e h) in let w = ap (λ (s : List ℕ). length (members (at s) 0 1024)) q in omega arith

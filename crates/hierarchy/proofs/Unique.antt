@@ -13,8 +13,10 @@ use Rattle.hierarchy.proofs.subtype_relation.Reads as subtype-relation-
 use Rattle.hierarchy.proofs.subtype_relation.Kinds as subtype-relation-kinds
 use Rattle.hierarchy.proofs.cast.Reads as cast-reads
 use Rattle.hierarchy.proofs.cast.Kinds as cast-kinds
-use Rattle.hierarchy.proofs.supertype.Reads as supertype-reads
-use Rattle.hierarchy.proofs.supertype.Kinds as supertype-kinds
+use Rattle.hierarchy.proofs.reaches.Reads as reaches-reads
+use Rattle.hierarchy.proofs.reaches.Kinds as reaches-kinds
+use Rattle.hierarchy.proofs.distance_or_far.Reads as distance-or-far-reads
+use Rattle.hierarchy.proofs.distance_or_far.Kinds as distance-or-far-kinds
 
 pub reached-one : (κs : Lfts 1) (a : Dens κs reached-kinds.ps) (r₁ r₂ : resT reached-kinds.r κs .Denot) (x₁ x₂ : AtExit (endedOf 1 reached-kinds.ps reached-kinds.r) κs)
     → reached-reads.Post κs a r₁ x₁ → reached-reads.Post κs a r₂ x₂ → r₁ ≡ r₂
@@ -36,6 +38,10 @@ pub cast-one : (κs : Lfts 2) (a : Dens κs cast-kinds.ps) (r₁ r₂ : resT cas
     → cast-reads.Post κs a r₁ x₁ → cast-reads.Post κs a r₂ x₂ → r₁ ≡ r₂
 cast-one κs a r₁ r₂ x₁ x₂ p q = p ∙ sym q
 
-pub supertype-one : (κs : Lfts 1) (a : Dens κs supertype-kinds.ps) (r₁ r₂ : resT supertype-kinds.r κs .Denot) (x₁ x₂ : AtExit (endedOf 1 supertype-kinds.ps supertype-kinds.r) κs)
-    → supertype-reads.Post κs a r₁ x₁ → supertype-reads.Post κs a r₂ x₂ → r₁ ≡ r₂
-supertype-one κs a r₁ r₂ x₁ x₂ p q = p ∙ sym q
+pub reaches-one : (κs : Lfts 1) (a : Dens κs reaches-kinds.ps) (r₁ r₂ : resT reaches-kinds.r κs .Denot) (x₁ x₂ : AtExit (endedOf 1 reaches-kinds.ps reaches-kinds.r) κs)
+    → reaches-reads.Post κs a r₁ x₁ → reaches-reads.Post κs a r₂ x₂ → r₁ ≡ r₂
+reaches-one κs a r₁ r₂ x₁ x₂ p q = p ∙ sym q
+
+pub distance-or-far-one : (κs : Lfts 1) (a : Dens κs distance-or-far-kinds.ps) (r₁ r₂ : resT distance-or-far-kinds.r κs .Denot) (x₁ x₂ : AtExit (endedOf 1 distance-or-far-kinds.ps distance-or-far-kinds.r) κs)
+    → distance-or-far-reads.Post κs a r₁ x₁ → distance-or-far-reads.Post κs a r₂ x₂ → r₁ ≡ r₂
+distance-or-far-one κs a r₁ r₂ x₁ x₂ p q = p .0 ∙ sym (q .0)

@@ -19,3 +19,13 @@ pub examples : (join world (Primitive 1) (Primitive 5) ≡ Unknown (1 ∷ 5 ∷ 
     × (join world (Array (Primitive 5)) (Object 1) ≡ Unknown (9 ∷ 10 ∷ []))
 unfolding elem compareNumbers compareLists compare categories sameType hasAll unknownAccepts ascending unknownUnion primitiveAssignable assignableApart isAssignable narrow underDouble joinPrimitive joinKnown joinApart join joinFrom joinAll arrayParent joinArrayClass
 examples = (refl, refl, refl, refl)
+
+-- with a/TrussA in the place of java/lang/Cloneable: an array is assignable to it, and their join is Unknown[Object, Array] all the same
+abbrev clones : World
+clones = record { view = whole; cloneable = some 1; serializable = none }
+
+pub array-cloneable : (isAssignable clones (Array (Primitive 5)) (Object 1) ≡ true)
+    × (join clones (Array (Primitive 5)) (Object 1) ≡ Unknown (9 ∷ 10 ∷ []))
+    × (join clones (Object 1) (Array (Primitive 5)) ≡ Unknown (9 ∷ 10 ∷ []))
+unfolding elem compare categories sameType ascending unknownUnion assignableApart isAssignable joinApart join arrayParent joinArrayClass
+array-cloneable = (refl, refl, refl)

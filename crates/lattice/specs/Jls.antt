@@ -47,7 +47,7 @@ same-eq true false h = absurd (false≢true h)
 same-eq false true h = absurd (false≢true h)
 same-eq false false h = refl
 
-allBelow : ℕ → (ℕ → Bool) → Bool
+unfoldable pub allBelow : ℕ → (ℕ → Bool) → Bool
 allBelow zero p = true
 allBelow (suc n) p = p n && allBelow n p
 
@@ -56,7 +56,7 @@ both true true h = (refl, refl)
 both true false h = absurd (false≢true h)
 both false b h = absurd (false≢true h)
 
-below : (n : ℕ) (p : ℕ → Bool) (k : ℕ) → k < n → allBelow n p ≡ true → p k ≡ true
+pub below : (n : ℕ) (p : ℕ → Bool) (k : ℕ) → k < n → allBelow n p ≡ true → p k ≡ true
 unfolding allBelow
 below zero p k l h = absurd (omega arith)
 below (suc n) p k l h = go (ℕ-discrete k n) (below n p k)

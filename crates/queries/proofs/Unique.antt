@@ -6,6 +6,8 @@ use denote.Ref.{now}
 use contract.Lifetimes.{Lfts}
 use Rattle.queries.proofs.build_table.Reads as build-table-reads
 use Rattle.queries.proofs.build_table.Kinds as build-table-kinds
+use Rattle.queries.proofs.clear.Reads as clear-reads
+use Rattle.queries.proofs.clear.Kinds as clear-kinds
 use Rattle.queries.proofs.ask.Reads as ask-reads
 use Rattle.queries.proofs.ask.Kinds as ask-kinds
 use Rattle.queries.proofs.ancestors_of.Reads as ancestors-of-reads
@@ -21,6 +23,12 @@ build-table-one κs a r₁ r₂ x₁ x₂ p q = (
   p .pairs-are ∙ sym (q .pairs-are),
   p .marks-are ∙ sym (q .marks-are),
 )
+
+-- the only one
+pub clear-one : (κs : Lfts 1) (a : Dens κs clear-kinds.ps) (r₁ r₂ : resT clear-kinds.r κs .Denot)
+    (x₁ x₂ : AtExit (endedOf 1 clear-kinds.ps clear-kinds.r) κs) → clear-reads.Post κs a r₁ x₁ → clear-reads.Post κs a r₂ x₂
+    → now (x₁ .0) ≡ now (x₂ .0)
+clear-one κs a r₁ r₂ x₁ x₂ p q = p ∙ sym q
 
 -- the twelfth
 pub ask-one : (κs : Lfts 9) (a : Dens κs ask-kinds.ps) (r₁ r₂ : resT ask-kinds.r κs .Denot)

@@ -229,7 +229,7 @@ fn value_of(pairs: &[u64], marks: &[u64], t: Classes, q: Query, a: u64, b: u64) 
     match q {
         Query::Relation => relation_number(hierarchy::subtype_relation(pairs, marks, t, a, b)),
         Query::Distance => hierarchy::distance(pairs, t, a, b),
-        Query::Supertype => hierarchy::supertype(pairs, t, a, b),
+        Query::Supertype => supertype::supertype(pairs, t, a, b),
         Query::Cast => flag(hierarchy::cast(pairs, marks, t, a, b)),
     }
 }
@@ -315,7 +315,7 @@ fn ask_table(
 }
 
 // Zero everywhere.
-fn clear(work: &mut [u64])
+pub fn clear(work: &mut [u64])
     ensures { λ _. ⌜ now (work .exit) ≡ replicate (length (now (work .entry))) 0 ⌝ }
 {
     let mut i: usize = 0;

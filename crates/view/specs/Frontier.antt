@@ -129,3 +129,9 @@ module _ (v : View) where
     where
       same : length (grow v s) ≡ length s
       same = grow-formed v s f .0 ∙ sym (f .0)
+
+-- ---- what is left of a set, one less with each turn
+
+pub left-less : (f : List ℕ) (c : ℕ) (next : List ℕ) → c ≡ first (at f) 1024 → c < 1024 → next ≡ remove f c
+    → length (members (at next) 0 1024) < length (members (at f) 0 1024)
+left-less f c next e h q = let m = ap length (members-pop f c e h) in let w = ap (λ (s : List ℕ). length (members (at s) 0 1024)) q in omega arith

@@ -1,8 +1,11 @@
 //! Nanoseconds a call of the Rust of docs/src, of the boundary over slices, and of the Rust wrappers over it, in one
-//! run, as a table in Markdown. `cargo run --release --offline -p bench`
+//! run, as a table in Markdown. `cargo run --release --offline -p bench`; the words `descriptors` and `classes` after `--`
+//! run a part.
 //!
 //! Where the linker puts a loop can move a row by half, the same in every run of one build. A ratio near 1 needs a
 //! second build, or a program with that row alone, before it says anything.
+
+mod classes;
 
 use std::hint::black_box;
 use std::str::FromStr;
@@ -14,10 +17,24 @@ use dexdec::{ArgType, MethodDescriptor};
 /// Each round takes about so long; the best round counts.
 const ROUND: Duration = Duration::from_millis(4);
 const ROUNDS: usize = 25;
+/// What the rounds of one call may take together; some are always run.
+const ALL_ROUNDS: Duration = Duration::from_millis(500);
+const FEWEST: usize = 3;
 
 fn main() {
     println!("| what | Rust ns | boundary ns | Rust / boundary | wrapper ns | Rust / wrapper |");
     println!("|---|---|---|---|---|---|");
+    let part = std::env::args().nth(1);
+    let runs = |name| part.as_deref().is_none_or(|part| part == name);
+    if runs("descriptors") {
+        descriptors();
+    }
+    if runs("classes") {
+        classes::run();
+    }
+}
+
+fn descriptors() {
     let long_name = "com/example/".repeat(20) + "Name";
     let deep = "[".repeat(255) + "I";
     for (what, text) in [
@@ -130,10 +147,13 @@ fn write_method(what: &str, text: &str, names: &[String]) {
 /// Nanoseconds a call, in the best of several rounds.
 fn best<T>(mut call: impl FnMut() -> T) -> f64 {
     let mut calls = 1;
-    while time(calls, &mut call) < ROUND {
+    let mut took = time(calls, &mut call);
+    while took < ROUND {
         calls *= 2;
+        took = time(calls, &mut call);
     }
-    let rounds = (0..ROUNDS).map(|_| time(calls, &mut call));
+    let fit = ALL_ROUNDS.as_nanos() / took.as_nanos();
+    let rounds = (0..(fit as usize).clamp(FEWEST, ROUNDS)).map(|_| time(calls, &mut call));
     let shortest = rounds.min().expect("some rounds");
     shortest.as_nanos() as f64 / calls as f64
 }

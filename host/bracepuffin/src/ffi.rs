@@ -45,6 +45,29 @@ pub struct BpFound {
     pub class_no: u64,
 }
 
+#[repr(C)]
+#[derive(Debug, Clone, Copy, PartialEq, Eq)]
+pub struct BpRelation {
+    pub refusal: u64,
+    pub relation: u64,
+}
+
+#[repr(C)]
+#[derive(Debug, Clone, Copy, PartialEq, Eq)]
+pub struct BpAnswer {
+    pub refusal: u64,
+    pub value: u64,
+}
+
+#[repr(C)]
+#[derive(Debug, Clone, Copy, PartialEq, Eq)]
+pub struct BpSet {
+    pub refusal: u64,
+    pub count: u64,
+    pub lowest: u64,
+    pub words: [u64; 16],
+}
+
 extern "C" {
     pub fn bp_read_type(d: *const u8, d_n: usize) -> BpType;
 
@@ -95,4 +118,41 @@ extern "C" {
         key: *const u8,
         key_n: usize,
     ) -> BpFound;
+}
+
+/// Queries over a class table: its eight slices, the numbers asked about, the working slice.
+macro_rules! queries {
+    ($(fn $name:ident($($number:ident),+) -> $answer:ty;)+) => {
+        extern "C" {
+            $(pub fn $name(
+                names: *const u8,
+                names_n: usize,
+                name_at: *const u64,
+                name_at_n: usize,
+                name_len: *const u64,
+                name_len_n: usize,
+                rec_flags: *const u64,
+                rec_flags_n: usize,
+                rec_class: *const u64,
+                rec_class_n: usize,
+                rec_at: *const u64,
+                rec_at_n: usize,
+                rec_len: *const u64,
+                rec_len_n: usize,
+                parents: *const u64,
+                parents_n: usize,
+                $($number: u64,)+
+                work: *mut u64,
+                work_n: usize,
+            ) -> $answer;)+
+        }
+    };
+}
+
+queries! {
+    fn bp_relation(value, expected) -> BpRelation;
+    fn bp_distance(value, expected) -> BpAnswer;
+    fn bp_ancestors(class_no) -> BpSet;
+    fn bp_supertype(left, right) -> BpAnswer;
+    fn bp_cast(source, target) -> BpAnswer;
 }

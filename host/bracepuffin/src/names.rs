@@ -1,5 +1,7 @@
 //! Tables of names: class numbers, type words, and the descriptors written from them.
 
+use std::cmp::Ordering;
+
 use crate::slices::{self, Columns};
 use crate::types::{ArgType, Base};
 use crate::Refusal;
@@ -74,6 +76,20 @@ impl Names {
             0 => Ok(found.class_no),
             number => Err(Refusal::plain(number)),
         }
+    }
+
+    /// The same without a call: the names were checked when the table was made, and ascend.
+    pub(crate) fn find(&self, name: &str) -> Option<u64> {
+        let (mut low, mut high) = (0, self.len() as u64);
+        while low < high {
+            let middle = (low + high) / 2;
+            match self.name(middle)?.cmp(name) {
+                Ordering::Less => low = middle + 1,
+                Ordering::Equal => return Some(middle),
+                Ordering::Greater => high = middle,
+            }
+        }
+        None
     }
 
     /// The word of a type that was read; its class must be in the table.

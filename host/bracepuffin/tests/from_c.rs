@@ -10,6 +10,10 @@ parameter 0: [Ljava/lang/String;, word 0101000000000001
 parameter 1: I, word 0000000000000005
 refusal 0, written: ([Ljava/lang/String;I)V
 [V: refusal 13 at 1
+String to List: refusal 0, relation 2
+above String: 2 classes, set 3
+common supertype 0, cast 0
+to class 3: refusal 6
 ";
 
 fn host() -> PathBuf {

@@ -2,9 +2,11 @@
 //!
 //! `rust` asks ty.rs and the standard library; they decide wherever they can. `paper` is written from the rules
 //! of the scope paper alone and answers everything: bytes that are no UTF-8, limits, strict reading, tables of
-//! names. `classes` has both for class tables. The functions here take the first where it decides and the second elsewhere.
+//! names. `classes` has both for class tables. The functions here take the first where it decides and the second
+//! elsewhere.
 
 pub mod cases;
+pub mod class_cases;
 pub mod classes;
 pub mod paper;
 pub mod rng;

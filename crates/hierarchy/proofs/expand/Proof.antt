@@ -8,7 +8,8 @@ use lib.ListN.{length}
 use Rattle.sets.specs.Sets.{at, members, first}
 use Rattle.view.specs.View.{withParents}
 use Rattle.hierarchy.specs.Table.{parentView}
-use Rattle.hierarchy.proofs.Steps.{expand-step, expand-end, left-less}
+use Rattle.hierarchy.proofs.Steps.{expand-step, expand-end}
+use Rattle.view.specs.Frontier.{left-less}
 use Rattle.hierarchy.proofs.expand.Statement.{statement}
 use Rattle.hierarchy.proofs.expand.Tie as tie
 

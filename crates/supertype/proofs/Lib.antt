@@ -1,0 +1,4 @@
+-- What the proofs of this crate's functions share.
+pub mod Steps
+pub mod Candidates
+pub mod Unique
