@@ -2,8 +2,8 @@
 //!
 //! `rust` asks ty.rs and the standard library; they decide wherever they can. `paper` is written from the rules
 //! of the scope paper alone and answers everything: bytes that are no UTF-8, limits, strict reading, tables of
-//! names. `classes` has both for class tables. The functions here take the first where it decides and the second
-//! elsewhere.
+//! names. `classes` has both for class tables, and `types` for joins and assignability. The functions here take the
+//! first where it decides and the second elsewhere.
 
 pub mod cases;
 pub mod class_cases;
@@ -12,6 +12,7 @@ pub mod paper;
 pub mod rng;
 pub mod rust;
 pub mod stored;
+pub mod types;
 
 /// refusal, offset, byte, dims, tag, category, name_at, name_len
 pub type TypeAnswer = [u64; 8];
