@@ -1,6 +1,6 @@
 /*
- * Worked calls from C: reads a method's descriptor, looks its class up, and writes the descriptor again; then asks about
- * the classes of a table.
+ * Worked calls from C: reads a method's descriptor, looks its class up, and writes the descriptor again; then asks
+ * about the classes of a table, and about types over it.
  *
  *     cc -I include examples/call.c ../target/staticlib/libbracepuffin.a -o call && ./call
  */
@@ -47,6 +47,9 @@ static void ask_classes(void) {
     printf("common supertype %" PRIu64 ", cast %" PRIu64 "\n", common.value, cast.value);
     BpAnswer none = bp_distance(TABLE, 1, 3, work, BP_WORK);
     printf("to class 3: refusal %" PRIu64 "\n", none.refusal);
+    BpAnswer joined = bp_join(TABLE, BP_PRIMITIVE(BP_BOOLEAN), BP_PRIMITIVE(BP_INT), work, BP_WORK);
+    BpAnswer fits = bp_assignable(TABLE, BP_CLASS(1), BP_CLASS(2), work, BP_WORK);
+    printf("boolean with int: word %016" PRIx64 "; String to List: assignable %" PRIu64 "\n", joined.value, fits.value);
 }
 
 int main(void) {

@@ -1,5 +1,5 @@
 /*
- * Bracepuffin from C: descriptors, names, class tables.
+ * Bracepuffin from C: descriptors, names, class tables, joins of types.
  *
  * Every function takes arbitrary numbers and bytes, allocates nothing and keeps nothing. A slice is a pointer and a
  * length in elements. The pointer is never null, not even for length 0; slices that are written overlap no other slice
@@ -134,8 +134,8 @@ typedef struct BpSet {
     uint64_t words[16];
 } BpSet;
 
-/* Values of BpRelation. BP_UNKNOWN: no, as far as is recorded, but a class that is reached has no record. */
-enum { BP_YES = 0, BP_NO = 1, BP_UNKNOWN = 2 };
+/* Values of BpRelation. BP_REL_UNKNOWN: no, as far as is recorded, but a class that is reached has no record. */
+enum { BP_REL_YES = 0, BP_REL_NO = 1, BP_REL_UNKNOWN = 2 };
 
 /* The distance of a java/lang/Object that is not reached; of a class that is no ancestor; no class. */
 #define BP_UNREACHED UINT64_C(4611686018427387903)
@@ -185,8 +185,8 @@ BpFound bp_lookup(BP_NAMES, BP_IN8(key));
  * java/lang/Object.
  */
 
-/* BP_YES where `expected` is an ancestor of `value`; else BP_UNKNOWN where a class that is reached from `value`, or it
- * itself, has no record; else BP_NO. */
+/* BP_REL_YES where `expected` is an ancestor of `value`; else BP_REL_UNKNOWN where a class that is reached from `value`, or it
+ * itself, has no record; else BP_REL_NO. */
 BpRelation bp_relation(BP_TABLE, uint64_t value, uint64_t expected, BP_OUT64(work));
 
 /* The least number of steps from `value` to `expected`; BP_UNREACHED for a java/lang/Object that no step leads to;
@@ -198,8 +198,8 @@ BpSet bp_ancestors(BP_TABLE, uint64_t class_no, BP_OUT64(work));
 
 /*
  * The least common supertype: `right` where it is an ancestor of `left`; else `left` where it is one of `right`; else,
- * of the common ancestors that have no other strictly below them, the first by the greater of its two distances, by their
- * sum, by name. BP_NONE would be none, but java/lang/Object is always common.
+ * of the common ancestors that have no other strictly below them, the first by the greater of its two distances, by
+ * their sum, by name. BP_NONE would be none, but java/lang/Object is always common.
  */
 BpAnswer bp_supertype(BP_TABLE, uint64_t left, uint64_t right, BP_OUT64(work));
 
@@ -208,6 +208,20 @@ BpAnswer bp_supertype(BP_TABLE, uint64_t left, uint64_t right, BP_OUT64(work));
  * where both are declared and both are interfaces, or one is and the other is not final.
  */
 BpAnswer bp_cast(BP_TABLE, uint64_t source, uint64_t target, BP_OUT64(work));
+
+/*
+ * Queries about two type words over a class table. They refuse 22; 3, 10, 5, 6, 8 for the table; 7 for either word;
+ * 9, also where no class is asked about. `work` is as above.
+ */
+
+/* The word of the join of two types. It is not symmetric: a list of two primitives begins with the left one. */
+BpAnswer bp_join(BP_TABLE, uint64_t left, uint64_t right, BP_OUT64(work));
+
+/*
+ * 1 where a value of one type may stand where the other is expected, else 0. Of two classes only the relation BP_REL_NO
+ * keeps the one from being assignable to the other.
+ */
+BpAnswer bp_assignable(BP_TABLE, uint64_t value, uint64_t expected, BP_OUT64(work));
 
 #ifdef __cplusplus
 }

@@ -1,18 +1,20 @@
 -- A type that was read in two words, and that they say all of it. Assumes nothing.
-use mathlib.Core.Path.{_≡_, sym, ap, subst}
-use mathlib.Core.Bool.{Bool}
+use mathlib.Core.Path.{_≡_, refl, sym, ap, ap₂, subst, _∙_}
+use mathlib.Core.Bool.{Bool, true, false}
 use mathlib.Core.List.{List}
 use Prim.Native.Nat.{ℕ, _+_, _-_, _*_, _/_, _%_, _≤_, _<_}
 use native.Mathlib.Omega.{arith}
-use lib.Dec.{eqb, ltb}
-use lib.ListN.{drop, getD, length}
-use borrow.Author.Tests.{lt-ltb, le-ltb}
+use lib.Dec.{eqb, leb, ltb}
+use lib.ListN.{take, drop, getD, length}
+use lib.Seq.{take-length}
+use borrow.Author.Tests.{ne-eqb, le-leb, lt-leb, lt-ltb, le-ltb}
 use Rattle.descriptor.specs.declared.Base.the-variants.{Simple, Class}
 use Rattle.descriptor.specs.declared.Read.{Read}
 use Rattle.descriptor.specs.declared.Read.the-variants.{Found, Refused}
 use Rattle.descriptor.specs.declared.Core.{Core}
-use Rattle.descriptor.specs.Read.{pickR, readType}
-use Rattle.descriptor.specs.Laws.{byteIf, Tells, read-tells}
+use Rattle.descriptor.specs.Read.{pickR, letterOf, readName, readType, finish}
+use Rattle.descriptor.specs.Steps.{read-end, read-at}
+use Rattle.descriptor.specs.Laws.{byteIf, Tells, read-tells, finish-tells}
 
 -- a refusal's code and offset; or the category (9 for a class) and the dimensions, and the offset after the type
 abbrev pub coreOf : Read → Core
@@ -29,13 +31,17 @@ unCore s at dims c =
     from : ℕ
     from = at + (c .what / 1024 - dims) + 1
 
--- what a core tells of the type read from `at` on after `dims` brackets: all of it
-pub record CoreTells (s : List ℕ) (at dims : ℕ) (c : Core) (r : Read) : Type 0 where
-  pub whole : r ≡ unCore s at dims c
+-- what a core has to keep for its type to be made from it
+pub record Sound (s : List ℕ) (at dims : ℕ) (c : Core) : Type 0 where
   pub inside : c .what ≡ 12 → c .at < length s
   pub deeper : 256 ≤ c .what → dims ≤ c .what / 1024
   pub name : 256 ≤ c .what → 9 ≤ c .what % 256 → at + (c .what / 1024 - dims) + 2 ≤ c .at
   pub within : 256 ≤ c .what → c .at ≤ length s
+
+-- what a core tells of the type read from `at` on after `dims` brackets: all of it
+pub record CoreTells (s : List ℕ) (at dims : ℕ) (c : Core) (r : Read) : Type 0 where
+  pub whole : r ≡ unCore s at dims c
+  pub sound : Sound s at dims c
 
 module _ (s : List ℕ) (at dims : ℕ) where
   told : (r : Read) → Tells s at dims r → CoreTells s at dims (coreOf r) r
@@ -46,10 +52,7 @@ module _ (s : List ℕ) (at dims : ℕ) where
       let i : w % 256 ≡ k = omega arith in
       record {
         whole = rw (le-ltb w 256 (omega arith), lt-ltb (w % 256) 9 (omega arith), q, i);
-        inside = λ e. absurd (omega arith);
-        deeper = λ l. omega arith;
-        name = λ l n. absurd (omega arith);
-        within = λ l. h .within;
+        sound = record { inside = λ e. absurd (omega arith); deeper = λ l. omega arith; name = λ l n. absurd (omega arith); within = λ l. h .within };
       }
   told (Found d (Class p n) next) h =
       let w = 265 + 1024 * d in
@@ -60,18 +63,12 @@ module _ (s : List ℕ) (at dims : ℕ) where
       let g : next - p - 1 ≡ n = omega arith in
       record {
         whole = rw (le-ltb w 256 (omega arith), le-ltb (w % 256) 9 (omega arith), q, f, g);
-        inside = λ e. absurd (omega arith);
-        deeper = λ l. omega arith;
-        name = λ l n. omega arith;
-        within = λ l. h .within;
+        sound = record { inside = λ e. absurd (omega arith); deeper = λ l. omega arith; name = λ l n. omega arith; within = λ l. h .within };
       }
   told (Refused code o byte) h =
       record {
         whole = rw (lt-ltb code 256 (omega arith)) (ap (Refused code o) (h .names));
-        inside = h .inside;
-        deeper = λ l. absurd (omega arith);
-        name = λ l n. absurd (omega arith);
-        within = λ l. absurd (omega arith);
+        sound = record { inside = h .inside; deeper = λ l. absurd (omega arith); name = λ l n. absurd (omega arith); within = λ l. absurd (omega arith) };
       }
 
   -- A TYPE IS ALL IN ITS CORE
@@ -79,3 +76,76 @@ module _ (s : List ℕ) (at dims : ℕ) where
   core-tells void l c e =
       let r = readType (drop at s) at void dims in
       subst (λ (x : Core). CoreTells s at dims x r) (sym e) (told r (read-tells s at void dims l))
+
+-- ---- the end of the bytes, at a core
+
+abbrev pub pickC : Bool → Core → Core → Core
+pickC true a b = a
+pickC false a b = b
+
+-- `finish` of a core, in n bytes
+abbrev pub endedOf : ℕ → Core → Core
+endedOf n c = pickC (ltb (c .what) 256) c (pickC (eqb (c .at) n) c (record { what = 15; at = c .at }))
+
+ended-core : (s : List ℕ) (at dims : ℕ) (r : Read) → Tells s at dims r → endedOf (length s) (coreOf r) ≡ coreOf (finish s r)
+unfolding finish
+ended-core s at dims (Found d (Simple k) next) h = rw (le-ltb (256 + k + 1024 * d) 256 (omega arith)) (go (eqb next (length s)))
+  where
+    c : Core
+    c = record { what = 256 + k + 1024 * d; at = next }
+
+    go : (t : Bool) → pickC t c (record { what = 15; at = next }) ≡ coreOf (pickR t (Found d (Simple k) next) (Refused 15 next 0))
+    go true = refl
+    go false = refl
+ended-core s at dims (Found d (Class p n) next) h = rw (le-ltb (265 + 1024 * d) 256 (omega arith)) (go (eqb next (length s)))
+  where
+    c : Core
+    c = record { what = 265 + 1024 * d; at = next }
+
+    go : (t : Bool) → pickC t c (record { what = 15; at = next }) ≡ coreOf (pickR t (Found d (Class p n) next) (Refused 15 next 0))
+    go true = refl
+    go false = refl
+ended-core s at dims (Refused code o byte) h = rw (lt-ltb code 256 (omega arith))
+
+pub ended-tells : (s : List ℕ) (at : ℕ) (c e : Core) → c ≡ coreOf (readType (drop at s) at true 0) → e ≡ endedOf (length s) c
+    → CoreTells s at 0 e (finish s (readType (drop at s) at true 0))
+ended-tells s at c e f g =
+    let r = readType (drop at s) at true 0 in
+    let h = read-tells s at true 0 (omega arith) in
+    subst (λ (x : Core). CoreTells s at 0 x (finish s r)) (sym (g ∙ ap (endedOf (length s)) f ∙ ended-core s at 0 r h)) (told s at 0 (finish s r) (finish-tells s at 0 r h))
+
+-- ---- one step of reading a core, by the letter k of the byte at an offset
+
+-- the core of a type of one letter that is no class and no array
+abbrev pub flatOf : ℕ → ℕ → Bool → ℕ → Core
+flatOf k at void dims =
+    pickC (eqb k 0) (pickC void (record { what = 256 + 1024 * dims; at = at + 1 }) (record { what = 13; at = at }))
+    (pickC (ltb k 9) (record { what = 256 + k + 1024 * dims; at = at + 1 }) (record { what = 12; at = at }))
+
+core-pick : (t : Bool) (a b : Read) → coreOf (pickR t a b) ≡ pickC t (coreOf a) (coreOf b)
+core-pick true a b = refl
+core-pick false a b = refl
+
+module _ (s : List ℕ) (at : ℕ) (void : Bool) (dims : ℕ) where
+  pub core-end : length s ≤ at → record { what = 11; at = at } ≡ coreOf (readType (drop at s) at void dims)
+  core-end h = ap coreOf (sym (read-end s at void dims h))
+
+  module _ (h : at < length s) (k : ℕ) (e : k ≡ letterOf (getD s at 0)) where
+    pub core-name : k ≡ 9 → coreOf (readName (drop (at + 1) s) at dims) ≡ coreOf (readType (drop at s) at void dims)
+    core-name f = sym (ap coreOf (read-at s at void dims h k e) ∙ rw f)
+
+    pub core-full : k ≡ 10 → 255 ≤ dims → record { what = 18; at = at } ≡ coreOf (readType (drop at s) at void dims)
+    core-full f l = sym (ap coreOf (read-at s at void dims h k e) ∙ rw (f, le-leb 255 dims l))
+
+    pub core-deeper : k ≡ 10 → dims < 255 → coreOf (readType (drop (at + 1) s) (at + 1) false (dims + 1)) ≡ coreOf (readType (drop at s) at void dims)
+    core-deeper f l = sym (ap coreOf (read-at s at void dims h k e) ∙ rw (f, lt-leb 255 dims l))
+
+    pub core-flat : (k ≡ 9 → ⊥) → (k ≡ 10 → ⊥) → flatOf k at void dims ≡ coreOf (readType (drop at s) at void dims)
+    core-flat m n =
+        sym (ap coreOf (read-at s at void dims h k e)
+        ∙ rw (ne-eqb k 9 m, ne-eqb k 10 n)
+        (core-pick (eqb k 0) _ _ ∙ ap₂ (pickC (eqb k 0)) (core-pick void _ _) (core-pick (ltb k 9) _ _)))
+
+-- a slice lent anew, `&s[0..]`, is the same slice
+pub lent-anew : (s : List ℕ) → take (length s - 0) (drop 0 s) ≡ s
+lent-anew s = ap (λ (n : ℕ). take n s) (let e : length s - 0 ≡ length s = omega arith in e) ∙ take-length s

@@ -67,7 +67,7 @@ put-also count at params (Broken code o byte) h p = rw (ne-eqb code 0 p)
 abbrev pub Left : ℕ → List ℕ → Method → MethodRead → List ℕ → Type 0
 Left count params m r e = (r ≡ answerFrom count m) × (e ≡ putFrom count params m)
 
-left-same : (count : ℕ) (params : List ℕ) (m m′ : Method) (r : MethodRead) (e : List ℕ) → m ≡ m′ → Left count params m r e → Left count params m′ r e
+pub left-same : (count : ℕ) (params : List ℕ) (m m′ : Method) (r : MethodRead) (e : List ℕ) → m ≡ m′ → Left count params m r e → Left count params m′ r e
 left-same count params m m′ r e f l = (l .0 ∙ ap (answerFrom count) f, l .1 ∙ ap (putFrom count params) f)
 
 left-broken : (count : ℕ) (params : List ℕ) (code at byte : ℕ) (m : Method) → Broken code at byte ≡ m → Left count params m (refusedMethod code at byte) params

@@ -1,11 +1,12 @@
 // Type and method descriptors of ty.rs: read from bytes, ordinary and strict.
 ghost use mathlib.Core.Path.{_≡_};
+ghost use mathlib.Core.Bool.{true};
 ghost use Prim.Native.Nat.{_+_, _-_, _≤_, _<_};
 ghost use lib.Dec.{eqb, ltb};
 ghost use lib.ListN.{length, take, drop, set};
 ghost use Rattle.descriptor.specs.declared.Read.the-variants.{Refused};
 ghost use Rattle.descriptor.specs.Read.{letterOf, indexOf, readName, readType, finish, readWhole, strictName, strictly, readStrict};
-ghost use Rattle.descriptor.specs.Core.{coreOf};
+ghost use Rattle.descriptor.specs.Core.{coreOf, unCore, flatOf, endedOf, Sound};
 ghost use Rattle.descriptor.specs.Answers.{answerOf, refusedMethod, methodOf, methodAnswer, paramsAfter};
 ghost use Rattle.descriptor.specs.Steps.{stopsAt, Placed, refusedAt, firstBad, closing};
 ghost use Rattle.descriptor.specs.Params.{ending, methodFrom};
@@ -134,112 +135,186 @@ fn name_core(s: &[u8], at: usize, dims: u64) -> Core
     let from = at + 1;
     let end = find_end(s, from);
     if end == s.len() {
-        return Core { what: 11, at: end };
+        Core { what: 11, at: end }
+    } else if end == from {
+        Core { what: 14, at: at }
+    } else {
+        let valid = utf8::valid_up_to(&s[0..], from, end);
+        if valid < end {
+            Core {
+                what: 12,
+                at: valid,
+            }
+        } else {
+            Core {
+                what: 265 + 1024 * dims,
+                at: end + 1,
+            }
+        }
     }
-    if end == from {
-        return Core { what: 14, at: at };
-    }
-    let valid = utf8::valid_up_to(s, from, end);
-    if valid < end {
-        return Core {
-            what: 12,
-            at: valid,
-        };
-    }
-    Core {
-        what: 265 + 1024 * dims,
-        at: end + 1,
+}
+
+// The type of one letter k that is no class and no array; 12 where it is none.
+fn flat_core(k: u64, at: usize, void: bool, dims: u64) -> Core
+    requires { ⌜ (at < 18446744073709551615) × (dims ≤ 255) ⌝ }
+    ensures { λ r. ⌜ r ≡ flatOf k at void dims ⌝ }
+{
+    if k == 0 {
+        if void {
+            Core {
+                what: 256 + 1024 * dims,
+                at: at + 1,
+            }
+        } else {
+            Core { what: 13, at: at }
+        }
+    } else if k < 9 {
+        Core {
+            what: 256 + k + 1024 * dims,
+            at: at + 1,
+        }
+    } else {
+        Core { what: 12, at: at }
     }
 }
 
 // The type at `at`, after `dims` brackets. Each '[' asks for one more type from the bytes after it, Void no longer allowed.
+// Each call is lent the slice anew, `&s[0..]`: the compiler then keeps this function's own in registers.
 fn read_core(s: &[u8], at: usize, void: bool, dims: u64) -> Core
     requires { ⌜ dims ≤ 255 ⌝ }
     ensures { λ r. ⌜ r ≡ coreOf (readType (drop at (now (s .entry))) at void dims) ⌝ }
 {
     if s.len() <= at {
-        return Core { what: 11, at: at };
-    }
-    let k = letter(s[at]);
-    if k == 0 {
-        if void {
-            return Core {
-                what: 256 + 1024 * dims,
-                at: at + 1,
-            };
+        Core { what: 11, at: at }
+    } else {
+        let k = letter(s[at]);
+        if k == 9 {
+            name_core(&s[0..], at, dims)
+        } else if k == 10 {
+            if 255 <= dims {
+                Core { what: 18, at: at }
+            } else {
+                read_core(&s[0..], at + 1, false, dims + 1)
+            }
+        } else {
+            flat_core(k, at, void, dims)
         }
-        return Core { what: 13, at: at };
     }
-    if k < 9 {
-        return Core {
-            what: 256 + k + 1024 * dims,
-            at: at + 1,
-        };
-    }
-    if k == 9 {
-        return name_core(s, at, dims);
-    }
-    if k == 10 {
-        if 255 <= dims {
-            return Core { what: 18, at: at };
-        }
-        return read_core(s, at + 1, false, dims + 1);
-    }
-    Core { what: 12, at: at }
 }
 
-// The type at `at`, after `dims` brackets: its core, and what follows from that.
+// The same, without a call for what follows a first '[' unless it is a class or another '['.
+fn second_core(s: &[u8], at: usize, void: bool, dims: u64) -> Core
+    requires { ⌜ dims ≤ 255 ⌝ }
+    ensures { λ r. ⌜ r ≡ coreOf (readType (drop at (now (s .entry))) at void dims) ⌝ }
+{
+    if s.len() <= at {
+        Core { what: 11, at: at }
+    } else {
+        let k = letter(s[at]);
+        if k == 9 {
+            name_core(&s[0..], at, dims)
+        } else if k == 10 {
+            if 255 <= dims {
+                Core { what: 18, at: at }
+            } else {
+                read_core(&s[0..], at + 1, false, dims + 1)
+            }
+        } else {
+            flat_core(k, at, void, dims)
+        }
+    }
+}
+
+// The same from the first byte of a type on: most types have no '[' or one, and the recursion is a call that is not inlined.
+fn first_core(s: &[u8], at: usize, void: bool, dims: u64) -> Core
+    requires { ⌜ dims ≤ 255 ⌝ }
+    ensures { λ r. ⌜ r ≡ coreOf (readType (drop at (now (s .entry))) at void dims) ⌝ }
+{
+    if s.len() <= at {
+        Core { what: 11, at: at }
+    } else {
+        let k = letter(s[at]);
+        if k == 9 {
+            name_core(&s[0..], at, dims)
+        } else if k == 10 {
+            if 255 <= dims {
+                Core { what: 18, at: at }
+            } else {
+                second_core(s, at + 1, false, dims + 1)
+            }
+        } else {
+            flat_core(k, at, void, dims)
+        }
+    }
+}
+
+// The type that a core stands for, read from `at` on after `dims` brackets.
+fn read_of(s: &[u8], at: usize, dims: u64, c: Core) -> Read
+    requires { ⌜ Sound (now s) at dims c ⌝ }
+    ensures { λ r. ⌜ r ≡ unCore (now (s .entry)) at dims c ⌝ }
+{
+    let what = c.what;
+    let next = c.at;
+    if what == 12 {
+        refuse(12, next, wide(s[next]))
+    } else if what < 256 {
+        refuse(what, next, 0)
+    } else {
+        let found = what / 1024;
+        let k = what % 256;
+        if k < 9 {
+            Read::Found {
+                dims: found,
+                base: Base::Simple(k),
+                next: next,
+            }
+        } else {
+            let from = at + (found - dims) as usize + 1;
+            Read::Found {
+                dims: found,
+                base: Base::Class(from, next - from - 1),
+                next: next,
+            }
+        }
+    }
+}
+
+// The type at `at`, after `dims` brackets.
 pub fn read_type(s: &[u8], at: usize, void: bool, dims: u64) -> Read
     requires { ⌜ dims ≤ 255 ⌝ }
     ensures { λ r. ⌜ r ≡ readType (drop at (now (s .entry))) at void dims ⌝ }
 {
-    let c = read_core(s, at, void, dims);
-    let what = c.what;
-    let next = c.at;
-    if what == 12 {
-        return refuse(12, next, wide(s[next]));
-    }
-    if what < 256 {
-        return refuse(what, next, 0);
-    }
-    let found = what / 1024;
-    let k = what % 256;
-    if k < 9 {
-        return Read::Found {
-            dims: found,
-            base: Base::Simple(k),
-            next: next,
-        };
-    }
-    let from = at + (found - dims) as usize + 1;
-    Read::Found {
-        dims: found,
-        base: Base::Class(from, next - from - 1),
-        next: next,
-    }
+    let c = first_core(s, at, void, dims);
+    read_of(s, at, dims, c)
 }
 
 // A type has to end where the bytes do.
-fn finished(s: &[u8], t: Read) -> Read
-    ensures { λ r. ⌜ r ≡ finish (now (s .entry)) t ⌝ }
+fn ended(s: &[u8], c: Core) -> Core
+    ensures { λ r. ⌜ r ≡ endedOf (length (now (s .entry))) c ⌝ }
 {
-    match t {
-        Read::Found { next, .. } => {
-            if next == s.len() {
-                return t;
-            }
-            refuse(15, next, 0)
-        }
-        Read::Refused { code, at, byte } => t,
+    if c.what < 256 {
+        c
+    } else if c.at == s.len() {
+        c
+    } else {
+        Core { what: 15, at: c.at }
     }
+}
+
+// The type from `at` to the end of the bytes, Void allowed.
+fn read_last(s: &[u8], at: usize) -> Read
+    ensures { λ r. ⌜ r ≡ finish (now (s .entry)) (readType (drop at (now (s .entry))) at true 0) ⌝ }
+{
+    let c = first_core(s, at, true, 0);
+    let e = ended(s, c);
+    read_of(s, at, 0, e)
 }
 
 // ArgType::from_str.
 pub fn read_whole(s: &[u8]) -> Read
     ensures { λ r. ⌜ r ≡ readWhole (now (s .entry)) ⌝ }
 {
-    let t = read_type(s, 0, true, 0);
-    finished(s, t)
+    read_last(s, 0)
 }
 
 // ---- strict reading
@@ -385,8 +460,7 @@ fn read_return(s: &[u8], close: usize, count: usize, strict: bool, bad: usize) -
     ensures { λ r. ⌜ r ≡ answerFrom count (ending (now (s .entry)) strict bad close) ⌝ }
 {
     let at = close + 1;
-    let t = read_type(s, at, true, 0);
-    let f = finished(s, t);
+    let f = read_last(s, at);
     let g = closed(s, strict, bad, f);
     answer(count, at, g)
 }
@@ -427,7 +501,7 @@ fn read_params(
     match t {
         Read::Found { next, .. } => {
             let worse = first_bad(s, strict, bad, t);
-            let r = read_params(s, params, next, count + 1, strict, worse);
+            let r = read_params(&s[0..], params, next, count + 1, strict, worse);
             note(params, count, at, r.refusal);
             r
         }
@@ -447,7 +521,7 @@ pub fn read_method(s: &[u8], params: &mut [u64], strict: bool) -> MethodRead
         return refused(16, 0, 0);
     }
     if s[0] == b'(' {
-        return read_params(s, params, 1, 0, strict, 0);
+        return read_params(&s[0..], params, 1, 0, strict, 0);
     }
     refused(16, 0, 0)
 }

@@ -1,3 +1,4 @@
--- What the contracts of this crate cite, and the laws of it.
+-- What the contracts of this crate cite, the laws of it, and examples.
 pub mod TypeQueries
 pub mod Laws
+pub mod Examples

@@ -9,15 +9,15 @@ use dexdec::hierarchy::{self, ClassHierarchyIndex, TypeHierarchy};
 use crate::{best, row};
 
 /// A class with its parents and whether it is an interface.
-struct Declared {
-    name: String,
+pub struct Declared {
+    pub name: String,
     parents: Vec<String>,
-    is_interface: bool,
+    pub is_interface: bool,
 }
 
 /// That many names: one in six is an interface, of which a class has two to five; chains of superclasses have up to ten
 /// links. Both sides are given the same records.
-fn program(count: usize) -> Vec<Declared> {
+pub fn program(count: usize) -> Vec<Declared> {
     let mut classes = vec![Declared {
         name: "java/lang/Object".to_string(),
         parents: vec![],
@@ -55,7 +55,7 @@ fn program(count: usize) -> Vec<Declared> {
     classes
 }
 
-fn index(classes: &[Declared]) -> ClassHierarchyIndex {
+pub fn index(classes: &[Declared]) -> ClassHierarchyIndex {
     let mut index = ClassHierarchyIndex::default();
     for class in classes {
         let info = hierarchy::ReferenceTypeInfo {
@@ -67,7 +67,7 @@ fn index(classes: &[Declared]) -> ClassHierarchyIndex {
     index
 }
 
-fn table(classes: &[Declared]) -> ClassTable {
+pub fn table(classes: &[Declared]) -> ClassTable {
     let mut builder = ClassTableBuilder::new();
     for class in classes {
         let info = ReferenceTypeInfo {

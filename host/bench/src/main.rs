@@ -1,11 +1,12 @@
 //! Nanoseconds a call of the Rust of docs/src, of the boundary over slices, and of the Rust wrappers over it, in one
-//! run, as a table in Markdown. `cargo run --release --offline -p bench`; the words `descriptors` and `classes` after `--`
-//! run a part.
+//! run, as a table in Markdown. `cargo run --release --offline -p bench`; one of the words `descriptors`, `classes`
+//! and `types` after `--` runs a part.
 //!
 //! Where the linker puts a loop can move a row by half, the same in every run of one build. A ratio near 1 needs a
 //! second build, or a program with that row alone, before it says anything.
 
 mod classes;
+mod types;
 
 use std::hint::black_box;
 use std::str::FromStr;
@@ -31,6 +32,9 @@ fn main() {
     }
     if runs("classes") {
         classes::run();
+    }
+    if runs("types") {
+        types::run();
     }
 }
 

@@ -288,7 +288,7 @@ impl ClassTable {
     }
 
     /// A call with the columns and the working slice.
-    fn ask<T>(&self, query: impl FnOnce(ClassColumns, &mut [u64]) -> T) -> T {
+    pub(crate) fn ask<T>(&self, query: impl FnOnce(ClassColumns, &mut [u64]) -> T) -> T {
         let mut work = self.work.lock().unwrap_or_else(PoisonError::into_inner);
         query(self.columns(), &mut work)
     }
@@ -374,7 +374,7 @@ fn working_slice() -> Mutex<Box<[u64]>> {
     Mutex::new(vec![0; WORK].into_boxed_slice())
 }
 
-fn accepted<T>(refusal: u64, answer: T) -> Result<T, Refusal> {
+pub(crate) fn accepted<T>(refusal: u64, answer: T) -> Result<T, Refusal> {
     match refusal {
         0 => Ok(answer),
         number => Err(Refusal::plain(number)),

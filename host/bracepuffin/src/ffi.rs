@@ -156,3 +156,8 @@ queries! {
     fn bp_supertype(left, right) -> BpAnswer;
     fn bp_cast(source, target) -> BpAnswer;
 }
+
+queries! {
+    fn bp_join(left, right) -> BpAnswer;
+    fn bp_assignable(value, expected) -> BpAnswer;
+}

@@ -1,5 +1,5 @@
-//! Bracepuffin from Rust: descriptors read and written, and questions about classes answered, by functions that are
-//! proved to meet their contracts.
+//! Bracepuffin from Rust: descriptors read and written, and questions about classes and types answered, by functions
+//! that are proved to meet their contracts.
 //!
 //!     let method = bracepuffin::read_method(b"([Ljava/lang/String;I)V")?;
 //!     let names = bracepuffin::Names::new(["java/lang/String", "java/lang/Object"])?;
@@ -23,6 +23,7 @@ mod read;
 mod refusal;
 mod relations;
 pub mod slices;
+mod type_queries;
 mod types;
 
 pub use classes::{
@@ -35,4 +36,4 @@ pub use read::{
 };
 pub use refusal::Refusal;
 pub use relations::Relations;
-pub use types::{ArgType, Base, PrimitiveType};
+pub use types::{ArgType, Base, Categories, PrimitiveType};

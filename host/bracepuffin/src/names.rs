@@ -9,7 +9,10 @@ use crate::Refusal;
 /// The most bytes that the descriptor of a type has: 255 dimensions and a name of 255 bytes.
 pub const TYPE_BYTES: usize = 512;
 
-const CLASS: u64 = 1;
+/// Tags of words.
+pub(crate) const PRIMITIVE: u64 = 0;
+pub(crate) const CLASS: u64 = 1;
+pub(crate) const UNKNOWN: u64 = 2;
 
 /// Names that were checked, ascending. The number of a class is its place among them, from 0.
 #[derive(Debug, Clone, PartialEq, Eq)]
@@ -92,13 +95,9 @@ impl Names {
         None
     }
 
-    /// The word of a type that was read; its class must be in the table.
+    /// The word of a type; its class must be in the table.
     pub fn word(&self, ty: ArgType) -> Result<u64, Refusal> {
-        let base = match ty.base {
-            Base::Primitive(category) => category.number(),
-            Base::Object(name) => CLASS << 48 | self.class_number(name)?,
-        };
-        Ok(u64::from(ty.dimensions) << 56 | base)
+        word_of(ty, |name| self.class_number(name))
     }
 
     /// The descriptor of a type word.
@@ -137,6 +136,19 @@ impl Names {
             number => Err(Refusal::plain(number)),
         }
     }
+}
+
+/// The word of a type, whose class has the number that is given for its name.
+pub(crate) fn word_of(
+    ty: ArgType,
+    class_number: impl FnOnce(&str) -> Result<u64, Refusal>,
+) -> Result<u64, Refusal> {
+    let base = match ty.base {
+        Base::Primitive(category) => PRIMITIVE << 48 | category.number(),
+        Base::Object(name) => CLASS << 48 | class_number(name)?,
+        Base::Unknown(categories) => UNKNOWN << 48 | categories.payload(),
+    };
+    Ok(u64::from(ty.dimensions) << 56 | base)
 }
 
 fn text(bytes: &[u8]) -> &str {

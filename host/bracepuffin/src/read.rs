@@ -113,10 +113,10 @@ impl<'a, 'o> Method<'a, 'o> {
         Some(&self.descriptor[start..end])
     }
 
+    /// The type of a parameter. It was accepted with the whole, so its text alone says it and nothing is checked again.
     #[inline]
     pub fn parameter(&self, number: usize) -> Option<ArgType<'a>> {
-        let text = self.parameter_text(number)?;
-        Some(read_type(text).expect("part of a descriptor that was accepted"))
+        self.parameter_text(number).map(accepted_type)
     }
 
     pub fn parameters(&self) -> Parameters<'a, 'o> {
@@ -134,7 +134,7 @@ impl<'a, 'o> Method<'a, 'o> {
     }
 }
 
-/// The types of a method's parameters, each read when it is asked for.
+/// The types of a method's parameters, each made when it is asked for.
 #[derive(Debug, Clone)]
 pub struct Parameters<'a, 'o> {
     method: Method<'a, 'o>,
@@ -208,6 +208,33 @@ fn base(tag: u64, category: u64, name: &[u8]) -> Base<'_> {
     if tag == 0 {
         return Base::Primitive(PrimitiveType::ALL[category as usize]);
     }
+    object(name)
+}
+
+/// The type of a parameter that was accepted: brackets, then a letter alone or a name between 'L' and ';'.
+#[inline]
+fn accepted_type(text: &[u8]) -> ArgType<'_> {
+    let brackets = text.iter().take_while(|byte| **byte == b'[').count();
+    ArgType {
+        dimensions: brackets as u8,
+        base: match text[brackets] {
+            b'Z' => Base::Primitive(PrimitiveType::Boolean),
+            b'B' => Base::Primitive(PrimitiveType::Byte),
+            b'S' => Base::Primitive(PrimitiveType::Short),
+            b'C' => Base::Primitive(PrimitiveType::Char),
+            b'I' => Base::Primitive(PrimitiveType::Int),
+            b'J' => Base::Primitive(PrimitiveType::Long),
+            b'F' => Base::Primitive(PrimitiveType::Float),
+            b'D' => Base::Primitive(PrimitiveType::Double),
+            b'L' => object(&text[brackets + 1..text.len() - 1]),
+            letter => unreachable!("{letter} begins no parameter that was accepted"),
+        },
+    }
+}
+
+/// The class of a name that was accepted.
+#[inline]
+fn object(name: &[u8]) -> Base<'_> {
     debug_assert!(std::str::from_utf8(name).is_ok());
     // SAFETY: a name that is accepted is well-formed by Unicode's table 3-7, which is what `str` asks for.
     Base::Object(unsafe { std::str::from_utf8_unchecked(name) })

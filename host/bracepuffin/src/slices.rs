@@ -135,3 +135,8 @@ queries! {
     fn supertype(left, right) -> BpAnswer = bp_supertype;
     fn cast(source, target) -> BpAnswer = bp_cast;
 }
+
+queries! {
+    fn join(left, right) -> BpAnswer = bp_join;
+    fn assignable(value, expected) -> BpAnswer = bp_assignable;
+}

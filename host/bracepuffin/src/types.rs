@@ -1,4 +1,6 @@
-//! Types as they are read: those of ty.rs, with dimensions in place of boxes and names borrowed from the input.
+//! Types: those of ty.rs, with dimensions in place of boxes and names borrowed from the input or from a table.
+
+use std::fmt;
 
 /// The categories with their numbers: what a type is without its dimensions, and the members of an Unknown.
 #[derive(Clone, Copy, Debug, Eq, Hash, Ord, PartialEq, PartialOrd)]
@@ -47,11 +49,70 @@ impl PrimitiveType {
 #[derive(Debug, Clone, Copy, PartialEq, Eq, Hash)]
 pub enum Base<'a> {
     Primitive(PrimitiveType),
-    /// A class by its name, which is borrowed from the descriptor.
+    /// A class by its name, which is borrowed from the descriptor or the table.
     Object(&'a str),
+    /// One of these categories. Reading gives none; joins do.
+    Unknown(Categories),
 }
 
-/// A type that was read. It is copied freely: nothing in it is on the heap.
+/// A list of categories without repeats, as the payload of a word: a digit for its length, one for each member in
+/// order, zeros.
+#[derive(Clone, Copy, PartialEq, Eq, Hash)]
+pub struct Categories(u64);
+
+const DIGITS: u32 = 12;
+
+impl Categories {
+    /// These categories in this order; none if one occurs twice.
+    pub fn new(list: &[PrimitiveType]) -> Option<Self> {
+        let repeats = |place: usize| list[..place].contains(&list[place]);
+        if list.len() > PrimitiveType::ALL.len() || (0..list.len()).any(repeats) {
+            return None;
+        }
+        let mut payload = (list.len() as u64) << (4 * (DIGITS - 1));
+        for (place, category) in (2..).zip(list) {
+            payload |= category.number() << (4 * (DIGITS - place));
+        }
+        Some(Self(payload))
+    }
+
+    /// The list of a payload; none if it is no list.
+    pub fn from_payload(payload: u64) -> Option<Self> {
+        let given = Self(payload);
+        let list: Option<Vec<PrimitiveType>> = (0..given.len())
+            .map(|place| PrimitiveType::ALL.get(given.digit(place)).copied())
+            .collect();
+        Self::new(&list?).filter(|same| same.0 == payload)
+    }
+
+    pub fn payload(self) -> u64 {
+        self.0
+    }
+
+    pub fn len(self) -> usize {
+        (self.0 >> (4 * (DIGITS - 1)) & 0xf) as usize
+    }
+
+    pub fn is_empty(self) -> bool {
+        self.len() == 0
+    }
+
+    pub fn iter(self) -> impl Iterator<Item = PrimitiveType> {
+        (0..self.len()).map(move |place| PrimitiveType::ALL[self.digit(place)])
+    }
+
+    fn digit(self, place: usize) -> usize {
+        (self.0 >> (4 * (DIGITS as usize - 2).saturating_sub(place)) & 0xf) as usize
+    }
+}
+
+impl fmt::Debug for Categories {
+    fn fmt(&self, formatter: &mut fmt::Formatter<'_>) -> fmt::Result {
+        formatter.debug_list().entries(self.iter()).finish()
+    }
+}
+
+/// A type. It is copied freely: nothing in it is on the heap.
 #[derive(Debug, Clone, Copy, PartialEq, Eq, Hash)]
 pub struct ArgType<'a> {
     pub dimensions: u8,
@@ -83,6 +144,13 @@ impl<'a> ArgType<'a> {
         }
     }
 
+    pub const fn unknown(categories: Categories) -> Self {
+        Self {
+            dimensions: 0,
+            base: Base::Unknown(categories),
+        }
+    }
+
     /// The array of this type; none past 255 dimensions.
     pub fn array(self) -> Option<Self> {
         let dimensions = self.dimensions.checked_add(1)?;
@@ -106,9 +174,16 @@ impl<'a> ArgType<'a> {
         self.is_object() || self.is_array()
     }
 
-    /// Whether it takes two registers.
+    /// Whether it takes two registers; of an Unknown, whether each of its categories does.
     pub fn is_wide(&self) -> bool {
-        self.as_primitive().is_some_and(PrimitiveType::is_wide)
+        match self.base {
+            Base::Unknown(list) if self.dimensions == 0 => list.iter().all(PrimitiveType::is_wide),
+            _ => self.as_primitive().is_some_and(PrimitiveType::is_wide),
+        }
+    }
+
+    pub fn is_unknown(&self) -> bool {
+        self.dimensions == 0 && matches!(self.base, Base::Unknown(_))
     }
 
     pub fn as_primitive(&self) -> Option<PrimitiveType> {

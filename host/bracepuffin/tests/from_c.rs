@@ -14,6 +14,7 @@ String to List: refusal 0, relation 2
 above String: 2 classes, set 3
 common supertype 0, cast 0
 to class 3: refusal 6
+boolean with int: word 0002215000000000; String to List: assignable 1
 ";
 
 fn host() -> PathBuf {

@@ -1,13 +1,16 @@
 -- The parameters' reader meets its contract: each way out is a step of `methodFrom`; the bytes left fall with each parameter. Assumes nothing.
 use borrow.Author.Needs.{needs}
-use mathlib.Core.Path.{refl, sym, subst, _∙_}
+use mathlib.Core.Path.{refl, sym, ap, subst, _∙_}
 use mathlib.Core.Bool.{false}
 use native.Mathlib.Omega.{arith}
-use lib.ListN.{length}
+use mathlib.Core.List.{List}
+use lib.ListN.{length, take, drop}
 use Rattle.descriptor.specs.Steps.{Placed}
 use Rattle.descriptor.specs.Laws.{read-placed, found-tells}
-use Rattle.descriptor.specs.Filled.{left-end, left-close, left-full, left-refused, left-more}
-use Prim.Native.Nat.{ℕ, _-_, _<_}
+use Rattle.descriptor.specs.Core.{lent-anew}
+use Rattle.descriptor.specs.Params.{methodFrom}
+use Rattle.descriptor.specs.Filled.{left-same, left-end, left-close, left-full, left-refused, left-more}
+use Prim.Native.Nat.{ℕ, _+_, _-_, _<_}
 use borrow.Fn.Kinds.{In}
 use borrow.Fn.PlainCycle.{Measures, is, falls, and}
 use Rattle.descriptor.proofs.read_params.Reads as read-params
@@ -91,22 +94,32 @@ read-params-first-bad-requires t c κs =
     let r = c .before .before .before .read-type in
     subst (Placed (length (a .s .now))) (sym (r .ensures) ∙ c .before .t .given .1) (read-placed (a .s .now) (a .at) false 0 (omega arith))
 
+read-params-sub-read-params : (t : ℕ) → read-params-lts.Need-sub-read-params (claims t) (read-params-at t) read-params.Post
+read-params-sub-read-params t c = search needs
+
+read-params-part-read-params-start : (t : ℕ) → read-params-lts.Need-part-read-params-start (claims t) (read-params-at t) read-params.Post
+read-params-part-read-params-start t c = search needs
+
+read-params-part-read-params-end : (t : ℕ) → read-params-lts.Need-part-read-params-end (claims t) (read-params-at t) read-params.Post
+read-params-part-read-params-end t c = search needs
+
 read-params-add-read-params : (t : ℕ) → read-params-lts.Need-add-read-params (claims t) (read-params-at t) read-params.Post
-read-params-add-read-params t c = let l = c .before .before .before .before .before .before .if3 .left in omega arith
+read-params-add-read-params t c = let l = c .before .before .before .before .before .before .before .if3 .left in omega arith
 
 read-params-read-params-requires : (t : ℕ) → read-params-lts.Need-read-params-requires (claims t) (read-params-at t) read-params.Post
 read-params-read-params-requires t c κs =
-    let a = c .before .before .before .before .before .before .before .before .before .before .before .before .args in
-    let p = c .before .before .before .before .before .before .before .before .before .before .before .before .pre in
-    let l = c .before .before .before .before .before .before .if3 .left in
-    let i = c .before .before .before .before .before .before .before .before .before .if1 .left in
-    let f = found-tells (a .s .now) (a .at) false 0 _ _ _ (omega arith) (sym (c .before .before .before .before .before .read-type .ensures) ∙ c .before .before .before .t .given .1) .forward in
-    (let q : length (a .s .now) - c .before .before .before .t .given .0 .1 .1 .0 < t = omega arith in q, (p .1 .0, omega arith, omega arith))
+    let a = c .before .before .before .before .before .before .before .before .before .before .before .before .before .args in
+    let p = c .before .before .before .before .before .before .before .before .before .before .before .before .before .pre in
+    let l = c .before .before .before .before .before .before .before .if3 .left in
+    let i = c .before .before .before .before .before .before .before .before .before .before .if1 .left in
+    let f = found-tells (a .s .now) (a .at) false 0 _ _ _ (omega arith) (sym (c .before .before .before .before .before .before .read-type .ensures) ∙ c .before .before .before .before .t .given .1) .forward in
+    let e = ap length (lent-anew (a .s .now)) in
+    (let q : length (take (length (a .s .now) - 0) (drop 0 (a .s .now))) - c .before .before .before .before .t .given .0 .1 .1 .0 < t = omega arith in q, (p .1 .0, omega arith, omega arith))
 
 read-params-note-requires : (t : ℕ) → read-params-lts.Need-note-requires (claims t) (read-params-at t) read-params.Post
 read-params-note-requires t c κs =
-    let p = c .before .before .before .before .before .before .before .before .before .before .before .before .before .before .before .before .pre in
-    let l = c .before .before .before .before .before .before .before .before .before .before .if3 .left in
+    let p = c .before .before .before .before .before .before .before .before .before .before .before .before .before .before .before .before .before .pre in
+    let l = c .before .before .before .before .before .before .before .before .before .before .before .if3 .left in
     let k = c .before .before .before .read-params .kept .1 .0 in
     omega arith
 
@@ -121,14 +134,16 @@ read-params-same-length t c = c .before .before .note .kept .0 ∙ c .before .be
 
 read-params-returns-4 : (t : ℕ) → read-params-lts.Need-returns-4 (claims t) (read-params-at t) read-params.Post
 read-params-returns-4 t c =
-    let a = c .before .before .before .before .before .before .before .before .before .before .before .before .before .before .before .before .before .before .before .args in
-    let p = c .before .before .before .before .before .before .before .before .before .before .before .before .before .before .before .before .before .before .before .pre .1 in
-    let u = c .before .before .before .before .before .before .before .before .before .before .t .given in
+    let a = c .before .before .before .before .before .before .before .before .before .before .before .before .before .before .before .before .before .before .before .before .args in
+    let p = c .before .before .before .before .before .before .before .before .before .before .before .before .before .before .before .before .before .before .before .before .pre .1 in
+    let u = c .before .before .before .before .before .before .before .before .before .before .before .t .given in
+    let w = c .before .before .before .before .before .before .before .before .before .first-bad .result in
     let n = c .before .before .note in
     let q = c .before .before .before .before .before .before .read-params in
     let l =
-    left-more (a .s .now) (a .strict) (a .bad) (a .at) (a .count) (a .params .now) (c .before .before .before .before .before .before .before .before .before .before .before .before .before .before .before .before .if1 .left) (c .before .before .before .before .before .before .before .before .before .before .before .before .before .before .if2 .left) (c .before .before .before .before .before .before .before .before .before .before .before .before .before .if3 .left) _ (sym (u .1) ∙ c .before .before .before .before .before .before .before .before .before .before .before .before .read-type .ensures) _ _ _ refl (p .2) (p .0)
-    (c .before .before .before .before .before .before .before .before .first-bad .result) (c .before .before .before .before .before .before .before .before .first-bad .ensures) (q .result) (q .last .1 .0) (q .ensures)
+    left-more (a .s .now) (a .strict) (a .bad) (a .at) (a .count) (a .params .now) (c .before .before .before .before .before .before .before .before .before .before .before .before .before .before .before .before .before .if1 .left) (c .before .before .before .before .before .before .before .before .before .before .before .before .before .before .before .if2 .left) (c .before .before .before .before .before .before .before .before .before .before .before .before .before .before .if3 .left) _ (sym (u .1) ∙ c .before .before .before .before .before .before .before .before .before .before .before .before .before .read-type .ensures) _ _ _ refl (p .2) (p .0)
+    (c .before .before .before .before .before .before .before .before .before .first-bad .result) (c .before .before .before .before .before .before .before .before .before .first-bad .ensures) (q .result) (q .last .1 .0)
+    (left-same (a .count + 1) (a .params .now) _ _ (q .result) (q .last .1 .0) (ap (λ (l : List ℕ). methodFrom l (a .strict) w (u .0 .1 .1 .0) (a .count + 1)) (lent-anew (a .s .now))) (q .ensures))
     in
     (l .0, n .ensures ∙ l .1)
 
@@ -153,6 +168,9 @@ pub +read-params-spec : {M : Type 1} → statement M
     (read-params-read-type-requires t)
     (read-params-enum-known-t t)
     (read-params-first-bad-requires t)
+    (read-params-sub-read-params t)
+    (read-params-part-read-params-start t)
+    (read-params-part-read-params-end t)
     (read-params-add-read-params t)
     (read-params-read-params-requires t)
     (read-params-note-requires t)

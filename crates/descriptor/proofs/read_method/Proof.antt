@@ -1,8 +1,11 @@
 -- Refused before the parameters, or read by their reader from offset 1. Assumes nothing.
-use borrow.Author.Needs.{needs}
-use mathlib.Core.Path.{_∙_}
+use mathlib.Core.Path.{ap, _∙_}
+use mathlib.Core.List.{List}
+use Prim.Native.Nat.{ℕ}
 use native.Mathlib.Omega.{arith}
-use Rattle.descriptor.specs.Filled.{whole-short, whole-unopened, whole-opened}
+use Rattle.descriptor.specs.Core.{lent-anew}
+use Rattle.descriptor.specs.Params.{methodFrom}
+use Rattle.descriptor.specs.Filled.{left-same, whole-short, whole-unopened, whole-opened}
 use borrow.Author.Needs.{needs}
 use Rattle.descriptor.proofs.read_method.Statement.{statement}
 use Rattle.descriptor.proofs.read_method.Tie as tie
@@ -28,6 +31,15 @@ returns-2 c =
 shared-slice-read-if3 : tie.Need-shared-slice-read-if3
 shared-slice-read-if3 c = search needs
 
+sub-read-params : tie.Need-sub-read-params
+sub-read-params c = search needs
+
+part-read-params-start : tie.Need-part-read-params-start
+part-read-params-start c = search needs
+
+part-read-params-end : tie.Need-part-read-params-end
+part-read-params-end c = search needs
+
 read-params-requires : tie.Need-read-params-requires
 read-params-requires c κs = search needs
 
@@ -36,9 +48,10 @@ same-length c = search needs
 
 returns-3 : tie.Need-returns-3
 returns-3 c =
-    let a = c .before .before .before .before .before .before .before .before .before .before .args in
+    let a = c .before .before .before .before .before .before .before .before .before .before .before .args in
     let q = c .before .before .read-params in
-    whole-opened (a .strict) (a .s .now) (a .params .now) (c .before .before .before .before .before .before .before .if1 .left) (c .before .before .before .before .if3 .taken) (q .result) (q .last .1 .0) (q .ensures)
+    whole-opened (a .strict) (a .s .now) (a .params .now) (c .before .before .before .before .before .before .before .before .if1 .left) (c .before .before .before .before .before .if3 .taken) (q .result) (q .last .1 .0)
+    (left-same 0 (a .params .now) _ _ (q .result) (q .last .1 .0) (ap (λ (l : List ℕ). methodFrom l (a .strict) 0 1 0) (lent-anew (a .s .now))) (q .ensures))
 
 refused-requires-3 : tie.Need-refused-requires-3
 refused-requires-3 c κs = search needs
@@ -58,6 +71,9 @@ read-method-spec =
     refused-requires-2
     returns-2
     shared-slice-read-if3
+    sub-read-params
+    part-read-params-start
+    part-read-params-end
     read-params-requires
     same-length
     returns-3

@@ -171,7 +171,7 @@ fn read_then_written_is_the_same_bytes() {
         let mut classes: Vec<&str> = types()
             .filter_map(|ty| match ty.base {
                 bracepuffin::Base::Object(name) => Some(name),
-                bracepuffin::Base::Primitive(_) => None,
+                _ => None,
             })
             .collect();
         classes.push("another");
