@@ -23,6 +23,11 @@ fn are_joins(
     let refusal = r[0];
     let mut i: usize = 0;
     while i < types.len() {
+        let next = i + 1;
+        if r.len() <= next {
+            return false;
+        }
+        let answer = r[next];
         let said = bracepuffin::bp_join(
             names,
             at,
@@ -36,10 +41,10 @@ fn are_joins(
             types[i],
             work,
         );
-        i += 1;
-        if said.refusal != refusal || said.value != r[i] {
+        if said.refusal != refusal || said.value != answer {
             return false;
         }
+        i = next;
     }
     true
 }
@@ -65,6 +70,11 @@ fn are_assignable(
     let refusal = r[0];
     let mut i: usize = 0;
     while i < types.len() {
+        let next = i + 1;
+        if r.len() <= next {
+            return false;
+        }
+        let answer = r[next];
         let said = bracepuffin::bp_assignable(
             names,
             at,
@@ -78,10 +88,10 @@ fn are_assignable(
             types[i],
             work,
         );
-        i += 1;
-        if said.refusal != refusal || said.value != r[i] {
+        if said.refusal != refusal || said.value != answer {
             return false;
         }
+        i = next;
     }
     true
 }
