@@ -4,6 +4,7 @@
 //! from a stream of its own, made of the seed and its name, so a new row changes no line of the others.
 
 mod descriptors;
+mod joins;
 pub mod out;
 mod sets;
 mod sorted;
@@ -85,11 +86,18 @@ const TABLES: &[Function] = &[
     function("ancestors", "class = refusal count lowest and the list of words of the set of its ancestors, without the zeros at its end", "ancestor_names of ClassHierarchyIndex; rules for refusals", with_the_table),
 ];
 
+#[rustfmt::skip]
+const TYPES: &[Function] = &[
+    function("table", "room names types flags class at len parents = refusal of the join of Int and Int", "rules", joins::types),
+    function("join", "w = refusal, and the join of w and each of the types of the last table", "TypeLattice::join over ClassHierarchyIndex; rules for refusals", with_the_table),
+    function("assign", "w = refusal, and whether w is assignable to each of the types of the last table", "TypeLattice::is_assignable over ClassHierarchyIndex; rules for refusals", with_the_table),
+];
+
 /// For a function whose lines stand after those of the tables that they are about.
 fn with_the_table(_: &mut Rng, _: &mut Out) {}
 
 /// Every file that can be recorded.
-pub static FILES: [File; 3] = [
+pub static FILES: [File; 4] = [
     File {
         name: "leaves",
         about: "\
@@ -123,6 +131,19 @@ pub static FILES: [File; 3] = [
             # limits (8) are too long for a line; the tests of host/bracepuffin have them.\n",
         most_tokens: 1600,
         functions: TABLES,
+    },
+    File {
+        name: "types",
+        about: "\
+            # Numbers are lower-case hex without leading zeros. A list: the length, then the members. names: the\n\
+            # bytes that names are cut from (one token, x and two digits a byte), the list of their places, the list\n\
+            # of their lengths. flags, class, at, len: a list each, an entry a record; parents: the list that records\n\
+            # cut theirs from. types: a list of words. room: how many working words are lent. A table holds until the next one. A refused\n\
+            # answer has its number, then zeros. ffffffffffffffff: no answer.\n\
+            # rules: those of the scope paper, written apart in host/judge/src/types.rs. Tables that pass the\n\
+            # limits (8) are too long for a line; the tests of host/bracepuffin have them.\n",
+        most_tokens: 1600,
+        functions: TYPES,
     },
 ];
 

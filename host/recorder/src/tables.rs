@@ -32,7 +32,7 @@ fn no_records(rng: &mut Rng, count: u64) -> (Classes, u64) {
 }
 
 /// Any class may be above any, itself and Object included; records repeat, and some classes have none.
-fn any_table(rng: &mut Rng, count: u64) -> Classes {
+pub(crate) fn any_table(rng: &mut Rng, count: u64) -> Classes {
     let (mut table, _) = no_records(rng, count);
     let most = 1 + rng.below(3);
     for _ in 0..rng.below(2 * count + 1) {
@@ -44,7 +44,7 @@ fn any_table(rng: &mut Rng, count: u64) -> Classes {
 }
 
 /// As programs have them: no cycle, most classes have a record, and parents are near.
-fn layered_table(rng: &mut Rng, count: u64) -> Classes {
+pub(crate) fn layered_table(rng: &mut Rng, count: u64) -> Classes {
     let (mut table, object) = no_records(rng, count);
     let unrecorded = *rng.pick(&[0, 0, 6]);
     let mut above = vec![object];
@@ -120,7 +120,7 @@ fn telling_tables() -> Vec<Classes> {
 }
 
 /// A fault: in names, columns, flags, numbers or places. Some change nothing.
-fn damage(rng: &mut Rng, table: &mut Classes) {
+pub(crate) fn damage(rng: &mut Rng, table: &mut Classes) {
     let far = *rng.pick(&[
         2,
         4,

@@ -2,7 +2,7 @@
 
 use std::collections::{BTreeMap, BTreeSet};
 
-use judge::stored::{DESCRIPTORS, LEAVES, TABLES};
+use judge::stored::{DESCRIPTORS, LEAVES, TABLES, TYPES};
 use recorder::out::{bytes, MAX_BYTES};
 use recorder::{record, File, FILES};
 
@@ -100,7 +100,7 @@ fn functions_are_grouped_in_the_order_of_the_table() {
         let listed = Vec::from_iter(file.functions.iter().map(|function| function.name));
         match file.name {
             // What is asked about a table stands after it.
-            "tables" => assert!(names.iter().all(|name| listed.contains(name))),
+            "tables" | "types" => assert!(names.iter().all(|name| listed.contains(name))),
             _ => {
                 names.dedup();
                 assert_eq!(names, listed);
@@ -164,6 +164,38 @@ fn every_answer_about_tables_occurs() {
     assert_eq!(many("pair", 1, "0 1 2", 500), 3);
     many("pair", 2, "0 1 2 3 3fffffffffffffff ffffffffffffffff", 20);
     assert_eq!(many("pair", 4, "0 1", 500), 2);
+}
+
+/// Every pair of some hundred types over one table, and every refusal.
+#[test]
+fn joins_are_of_some_hundred_types() {
+    let refusals = |function| {
+        let of = move |(name, _, answer): &(&str, &str, &str)| {
+            (*name == function).then(|| numbers(answer))
+        };
+        cases(TYPES).filter_map(move |case| of(&case))
+    };
+    for function in ["join", "assign"] {
+        let longest = refusals(function).map(|answer| answer.len()).max();
+        assert!(longest >= Some(91), "{longest:?}");
+        let met: BTreeSet<u64> = refusals(function).map(|answer| answer[0]).collect();
+        assert!(
+            [0, 3, 5, 6, 7, 9, 10, 22]
+                .iter()
+                .all(|refusal| met.contains(refusal)),
+            "{met:?}"
+        );
+    }
+    let flags: Vec<u64> = refusals("assign")
+        .filter(|answer| answer[0] == 0)
+        .flat_map(|answer| answer[1..].to_vec())
+        .collect();
+    let share = flags.iter().filter(|flag| **flag == 1).count();
+    assert!(
+        share > 1000 && flags.len() - share > 1000,
+        "{share} of {}",
+        flags.len()
+    );
 }
 
 /// The refusals that a function of descriptors can give in a line, each more than once.
