@@ -40,6 +40,13 @@ impl Judge {
         words::word(&joined, &self.names).expect("a type of the table")
     }
 
+    /// `join_all`, which sorts its types first.
+    pub fn join_all(&self, words: &[u64]) -> Option<u64> {
+        let types = words.iter().map(|word| self.type_of(*word));
+        let joined = lattice::join_all(types, &self.index)?;
+        Some(words::word(&joined, &self.names).expect("a type of the table"))
+    }
+
     /// `is_assignable`.
     pub fn assignable(&self, value: u64, expected: u64) -> u64 {
         let (value, expected) = (self.type_of(value), self.type_of(expected));

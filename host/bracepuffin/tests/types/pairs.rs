@@ -1,4 +1,4 @@
-//! All pairs of types of every kind over one table, and random pairs over others.
+//! All pairs of types of every kind over several tables, random pairs over others, and lists joined one by one.
 
 use bracepuffin::slices;
 use judge::class_cases::any_classes;
@@ -97,6 +97,63 @@ fn all_pairs_of_types() {
     for left in &types {
         for right in &types {
             agree(&classes, &judge, *left, *right, &mut work);
+        }
+    }
+}
+
+/// A circle of two classes under Object; and Object under a class, no interface of arrays among the names.
+fn others() -> [Classes; 2] {
+    let mut circle = Classes::of(&["a", "b", "java/io/Serializable", "java/lang/Object"]);
+    circle.push(1, 0, &[1]);
+    circle.push(1, 1, &[0, 3]);
+    circle.push(0, 3, &[]);
+    let mut above = Classes::of(&["a", "b", "c", "java/lang/Object"]);
+    above.push(1, 0, &[1]);
+    above.push(0, 2, &[1, 3]);
+    above.push(1, 3, &[1]);
+    [circle, above]
+}
+
+#[test]
+fn all_pairs_of_types_over_other_tables() {
+    let mut work = work();
+    for classes in others() {
+        let judge = classes.judge();
+        let numbers: Vec<u64> = (0..judge.names.len() as u64).collect();
+        let mut types = Vec::new();
+        for base in bases(&numbers) {
+            types.extend([0, 1].map(|dimensions| array(dimensions, base)));
+        }
+        for left in &types {
+            for right in &types {
+                agree(&classes, &judge, *left, *right, &mut work);
+            }
+        }
+    }
+}
+
+/// A list is joined from its front in the order of types, as `join_all` does.
+#[test]
+fn random_lists_joined_one_by_one() {
+    let mut rng = Rng::new(1, "lists of types");
+    let mut work = work();
+    let [circle, above] = others();
+    for classes in [related(), circle, above] {
+        let judge = classes.judge();
+        let numbers: Vec<u64> = (0..judge.names.len() as u64).collect();
+        let bases = bases(&numbers);
+        for _ in 0..cases(200) {
+            let length = 1 + rng.below(6);
+            let mut words: Vec<u64> = (0..length)
+                .map(|_| array(*rng.pick(&[0, 0, 0, 1, 2]), *rng.pick(&bases)))
+                .collect();
+            words.sort_by_key(|word| judge.type_of(*word));
+            let ours = words.iter().copied().reduce(|left, right| {
+                let joined = slices::join(columns(&classes), left, right, &mut work);
+                assert_eq!(joined.refusal, 0);
+                joined.value
+            });
+            assert_eq!(ours, judge.join_all(&words), "{words:x?} {classes:?}");
         }
     }
 }
