@@ -1,0 +1,2 @@
+-- What the scope paper demands of the whole.
+pub mod Examples
