@@ -12,41 +12,14 @@ mod lent;
 mod limits;
 mod random;
 mod refusals;
+#[path = "../shared/mod.rs"]
+mod shared;
 mod wrappers;
 
-use bracepuffin::slices::{self, ClassColumns, Columns};
-use judge::classes::{Classes, Judge, WORK};
+use bracepuffin::slices;
+use judge::classes::{Classes, Judge};
 
-/// What lent memory holds before a call.
-const POISON: u64 = 0xa5a5_a5a5_a5a5_a5a5;
-
-/// How many random cases to try where the most thorough test tries a million.
-fn cases(of_a_million: u64) -> u64 {
-    let million = match std::env::var("BRACEPUFFIN_CASES") {
-        Ok(number) => number.parse().expect("BRACEPUFFIN_CASES is a number"),
-        Err(_) => 1_000_000,
-    };
-    (million * of_a_million).div_ceil(1_000_000)
-}
-
-fn columns(classes: &Classes) -> ClassColumns<'_> {
-    ClassColumns {
-        names: Columns {
-            names: &classes.names.store,
-            name_at: &classes.names.at,
-            name_len: &classes.names.len,
-        },
-        rec_flags: &classes.flags,
-        rec_class: &classes.class,
-        rec_at: &classes.at,
-        rec_len: &classes.len,
-        parents: &classes.parents,
-    }
-}
-
-fn work() -> Vec<u64> {
-    vec![0; WORK]
-}
+use shared::{cases, columns, work, POISON};
 
 #[derive(Debug, Clone, Copy, PartialEq, Eq)]
 enum Query {

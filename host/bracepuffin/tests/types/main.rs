@@ -6,41 +6,18 @@
 mod facts;
 mod pairs;
 mod refusals;
+#[path = "../shared/mod.rs"]
+mod shared;
 mod wrappers;
 
 use bracepuffin::ffi::BpAnswer;
-use bracepuffin::slices::{self, ClassColumns, Columns};
-use judge::classes::{Classes, WORK};
+use bracepuffin::slices::{self, ClassColumns};
+use judge::classes::Classes;
 
-/// What lent memory holds before a call.
-const POISON: u64 = 0xa5a5_a5a5_a5a5_a5a5;
+use shared::{cases, columns, work, POISON};
 
 const CLASS: u64 = 1 << 48;
 const UNKNOWN: u64 = 2 << 48;
-
-/// How many random cases to try where the most thorough test tries a million.
-fn cases(of_a_million: u64) -> u64 {
-    let million = match std::env::var("BRACEPUFFIN_CASES") {
-        Ok(number) => number.parse().expect("BRACEPUFFIN_CASES is a number"),
-        Err(_) => 1_000_000,
-    };
-    (million * of_a_million).div_ceil(1_000_000)
-}
-
-fn columns(classes: &Classes) -> ClassColumns<'_> {
-    ClassColumns {
-        names: Columns {
-            names: &classes.names.store,
-            name_at: &classes.names.at,
-            name_len: &classes.names.len,
-        },
-        rec_flags: &classes.flags,
-        rec_class: &classes.class,
-        rec_at: &classes.at,
-        rec_len: &classes.len,
-        parents: &classes.parents,
-    }
-}
 
 type Query = fn(ClassColumns, u64, u64, &mut [u64]) -> BpAnswer;
 
@@ -55,10 +32,6 @@ fn unknown(list: &[u64]) -> u64 {
 
 fn array(dimensions: u64, base: u64) -> u64 {
     dimensions << 56 | base
-}
-
-fn work() -> Vec<u64> {
-    vec![0; WORK]
 }
 
 /// The join of two words, which is not refused.
