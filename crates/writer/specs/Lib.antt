@@ -6,4 +6,5 @@ pub mod ToWord
 pub mod Derived
 pub mod Readable
 pub mod Round
+pub mod Lent
 pub mod Examples
