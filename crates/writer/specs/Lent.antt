@@ -225,6 +225,9 @@ module _ (w p : ℕ) (h : p < 2 ^ 48) where
   load-set : loadOf (w - loadOf w + p) ≡ p
   load-set = omega arith
 
+  sum-fits : w < 2 ^ 64 → w - loadOf w + p < 2 ^ 64
+  sum-fits l = omega arith
+
 class-legal : (names w : ℕ) → tagOf w ≡ 1 → loadOf w < names → legalWord names w ≡ true
 unfolding legalWord
 class-legal names w t h = ap (λ (g : ℕ). legalBase names g (loadOf w)) t ∙ legal-object names (loadOf w) ∙ lt-ltb (loadOf w) names h
@@ -261,6 +264,11 @@ module _ (bytes ats lens ks : List ℕ) (c : Checked bytes ats lens) (a : ascend
   -- where a class is lent, its place is a class's number
   place-low : (k : ℕ) → elem k ks ≡ true → (place ks k < length ks) × (place ks k < 2 ^ 48)
   place-low k e = let p = place-found ks k e .0 in let f = c .few in let l = few-lent bytes ats lens ks c a in (p, omega arith)
+
+  -- a word of 64 bits stays one
+  pub renumbered-fits : (w : ℕ) → w < 2 ^ 64 → renumbered ks w < 2 ^ 64
+  renumbered-fits w l =
+      by-class ks w (λ (v : ℕ). v < 2 ^ 64) (λ t e. sum-fits w (place ks (loadOf w)) (place-low (loadOf w) e .1) l) (λ f. l)
 
   -- A WORD IS A TYPE OVER THE PART EXACTLY IF IT IS ONE OVER THE TABLE
   pub legal-lent : (w : ℕ) → Lent (length ats) ks w → legalWord (length (picked ats ks)) (renumbered ks w) ≡ legalWord (length ats) w
