@@ -16,8 +16,9 @@ pub(crate) const PRIMITIVE: u64 = 0;
 pub(crate) const CLASS: u64 = 1;
 pub(crate) const UNKNOWN: u64 = 2;
 
-/// Methods of fewer parameters have their words in less memory.
+/// Methods of fewer parameters have their words in less memory, since it has to be cleared.
 const FEW: usize = 16;
+const MORE: usize = 64;
 
 /// Names that were checked, ascending. The number of a class is its place among them, from 0.
 ///
@@ -181,7 +182,8 @@ impl Names {
     fn write_words(&self, parameters: &[u64], result: u64, out: &mut [u8]) -> BpWritten {
         match parameters.len() {
             0..FEW => self.write_part::<FEW>(parameters, result, out),
-            FEW..=crate::PARAMETERS => self.write_part::<256>(parameters, result, out),
+            FEW..MORE => self.write_part::<MORE>(parameters, result, out),
+            MORE..=crate::PARAMETERS => self.write_part::<256>(parameters, result, out),
             // The number of parameters alone is refused.
             _ => slices::write_method(part::NOTHING, parameters, result, out),
         }

@@ -147,7 +147,7 @@ fn methods_over_the_names_of_their_classes() {
 fn methods_whose_classes_all_differ() {
     let names = Names::new((0..1024).map(|n| format!("{n:04}"))).expect("a sound table");
     for (first, step) in [(0, 1), (63, 1), (768, 1), (0, 4), (3, 4)] {
-        for count in (1..=20).chain(255..=258) {
+        for count in 1..=258 {
             let mut words: Vec<u64> = (0..count).map(|n| CLASS | (first + n * step)).collect();
             for _ in 0..2 {
                 let name = |word: &u64| format!("L{:04};", word - CLASS);
