@@ -132,7 +132,10 @@ impl<'a, 'o> Method<'a, 'o> {
     #[inline(always)]
     fn collect(self) -> MethodDescriptor<'a> {
         MethodDescriptor {
-            parameters: types(self.descriptor, self.offsets),
+            parameters: match self.count() {
+                0 => Vec::new(),
+                _ => types(self.descriptor, self.offsets),
+            },
             return_type: self.return_type,
         }
     }
