@@ -1,11 +1,12 @@
 /*
- * Worked calls from C: reads a method's descriptor, looks its class up, and writes the descriptor again; then asks
- * about the classes of a table, and about types over it.
+ * Worked calls from C: reads a method's descriptor, makes the words of its types, and writes it again; then asks about
+ * the classes of a table, and about types over it. Each call is tested before its answer is used.
  *
  *     cc -I include examples/call.c ../target/staticlib/libbracepuffin.a -o call && ./call
  */
 #include "bracepuffin.h"
 #include <inttypes.h>
+#include <stdbool.h>
 #include <stdio.h>
 #include <string.h>
 
@@ -15,17 +16,46 @@ static const uint64_t name_at[] = {0, 16, 32};
 static const uint64_t name_len[] = {16, 16, 14};
 #define NAMES names, sizeof names - 1, name_at, 3, name_len, 3
 
-/* The word of a type that was read in the descriptor d. */
-static uint64_t word_of(const uint8_t *d, BpType t) {
-    if (t.tag == BP_TAG_PRIMITIVE) {
-        return BP_ARRAY(t.dims, BP_PRIMITIVE(t.category));
+/* Whether a call was refused; if so, prints why. The offset is that of the result, or 0 where it has none. */
+static bool refused(const char *call, uint64_t refusal, uint64_t offset) {
+    if (refusal == 0) return false;
+    printf("%s: refusal %" PRIu64 ", offset %" PRIu64 "\n", call, refusal, offset);
+    return true;
+}
+
+/* The word of the type whose descriptor is the n bytes at d; false if a call was refused. */
+static bool word_of(const uint8_t *d, size_t n, uint64_t *word) {
+    BpType t = bp_read_type(d, n);
+    if (refused("bp_read_type", t.refusal, t.offset)) return false;
+    uint64_t base = BP_PRIMITIVE(t.category);
+    if (t.tag == BP_TAG_CLASS) {
+        BpFound found = bp_lookup(NAMES, d + t.name_at, t.name_len);
+        if (refused("bp_lookup", found.refusal, 0)) return false;
+        base = BP_CLASS(found.class_no);
     }
-    BpFound found = bp_lookup(NAMES, d + t.name_at, t.name_len);
-    if (found.refusal != 0) {
-        printf("lookup refused: %" PRIu64 "\n", found.refusal);
-        return UINT64_MAX;
+    *word = BP_ARRAY(t.dims, base);
+    printf("%.*s: word %016" PRIx64 "\n", (int)n, (const char *)d, *word);
+    return true;
+}
+
+/* Reads the descriptor of a method and writes it again from the words of its types; false if a call was refused. */
+static bool rewrite(const char *text) {
+    const uint8_t *d = (const uint8_t *)text;
+    size_t n = strlen(text);
+    static uint8_t out[BP_METHOD_BYTES];
+    uint64_t params[BP_PARAMS], words[BP_PARAMS], result;
+
+    BpMethod m = bp_read_method(d, n, params, BP_PARAMS);
+    if (refused("bp_read_method", m.refusal, m.offset)) return false;
+    for (size_t i = 0; i < m.count; i++) {
+        size_t end = i + 1 < m.count ? params[i + 1] : m.return_at - 1;
+        if (!word_of(d + params[i], end - params[i], &words[i])) return false;
     }
-    return BP_ARRAY(t.dims, BP_CLASS(found.class_no));
+    if (!word_of(d + m.return_at, n - m.return_at, &result)) return false;
+    BpWritten w = bp_write_method(NAMES, words, m.count, result, out, sizeof out);
+    if (refused("bp_write_method", w.refusal, 0)) return false;
+    printf("%" PRIu64 " parameters, written: %.*s\n", m.count, (int)w.length, (const char *)out);
+    return true;
 }
 
 /* Records of the same names: String and List, an interface, are declared and have Object as their parent. */
@@ -36,44 +66,42 @@ static const uint64_t rec_len[] = {1, 1};
 static const uint64_t parents[] = {0};
 #define TABLE NAMES, rec_flags, 2, rec_class, 2, rec_at, 2, rec_len, 2, parents, 1
 
-static void ask_classes(void) {
-    static uint64_t work[BP_WORK];
-    BpRelation relation = bp_relation(TABLE, 1, 2, work, BP_WORK);
-    printf("String to List: refusal %" PRIu64 ", relation %" PRIu64 "\n", relation.refusal, relation.relation);
-    BpSet above = bp_ancestors(TABLE, 1, work, BP_WORK);
-    printf("above String: %" PRIu64 " classes, set %" PRIx64 "\n", above.count, above.words[0]);
-    BpAnswer common = bp_supertype(TABLE, 1, 2, work, BP_WORK);
-    BpAnswer cast = bp_cast(TABLE, 1, 2, work, BP_WORK);
-    printf("common supertype %" PRIu64 ", cast %" PRIu64 "\n", common.value, cast.value);
-    BpAnswer none = bp_distance(TABLE, 1, 3, work, BP_WORK);
-    printf("to class 3: refusal %" PRIu64 "\n", none.refusal);
-    BpAnswer joined = bp_join(TABLE, BP_PRIMITIVE(BP_BOOLEAN), BP_PRIMITIVE(BP_INT), work, BP_WORK);
-    BpAnswer fits = bp_assignable(TABLE, BP_CLASS(1), BP_CLASS(2), work, BP_WORK);
-    printf("boolean with int: word %016" PRIx64 "; String to List: assignable %" PRIu64 "\n", joined.value, fits.value);
+/* The working slice that every query is lent. */
+static uint64_t work[BP_WORK];
+#define WORK work, BP_WORK
+
+/* Prints a number that was answered; false if the call was refused. */
+static bool answered(const char *call, BpAnswer answer) {
+    if (refused(call, answer.refusal, 0)) return false;
+    printf("%s: %" PRIu64 "\n", call, answer.value);
+    return true;
+}
+
+/* Asks about String, class 1, and List, class 2. */
+static bool ask_classes(void) {
+    BpRelation r = bp_relation(TABLE, 1, 2, WORK);
+    if (refused("bp_relation", r.refusal, 0)) return false;
+    printf("bp_relation: %" PRIu64 "\n", r.relation);
+    BpSet above = bp_ancestors(TABLE, 1, WORK);
+    if (refused("bp_ancestors", above.refusal, 0)) return false;
+    printf("bp_ancestors: %" PRIu64 " classes, words[0] %" PRIx64 "\n", above.count, above.words[0]);
+    return answered("bp_supertype", bp_supertype(TABLE, 1, 2, WORK))
+        && answered("bp_distance", bp_distance(TABLE, 1, 0, WORK))
+        && answered("bp_cast", bp_cast(TABLE, 1, 2, WORK))
+        && answered("bp_assignable", bp_assignable(TABLE, BP_CLASS(1), BP_CLASS(2), WORK));
+}
+
+/* Joins boolean and int: an Unknown of both. */
+static bool ask_join(void) {
+    BpAnswer j = bp_join(TABLE, BP_PRIMITIVE(BP_BOOLEAN), BP_PRIMITIVE(BP_INT), WORK);
+    if (refused("bp_join", j.refusal, 0)) return false;
+    printf("bp_join: word %016" PRIx64 "\n", j.value);
+    return true;
 }
 
 int main(void) {
-    const uint8_t *d = (const uint8_t *)"([Ljava/lang/String;I)V";
-    size_t n = strlen((const char *)d);
-    uint64_t params[BP_PARAMS], words[BP_PARAMS];
-
-    BpMethod m = bp_read_method(d, n, params, BP_PARAMS);
-    printf("refusal %" PRIu64 ", %" PRIu64 " parameters, result at %" PRIu64 "\n", m.refusal, m.count, m.return_at);
-    for (size_t i = 0; i < m.count; i++) {
-        size_t end = i + 1 < m.count ? params[i + 1] : m.return_at - 1;
-        BpType t = bp_read_type(d + params[i], end - params[i]);
-        words[i] = word_of(d + params[i], t);
-        printf("parameter %zu: %.*s, word %016" PRIx64 "\n", i, (int)(end - params[i]), (const char *)d + params[i], words[i]);
-    }
-
-    uint8_t out[64];
-    uint64_t result = BP_ARRAY(m.dims, BP_PRIMITIVE(m.category));
-    BpWritten w = bp_write_method(NAMES, words, m.count, result, out, sizeof out);
-    printf("refusal %" PRIu64 ", written: %.*s\n", w.refusal, (int)w.length, (const char *)out);
-
-    BpType bad = bp_read_type((const uint8_t *)"[V", 2);
-    printf("[V: refusal %" PRIu64 " at %" PRIu64 "\n", bad.refusal, bad.offset);
-
-    ask_classes();
-    return 0;
+    bool good = rewrite("([Ljava/lang/String;I)Ljava/util/List;") && ask_classes() && ask_join();
+    /* Refused: an array of void, a class that is not among the names, a number that is no class's. */
+    bool bad = rewrite("(I[V)V") || rewrite("(I)La/B;") || answered("bp_distance", bp_distance(TABLE, 1, 3, WORK));
+    return good && !bad ? 0 : 1;
 }

@@ -5,30 +5,12 @@
  * length in elements. The pointer is never null, not even for length 0; slices that are written overlap no other slice
  * of the call.
  *
- * A result begins with its refusal, 0 for none. In a refused result every other field is 0, but for offset and byte
- * where the refusal has them. A refused call leaves all lent memory as it came, but for the working slice of a query.
+ * A result begins with its refusal, 0 for none: test it before any other field. In a refused result every other field
+ * is 0, but for offset and byte where the refusal has them. A refused call leaves all lent memory as it came, but for
+ * the working slice of a query. The numbers below are those of BP_REFUSED_LENGTH and so on.
  *
- *    3  columns of unequal length; a name of no bytes or of more than 255, or not inside its slice; a record of more
- *       than 254 parents, or whose parents are not inside their slice
- *    5  a name not above the one before it
- *    6  flags, a class or a parent of a record, or a class asked about, out of range
- *    7  no type word, or its class number not in the table
- *    8  more than 1,024 names, 24,576 name bytes, 4,096 distinct pairs of a class and a parent, or 255 parameters
- *    9  a query over a table without the name java/lang/Object
- *   10  a name that is not well-formed UTF-8
- *   11  the descriptor ends too early                                       offset
- *   12  a byte that begins no type, or a name not well-formed from here on  offset, byte
- *   13  V where no void is allowed                                          offset
- *   14  an empty class name                                                 offset, of the L
- *   15  bytes after the end                                                 offset
- *   16  a method that does not begin with (
- *   17  a parameter list that is not closed                                 offset
- *   18  the 256th dimension of one type                                     offset
- *   19  the 256th parameter                                                 offset
- *   22  fewer than 255 entries for parameters, less room than what is to be written, or a working slice of fewer than
- *       8,192 words
- *   23  the name looked up is not in the table
- *   24  a name with '.', '[' or an empty part beside a slash                offset, of the L
+ * UTF-8 is standard UTF-8, well-formed by Unicode. The modified form of class files is refused where it differs, c0 80
+ * for NUL and six bytes for a supplementary character: 10 in a table of names, 12 in a descriptor. Convert it first.
  *
  * A type is handed over as a word of 64 bits, see BP_PRIMITIVE, BP_CLASS and BP_ARRAY.
  */
@@ -41,6 +23,35 @@
 #ifdef __cplusplus
 extern "C" {
 #endif
+
+/* Refusals. After the colon: which of offset and byte they have. */
+enum {
+    BP_REFUSED_LENGTH = 3,                /* columns of unequal length; a name of no bytes or of more than 255, or not
+                                             inside its slice; a record of more than 254 parents, or whose parents are
+                                             not inside their slice */
+    BP_REFUSED_NAME_ORDER = 5,            /* a name not above the one before it */
+    BP_REFUSED_NUMBER = 6,                /* flags, a class or a parent of a record, or a class asked about, out of
+                                             range */
+    BP_REFUSED_TYPE = 7,                  /* no type word, or its class number not in the table */
+    BP_REFUSED_ROOM = 8,                  /* more than 1,024 names, 24,576 name bytes, 4,096 distinct pairs of a class
+                                             and a parent, or 255 parameters */
+    BP_REFUSED_NO_OBJECT = 9,             /* a query over a table without the name java/lang/Object */
+    BP_REFUSED_UTF8 = 10,                 /* a name that is not well-formed UTF-8 */
+    BP_REFUSED_UNEXPECTED_END = 11,       /* the descriptor ends too early: offset */
+    BP_REFUSED_UNEXPECTED_BYTE = 12,      /* a byte that begins no type, or a name not well-formed from here on:
+                                             offset, byte */
+    BP_REFUSED_VOID_NOT_ALLOWED = 13,     /* V where no void is allowed: offset */
+    BP_REFUSED_EMPTY_OBJECT = 14,         /* an empty class name: offset, of the L */
+    BP_REFUSED_TRAILING_INPUT = 15,       /* bytes after the end: offset */
+    BP_REFUSED_MISSING_METHOD_START = 16, /* a method that does not begin with ( */
+    BP_REFUSED_MISSING_METHOD_END = 17,   /* a parameter list that is not closed: offset */
+    BP_REFUSED_TOO_MANY_DIMENSIONS = 18,  /* the 256th dimension of one type: offset */
+    BP_REFUSED_TOO_MANY_PARAMETERS = 19,  /* the 256th parameter: offset */
+    BP_REFUSED_SHORT = 22,                /* fewer than 255 entries for parameters, less room than what is to be
+                                             written, or a working slice of fewer than 8,192 words */
+    BP_REFUSED_ABSENT = 23,               /* the name looked up is not in the table */
+    BP_REFUSED_STRICT = 24                /* a name with '.', '[' or an empty part beside a slash: offset, of the L */
+};
 
 /* A slice as two parameters, read or written: BP_IN8(d) is `const uint8_t *d, size_t d_n`. */
 #define BP_IN8(x)   const uint8_t *x, size_t x##_n
@@ -84,13 +95,24 @@ enum {
 /* Tags of what was read and of words. An Unknown is written as '?'. */
 enum { BP_TAG_PRIMITIVE = 0, BP_TAG_CLASS = 1, BP_TAG_UNKNOWN = 2 };
 
-/* Type words: a primitive by its category, a class by its number, an array with 0 to 255 dimensions over such a word. */
+/*
+ * Type words: a primitive by its category, a class by its number, and the array with so many more dimensions over a
+ * word, which may be an array's. In sum at most 255: beyond it the word wraps, and 256 dimensions are none. No call
+ * can see that.
+ */
 #define BP_PRIMITIVE(category)   ((uint64_t)(category))
 #define BP_CLASS(class_no)       ((uint64_t)BP_TAG_CLASS << 48 | (uint64_t)(class_no))
-#define BP_ARRAY(dims, base)     ((uint64_t)(dims) << 56 | (base))
+#define BP_ARRAY(dims, word)     (((uint64_t)(dims) << 56) + (uint64_t)(word))
 
 /* The most parameters a method may have; the least number of entries that a parameter slice must have. */
 #define BP_PARAMS 255
+
+/*
+ * Room for whatever may be written: a type has at most 255 dimensions and a name of 255 bytes between L and ;, a method
+ * 255 parameters and a result between and after its brackets.
+ */
+#define BP_TYPE_BYTES   512
+#define BP_METHOD_BYTES 131074
 
 /*
  * A type that was read. tag BP_TAG_PRIMITIVE: category is 0 to 8 and the name fields are 0. tag BP_TAG_CLASS: category
@@ -162,18 +184,18 @@ BpMethod bp_read_method(BP_IN8(d), BP_OUT64(params));
 BpMethod bp_read_method_strict(BP_IN8(d), BP_OUT64(params));
 
 /*
- * Writes the descriptor of a type word to the front of out; bytes past the length stay. At most 512 bytes.
+ * Writes the descriptor of a type word to the front of out; bytes past the length stay. At most BP_TYPE_BYTES.
  * 3, 10, 5, 8 for the table; 7; 22.
  */
 BpWritten bp_write_type(BP_NAMES, uint64_t type, BP_OUT8(out));
 
 /*
- * Writes the descriptor of a method to the front of out; bytes past the length stay.
+ * Writes the descriptor of a method to the front of out; bytes past the length stay. At most BP_METHOD_BYTES.
  * 3, 10, 5, 8 for the table; 8 for more than 255 parameters; 7 for any of the words; 22.
  */
 BpWritten bp_write_method(BP_NAMES, BP_IN64(params), uint64_t result, BP_OUT8(out));
 
-/* The class number of a name. 3, 10, 5, 8 for the table; 23. */
+/* The class number of a name; the key may be any bytes, of any number. 3, 10, 5, 8 for the table; 23. */
 BpFound bp_lookup(BP_NAMES, BP_IN8(key));
 
 /*

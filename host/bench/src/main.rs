@@ -12,7 +12,7 @@ use std::hint::black_box;
 use std::str::FromStr;
 use std::time::{Duration, Instant};
 
-use bracepuffin::{slices, Names};
+use bracepuffin::{slices, Names, Offsets};
 use dexdec::{ArgType, MethodDescriptor};
 
 /// Each round takes about so long; the best round counts.
@@ -21,6 +21,9 @@ const ROUNDS: usize = 25;
 /// What the rounds of one call may take together; some are always run.
 const ALL_ROUNDS: Duration = Duration::from_millis(500);
 const FEWEST: usize = 3;
+/// The same for calls of nanoseconds, which take turns.
+const TURN: Duration = Duration::from_micros(500);
+const TURNS: usize = 150;
 
 fn main() {
     println!("| what | Rust ns | boundary ns | Rust / boundary | wrapper ns | Rust / wrapper |");
@@ -50,6 +53,7 @@ fn descriptors() {
             "a name of 99 bytes, not ASCII",
             &format!("L{};", "\u{65e5}".repeat(33)),
         ),
+        ("`Lcom/example/Straße/Größe;`", "Lcom/example/Straße/Größe;"),
         ("255 dimensions", &deep),
         ("`[V`, refused", "[V"),
     ] {
@@ -99,26 +103,36 @@ fn descriptors() {
             "(ILjava/lang/Object;)Z",
             &few,
         ),
+        (
+            "`(ILjava/lang/Object;)Z`, 1,024 names",
+            "(ILjava/lang/Object;)Z",
+            &full,
+        ),
         ("60 parameters, 2 names", &many, &few),
         ("60 parameters, 1,024 names", &many, &full),
     ] {
         write_method(what, text, names);
     }
+    without_the_heap();
 }
 
 fn parse_type(what: &str, text: &str) {
-    let rust = best(|| ArgType::from_str(black_box(text)));
-    let boundary = best(|| slices::read_type(black_box(text.as_bytes())));
-    let wrapper = best(|| bracepuffin::read_type(black_box(text.as_bytes())));
-    row(&format!("parse type {what}"), rust, boundary, wrapper);
+    take_turns(
+        &format!("parse type {what}"),
+        || ArgType::from_str(black_box(text)),
+        || slices::read_type(black_box(text.as_bytes())),
+        || bracepuffin::read_type(black_box(text.as_bytes())),
+    );
 }
 
 fn parse_method(what: &str, text: &str) {
-    let rust = best(|| MethodDescriptor::from_str(black_box(text)));
     let mut params = [0; 255];
-    let boundary = best(|| slices::read_method(black_box(text.as_bytes()), &mut params));
-    let wrapper = best(|| bracepuffin::read_method(black_box(text.as_bytes())));
-    row(&format!("parse method {what}"), rust, boundary, wrapper);
+    take_turns(
+        &format!("parse method {what}"),
+        || MethodDescriptor::from_str(black_box(text)),
+        || slices::read_method(black_box(text.as_bytes()), &mut params),
+        || bracepuffin::read_method(black_box(text.as_bytes())),
+    );
 }
 
 fn write_type(what: &str, text: &str, names: &[String]) {
@@ -127,10 +141,12 @@ fn write_type(what: &str, text: &str, names: &[String]) {
     let names = Names::new(names).expect("a sound table");
     let mut out = [0; 512];
     assert_eq!(names.write_type(word).as_deref(), Ok(text));
-    let rust = best(|| black_box(&ty).to_descriptor());
-    let boundary = best(|| slices::write_type(names.columns(), black_box(word), &mut out));
-    let wrapper = best(|| names.write_type(black_box(word)));
-    row(&format!("write type {what}"), rust, boundary, wrapper);
+    take_turns(
+        &format!("write type {what}"),
+        || black_box(&ty).to_descriptor(),
+        || slices::write_type(names.columns(), black_box(word), &mut out),
+        || names.write_type(black_box(word)),
+    );
 }
 
 fn write_method(what: &str, text: &str, names: &[String]) {
@@ -141,25 +157,80 @@ fn write_method(what: &str, text: &str, names: &[String]) {
     let names = Names::new(names).expect("a sound table");
     let mut out = vec![0; 4096];
     assert_eq!(names.write_method(&params, result).as_deref(), Ok(text));
-    let rust = best(|| black_box(&method).to_string());
-    let boundary =
-        best(|| slices::write_method(names.columns(), black_box(&params), result, &mut out));
-    let wrapper = best(|| names.write_method(black_box(&params), result));
-    row(&format!("write method {what}"), rust, boundary, wrapper);
+    take_turns(
+        &format!("write method {what}"),
+        || black_box(&method).to_string(),
+        || slices::write_method(names.columns(), black_box(&params), result, &mut out),
+        || names.write_method(black_box(&params), result),
+    );
+}
+
+/// The wrapper where it needs no heap, beside the same of the Rust, which does.
+fn without_the_heap() {
+    let (text, mut params, mut offsets) = ("(ILjava/lang/Object;)Z", [0; 255], Offsets::new());
+    take_turns(
+        &format!("parse method `{text}`, no heap"),
+        || MethodDescriptor::from_str(black_box(text)),
+        || slices::read_method(black_box(text.as_bytes()), &mut params),
+        || {
+            let method = bracepuffin::read_method_into(black_box(text.as_bytes()), &mut offsets);
+            let types = method.expect("a method").parameters();
+            types.filter(|ty| black_box(ty).is_object()).count()
+        },
+    );
+    let (names, word) = (Names::new([""; 0]).expect("a sound table"), 5);
+    let (mut out, mut lent) = ([0; 512], [0; 512]);
+    take_turns(
+        "write type `I`, no names, no heap",
+        || black_box(&ArgType::INT).to_descriptor(),
+        || slices::write_type(names.columns(), black_box(word), &mut out),
+        || {
+            let written = names.write_type_into(black_box(word), &mut lent);
+            written.map(str::len)
+        },
+    );
+}
+
+/// A row of calls that are timed in turns: other work on the machine then slows all of them.
+fn take_turns<R, B, W>(
+    what: &str,
+    mut rust: impl FnMut() -> R,
+    mut boundary: impl FnMut() -> B,
+    mut wrapper: impl FnMut() -> W,
+) {
+    let calls = [
+        calls_for(TURN, &mut rust).0,
+        calls_for(TURN, &mut boundary).0,
+        calls_for(TURN, &mut wrapper).0,
+    ];
+    let mut shortest = [Duration::MAX; 3];
+    for _ in 0..TURNS {
+        shortest[0] = shortest[0].min(time(calls[0], &mut rust));
+        shortest[1] = shortest[1].min(time(calls[1], &mut boundary));
+        shortest[2] = shortest[2].min(time(calls[2], &mut wrapper));
+    }
+    let each = |which: usize| shortest[which].as_nanos() as f64 / calls[which] as f64;
+    row(what, each(0), each(1), each(2));
 }
 
 /// Nanoseconds a call, in the best of several rounds.
 fn best<T>(mut call: impl FnMut() -> T) -> f64 {
-    let mut calls = 1;
-    let mut took = time(calls, &mut call);
-    while took < ROUND {
-        calls *= 2;
-        took = time(calls, &mut call);
-    }
+    let (calls, took) = calls_for(ROUND, &mut call);
     let fit = ALL_ROUNDS.as_nanos() / took.as_nanos();
     let rounds = (0..(fit as usize).clamp(FEWEST, ROUNDS)).map(|_| time(calls, &mut call));
     let shortest = rounds.min().expect("some rounds");
     shortest.as_nanos() as f64 / calls as f64
+}
+
+/// How many calls take at least that long, and what they took.
+fn calls_for<T>(length: Duration, call: &mut impl FnMut() -> T) -> (u64, Duration) {
+    let mut calls = 1;
+    let mut took = time(calls, call);
+    while took < length {
+        calls *= 2;
+        took = time(calls, call);
+    }
+    (calls, took)
 }
 
 fn time<T>(calls: u64, call: &mut impl FnMut() -> T) -> Duration {
@@ -171,6 +242,14 @@ fn time<T>(calls: u64, call: &mut impl FnMut() -> T) -> Duration {
 }
 
 fn row(what: &str, rust: f64, boundary: f64, wrapper: f64) {
-    let (over_boundary, over_wrapper) = (rust / boundary, rust / wrapper);
-    println!("| {what} | {rust:.1} | {boundary:.1} | {over_boundary:.1} | {wrapper:.1} | {over_wrapper:.1} |");
+    let (over_boundary, over_wrapper) = (ratio(rust / boundary), ratio(rust / wrapper));
+    println!(
+        "| {what} | {rust:.1} | {boundary:.1} | {over_boundary} | {wrapper:.1} | {over_wrapper} |"
+    );
+}
+
+/// With a digit that says something.
+fn ratio(ratio: f64) -> String {
+    let digits = if ratio < 0.1 { 3 } else { 1 };
+    format!("{ratio:.digits$}")
 }

@@ -19,6 +19,7 @@
 mod classes;
 pub mod ffi;
 mod names;
+mod part;
 mod read;
 mod refusal;
 mod relations;

@@ -2,6 +2,8 @@
 
 use std::cmp::Ordering;
 
+use crate::ffi::BpWritten;
+use crate::part::{self, Used};
 use crate::slices::{self, Columns};
 use crate::types::{ArgType, Base};
 use crate::Refusal;
@@ -14,7 +16,14 @@ pub(crate) const PRIMITIVE: u64 = 0;
 pub(crate) const CLASS: u64 = 1;
 pub(crate) const UNKNOWN: u64 = 2;
 
+/// Methods of fewer parameters have their words in less memory, since it has to be cleared.
+const FEW: usize = 16;
+const MORE: usize = 64;
+
 /// Names that were checked, ascending. The number of a class is its place among them, from 0.
+///
+/// What a descriptor costs to write does not grow with the table: the boundary checks the names that it is lent, and
+/// it is lent those that the words use.
 #[derive(Debug, Clone, PartialEq, Eq)]
 pub struct Names {
     bytes: Vec<u8>,
@@ -101,40 +110,138 @@ impl Names {
     }
 
     /// The descriptor of a type word.
+    #[inline]
     pub fn write_type(&self, word: u64) -> Result<String, Refusal> {
-        Ok(self.write_type_into(word, &mut [0; TYPE_BYTES])?.to_owned())
+        let mut out = room(self.length(word));
+        let written = self.write_word(word, &mut out);
+        owned(written, out)
     }
 
     /// The descriptor of a method.
+    #[inline]
     pub fn write_method(&self, parameters: &[u64], result: u64) -> Result<String, Refusal> {
-        let types = parameters.len().min(crate::PARAMETERS) + 1;
-        let mut out = vec![0; types * TYPE_BYTES + 2];
-        Ok(self
-            .write_method_into(parameters, result, &mut out)?
-            .to_owned())
+        let mut out = room(self.method_length(parameters, result));
+        let written = self.write_words(parameters, result, &mut out);
+        owned(written, out)
     }
 
     /// The descriptor of a type word, written to the front of `out`; bytes past it stay.
+    #[inline]
     pub fn write_type_into<'o>(&self, word: u64, out: &'o mut [u8]) -> Result<&'o str, Refusal> {
-        let written = slices::write_type(self.columns(), word, out);
-        match written.refusal {
-            0 => Ok(text(&out[..written.length as usize])),
-            number => Err(Refusal::plain(number)),
-        }
+        let written = self.write_word(word, out);
+        borrowed(written, out)
     }
 
     /// The descriptor of a method, written to the front of `out`; bytes past it stay.
+    #[inline]
     pub fn write_method_into<'o>(
         &self,
         parameters: &[u64],
         result: u64,
         out: &'o mut [u8],
     ) -> Result<&'o str, Refusal> {
-        let written = slices::write_method(self.columns(), parameters, result, out);
-        match written.refusal {
-            0 => Ok(text(&out[..written.length as usize])),
-            number => Err(Refusal::plain(number)),
+        let written = self.write_words(parameters, result, out);
+        borrowed(written, out)
+    }
+
+    /// How long the descriptor of a word is, if it is written: what room to make, and nothing that is decided.
+    #[inline]
+    fn length(&self, word: u64) -> usize {
+        let base = match part::class_of(word, self.len()) {
+            Some(class) => self.len[class] as usize + 2,
+            None => 1,
+        };
+        (word >> 56) as usize + base
+    }
+
+    /// How long the descriptor of a method is, if it is written.
+    #[inline]
+    fn method_length(&self, parameters: &[u64], result: u64) -> usize {
+        let at_most = parameters.iter().take(crate::PARAMETERS);
+        let parameters: usize = at_most.map(|word| self.length(*word)).sum();
+        parameters + self.length(result) + 2
+    }
+
+    /// Writes a word, and lends no name but that of its class.
+    #[inline]
+    fn write_word(&self, word: u64, out: &mut [u8]) -> BpWritten {
+        match part::class_of(word, self.len()) {
+            None => slices::write_type(part::NOTHING, word, out),
+            Some(class) => {
+                let alone = Columns {
+                    names: &self.bytes,
+                    name_at: &self.at[class..=class],
+                    name_len: &self.len[class..=class],
+                };
+                slices::write_type(alone, part::renumbered(word, 0), out)
+            }
         }
+    }
+
+    /// Writes a method, and lends no names but those of its classes.
+    fn write_words(&self, parameters: &[u64], result: u64, out: &mut [u8]) -> BpWritten {
+        match parameters.len() {
+            0..FEW => self.write_part::<FEW>(parameters, result, out),
+            FEW..MORE => self.write_part::<MORE>(parameters, result, out),
+            MORE..=crate::PARAMETERS => self.write_part::<256>(parameters, result, out),
+            // The number of parameters alone is refused.
+            _ => slices::write_method(part::NOTHING, parameters, result, out),
+        }
+    }
+
+    /// The same for at most N words, the result among them.
+    fn write_part<const N: usize>(
+        &self,
+        parameters: &[u64],
+        result: u64,
+        out: &mut [u8],
+    ) -> BpWritten {
+        let mut used = Used::by(parameters, result, self.len());
+        if !used.is_any() {
+            return slices::write_method(part::NOTHING, parameters, result, out);
+        }
+        let (mut at, mut len, mut words) = ([0; N], [0; N], [0; N]);
+        let count = used.number(|class, place| {
+            at[place] = self.at[class];
+            len[place] = self.len[class];
+        });
+        for (over_part, word) in words.iter_mut().zip(parameters) {
+            *over_part = used.over_part(*word);
+        }
+        let part = Columns {
+            names: &self.bytes,
+            name_at: &at[..count],
+            name_len: &len[..count],
+        };
+        let parameters = &words[..parameters.len()];
+        slices::write_method(part, parameters, used.over_part(result), out)
+    }
+}
+
+/// Bytes to be written over. Any byte serves but 0: memory that is all 0 is asked for in another way, which is slower.
+#[inline]
+fn room(length: usize) -> Vec<u8> {
+    vec![b' '; length]
+}
+
+#[inline]
+fn borrowed(written: BpWritten, out: &[u8]) -> Result<&str, Refusal> {
+    match written.refusal {
+        0 => Ok(text(&out[..written.length as usize])),
+        number => Err(Refusal::plain(number)),
+    }
+}
+
+#[inline]
+fn owned(written: BpWritten, mut out: Vec<u8>) -> Result<String, Refusal> {
+    match written.refusal {
+        0 => {
+            out.truncate(written.length as usize);
+            debug_assert!(std::str::from_utf8(&out).is_ok());
+            // SAFETY: as in `text`.
+            Ok(unsafe { String::from_utf8_unchecked(out) })
+        }
+        number => Err(Refusal::plain(number)),
     }
 }
 

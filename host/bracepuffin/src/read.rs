@@ -3,6 +3,7 @@
 use std::fmt;
 use std::iter::FusedIterator;
 use std::mem::MaybeUninit;
+use std::slice::Windows;
 
 use crate::ffi::{self, BpMethod, BpType};
 use crate::types::{ArgType, Base, PrimitiveType};
@@ -61,12 +62,13 @@ pub fn read_method_strict_into<'a, 'o>(
     method_of(descriptor, offsets, read)
 }
 
-/// Room for the offsets of a method's parameters. It costs nothing to make and may be lent again.
-pub struct Offsets([MaybeUninit<u64>; PARAMETERS]);
+/// Room for the offsets of a method's parameters and of the ')' after them. It costs nothing to make and may be lent
+/// again.
+pub struct Offsets([MaybeUninit<u64>; PARAMETERS + 1]);
 
 impl Offsets {
     pub const fn new() -> Self {
-        Self([MaybeUninit::uninit(); PARAMETERS])
+        Self([MaybeUninit::uninit(); PARAMETERS + 1])
     }
 }
 
@@ -93,24 +95,22 @@ pub struct MethodDescriptor<'a> {
 #[derive(Debug, Clone, Copy)]
 pub struct Method<'a, 'o> {
     descriptor: &'a [u8],
+    /// Where each parameter begins, and then the ')': a parameter ends where the next offset is.
     offsets: &'o [u64],
-    close: usize,
     pub return_type: ArgType<'a>,
 }
 
 impl<'a, 'o> Method<'a, 'o> {
     /// The number of parameters.
     pub fn count(&self) -> usize {
-        self.offsets.len()
+        self.offsets.len() - 1
     }
 
-    /// The descriptor of a parameter: it ends where the next one begins, the last one at the ')'.
+    /// The descriptor of a parameter.
     #[inline]
     pub fn parameter_text(&self, number: usize) -> Option<&'a [u8]> {
-        let start = *self.offsets.get(number)? as usize;
-        let next = self.offsets.get(number + 1);
-        let end = next.map_or(self.close, |next| *next as usize);
-        Some(&self.descriptor[start..end])
+        let ends = self.offsets.get(number..)?.get(..2)?;
+        Some(between(self.descriptor, ends))
     }
 
     /// The type of a parameter. It was accepted with the whole, so its text alone says it and nothing is checked again.
@@ -119,26 +119,48 @@ impl<'a, 'o> Method<'a, 'o> {
         self.parameter_text(number).map(accepted_type)
     }
 
+    #[inline]
     pub fn parameters(&self) -> Parameters<'a, 'o> {
         Parameters {
-            method: *self,
-            next: 0,
+            descriptor: self.descriptor,
+            ends: self.offsets.windows(2),
         }
     }
 
-    fn collect(&self) -> MethodDescriptor<'a> {
+    /// The same with the types in a `Vec`. It is always inlined: handed over in memory, a method is loaded in other
+    /// pieces than it was just stored in, which x86-64 is slow at.
+    #[inline(always)]
+    fn collect(self) -> MethodDescriptor<'a> {
         MethodDescriptor {
-            parameters: self.parameters().collect(),
+            parameters: match self.count() {
+                0 => Vec::new(),
+                _ => types(self.descriptor, self.offsets),
+            },
             return_type: self.return_type,
         }
     }
 }
 
+/// The types between these offsets.
+fn types<'a>(descriptor: &'a [u8], offsets: &[u64]) -> Vec<ArgType<'a>> {
+    let mut types = Vec::with_capacity(offsets.len() - 1);
+    for ends in offsets.windows(2) {
+        types.push(accepted_type(between(descriptor, ends)));
+    }
+    types
+}
+
+/// The bytes of a descriptor from one offset to the next.
+#[inline]
+fn between<'a>(descriptor: &'a [u8], ends: &[u64]) -> &'a [u8] {
+    &descriptor[ends[0] as usize..ends[1] as usize]
+}
+
 /// The types of a method's parameters, each made when it is asked for.
 #[derive(Debug, Clone)]
 pub struct Parameters<'a, 'o> {
-    method: Method<'a, 'o>,
-    next: usize,
+    descriptor: &'a [u8],
+    ends: Windows<'o, u64>,
 }
 
 impl<'a> Iterator for Parameters<'a, '_> {
@@ -146,14 +168,13 @@ impl<'a> Iterator for Parameters<'a, '_> {
 
     #[inline]
     fn next(&mut self) -> Option<ArgType<'a>> {
-        let parameter = self.method.parameter(self.next)?;
-        self.next += 1;
-        Some(parameter)
+        let ends = self.ends.next()?;
+        Some(accepted_type(between(self.descriptor, ends)))
     }
 
+    #[inline]
     fn size_hint(&self) -> (usize, Option<usize>) {
-        let left = self.method.count() - self.next;
-        (left, Some(left))
+        self.ends.size_hint()
     }
 }
 
@@ -173,17 +194,17 @@ fn type_of(descriptor: &[u8], read: BpType) -> Result<ArgType<'_>, Refusal> {
 #[inline]
 fn method_of<'a, 'o>(
     descriptor: &'a [u8],
-    offsets: &'o Offsets,
+    offsets: &'o mut Offsets,
     read: BpMethod,
 ) -> Result<Method<'a, 'o>, Refusal> {
     accepted(read.refusal, read.offset, read.byte)?;
     let (at, len) = (read.name_at as usize, read.name_len as usize);
-    let written = &offsets.0[..read.count as usize];
+    let written = &mut offsets.0[..=read.count as usize];
+    written[read.count as usize].write(read.return_at - 1);
     Ok(Method {
         descriptor,
-        // SAFETY: an accepted call has written as many entries as it counts.
+        // SAFETY: an accepted call has written as many entries as it counts, and the one after them is written here.
         offsets: unsafe { std::slice::from_raw_parts(written.as_ptr().cast(), written.len()) },
-        close: read.return_at as usize - 1,
         return_type: ArgType {
             dimensions: read.dims as u8,
             base: base(read.tag, read.category, &descriptor[at..at + len]),
@@ -211,6 +232,17 @@ fn base(tag: u64, category: u64, name: &[u8]) -> Base<'_> {
     object(name)
 }
 
+/// The primitives by the low five bits of their letters; what is no letter of a parameter has no meaning.
+const LETTERS: [PrimitiveType; 32] = {
+    let mut table = [PrimitiveType::Void; 32];
+    let (letters, mut category) = (b"VZBSCIJFD", 0);
+    while category < letters.len() {
+        table[letters[category] as usize % 32] = PrimitiveType::ALL[category];
+        category += 1;
+    }
+    table
+};
+
 /// The type of a parameter that was accepted: brackets, then a letter alone or a name between 'L' and ';'.
 #[inline]
 fn accepted_type(text: &[u8]) -> ArgType<'_> {
@@ -218,16 +250,11 @@ fn accepted_type(text: &[u8]) -> ArgType<'_> {
     ArgType {
         dimensions: brackets as u8,
         base: match text[brackets] {
-            b'Z' => Base::Primitive(PrimitiveType::Boolean),
-            b'B' => Base::Primitive(PrimitiveType::Byte),
-            b'S' => Base::Primitive(PrimitiveType::Short),
-            b'C' => Base::Primitive(PrimitiveType::Char),
-            b'I' => Base::Primitive(PrimitiveType::Int),
-            b'J' => Base::Primitive(PrimitiveType::Long),
-            b'F' => Base::Primitive(PrimitiveType::Float),
-            b'D' => Base::Primitive(PrimitiveType::Double),
             b'L' => object(&text[brackets + 1..text.len() - 1]),
-            letter => unreachable!("{letter} begins no parameter that was accepted"),
+            letter => {
+                debug_assert!(b"ZBSCIJFD".contains(&letter));
+                Base::Primitive(LETTERS[usize::from(letter % 32)])
+            }
         },
     }
 }

@@ -4,6 +4,7 @@
 
 mod lent;
 mod limits;
+mod part;
 mod reading;
 mod strict;
 mod tables;

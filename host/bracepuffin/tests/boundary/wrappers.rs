@@ -74,6 +74,46 @@ fn methods() {
 }
 
 #[test]
+fn every_letter_is_its_category_in_a_parameter() {
+    let method = read_method(b"(ZBSCIJFD[[ZLV;[LI;)V").expect("a method");
+    let (letters, others) = method.parameters.split_at(8);
+    let categories = PrimitiveType::ALL[1..9].iter().copied();
+    assert!(categories
+        .map(ArgType::primitive)
+        .eq(letters.iter().copied()));
+    let [booleans, class, array] = others else {
+        panic!("three more");
+    };
+    assert_eq!(
+        (booleans.dimensions, booleans.base),
+        (2, ArgType::BOOLEAN.base)
+    );
+    assert_eq!((class.dimensions, class.base), (0, Base::Object("V")));
+    assert_eq!((array.dimensions, array.base), (1, Base::Object("I")));
+}
+
+#[test]
+fn methods_of_as_many_parameters_as_there_may_be() {
+    let deep = ["[".repeat(255), "La;".to_string()].concat();
+    let text = format!("({}{deep})Lb;", "J".repeat(254));
+    let mut offsets = Offsets::new();
+    let method = read_method_into(text.as_bytes(), &mut offsets).expect("a method");
+    assert_eq!(method.count(), 255);
+    assert_eq!(method.parameter_text(254), Some(deep.as_bytes()));
+    assert_eq!(method.parameter_text(255), None);
+    assert_eq!(method.parameter_text(256), None);
+    assert_eq!(method.parameter_text(usize::MAX), None);
+    let collected = read_method(text.as_bytes()).expect("a method");
+    assert!(method.parameters().eq(collected.parameters.iter().copied()));
+    assert_eq!(collected.parameters.len(), 255);
+    assert_eq!(collected.parameters[253], ArgType::LONG);
+    let last = collected.parameters[254];
+    assert_eq!((last.dimensions, last.base), (255, Base::Object("a")));
+    assert_eq!(collected.return_type, ArgType::object("b"));
+    assert_eq!(read_method_strict(text.as_bytes()), Ok(collected));
+}
+
+#[test]
 fn methods_without_the_heap() {
     let mut offsets = Offsets::new();
     let method = read_method_into(b"(I[La/b;J)V", &mut offsets).expect("a method");
