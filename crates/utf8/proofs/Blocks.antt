@@ -1,5 +1,5 @@
 -- A part of a list whose bytes have no fault is smooth, and so well-formed, as the code meets it. Assumes nothing.
-use mathlib.Core.Path.{_≡_, subst, sym}
+use mathlib.Core.Path.{_≡_, subst}
 use mathlib.Core.List.{List, [], append-nil}
 use Prim.Native.Nat.{ℕ, zero, suc, _+_, _-_, _≤_, _<_}
 use native.Mathlib.Omega.{arith}
@@ -7,7 +7,7 @@ use lib.ListN.{length, getD, drop-of-length-le, take}
 use lib.Seq.{slice, length-slice, length-take-le}
 use Rattle.utf8.specs.Utf8.{validPrefix, WellFormed}
 use Rattle.utf8.specs.Laws.{prefix-append, prefix-le}
-use Rattle.utf8.specs.Seams.{seam, Clean, CleanEnds, Smooth, smooth-whole}
+use Rattle.utf8.specs.Seams.{Clean, CleanEnds, Smooth, smooth-whole}
 use Rattle.utf8.proofs.Part.{part-cons}
 
 module _ (s : List ℕ) (to : ℕ) (fits : to ≤ length s) (low : getD s (to - 2) 0 < 0xE0) (last : getD s (to - 1) 0 < 0xC0) where

@@ -53,7 +53,7 @@ abbrev pub CleanEnds : List ℕ → ℕ → ℕ → Type 0
 CleanEnds s from to =
     (fault 0 0 (getD s from 0) ≡ 0) × (fault 0 (getD s from 0) (getD s (from + 1) 0) ≡ 0) × (getD s (to - 2) 0 < 0xE0) × (getD s (to - 1) 0 < 0xC0)
 
--- the same of a list after a and b
+-- the same of a list that stands after a and b
 unfoldable pub Smooth : ℕ → ℕ → List ℕ → Type 0
 Smooth a b [] = (a < 0xE0) × (b < 0xC0)
 Smooth a b (c ∷ cs) = (fault a b c ≡ 0) × Smooth b c cs

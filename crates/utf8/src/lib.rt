@@ -99,7 +99,8 @@ fn is_ascii(s: &[u8], from: usize, to: usize) -> bool
     plain
 }
 
-// 1 where c continues a sequence, 0 where not. This and the tests after it are numbers, added up: so the machine makes them of many bytes at once.
+// 1 where c continues a sequence, 0 where not. The tests from here on are numbers that are added up, so that the machine makes them of
+// sixteen bytes at once. They know sequences of at most three bytes; of a text with longer ones `by_sequences` tells.
 fn continuing(c: u8) -> u8
     ensures { λ r. ⌜ r ≡ continues c ⌝ }
 {
@@ -160,7 +161,7 @@ fn bad_byte(c: u8) -> u8
     }
 }
 
-// How many faults there are in c after a and b, in text of sequences of at most three bytes.
+// How many faults c has after a and b.
 fn faults_of(a: u8, b: u8, c: u8) -> u8
     ensures { λ r. ⌜ r ≡ fault a b c ⌝ }
 {

@@ -47,7 +47,7 @@ returns : tie.Need-returns
 returns c h =
     let b = c .before .before .before .before in
     let z = c .before .before .before .if1 .taken in
-    (omega (arith, b .before .before .faults-of .ensures, z), omega (arith, b .faults-of2 .ensures, z), c .before .if2 .taken, ltb-true _ _ h)
+    (omega (arith, b .before .before .faults-of .ensures, z), omega (arith, b .faults-of2 .ensures, z), omega arith, ltb-true _ _ h)
 
 returns-2 : tie.Need-returns-2
 returns-2 c h = absurd (false≢true (sym (le-ltb _ _ (c .if2 .left)) ∙ h))

@@ -1,8 +1,8 @@
 -- `faults_of` meets its contract: the sum of the three tests, each at most 1. Assumes nothing.
 use borrow.Author.Needs.{needs}
-use mathlib.Core.Path.{_≡_, ap₂, _∙_}
+use mathlib.Core.Path.{ap₂, _∙_}
 use native.Mathlib.Omega.{arith}
-use Rattle.utf8.specs.Seams.{continues, due, unlike, fault, unlike-le, misfit-le, stray-le}
+use Rattle.utf8.specs.Seams.{unlike, fault, unlike-le, misfit-le, stray-le}
 use Rattle.utf8.proofs.faults_of.Statement.{statement}
 use Rattle.utf8.proofs.faults_of.Tie as tie
 
