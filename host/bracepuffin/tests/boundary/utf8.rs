@@ -60,6 +60,20 @@ fn every_string_of_edges() {
     each_string(&EDGES, 4, &mut compare);
 }
 
+/// Long names are tested in blocks of sixteen bytes: the edges stand at both ends, and on each side of where blocks meet.
+#[test]
+fn edges_in_long_names() {
+    let text = "a\u{df}\u{20ac}".repeat(3);
+    let plain = "a".repeat(18);
+    each_string(&EDGES, 3, &mut |edges| {
+        for many in [0, 1, 2, 13, 14, 15, 16, 17, 18] {
+            let some = &plain.as_bytes()[..many];
+            compare(&[some, edges, text.as_bytes()].concat());
+            compare(&[text.as_bytes(), some, edges].concat());
+        }
+    });
+}
+
 #[test]
 fn every_scalar_value_in_one_name() {
     let name: String = ('\0'..=char::MAX).filter(|c| *c != ';').collect();
