@@ -1,2 +1,4 @@
 -- What the scope paper demands of the whole.
 pub mod Examples
+pub mod Refusals
+pub mod Descriptors

@@ -1,0 +1,147 @@
+-- Descriptors against JVMS 4.3, in what a caller sees: the fields of the answers, and the slice of offsets. Assumes nothing.
+use mathlib.Core.Path.{_≡_, refl, sym, ap, ap₂, subst, _∙_}
+use mathlib.Core.Bool.{Bool, true, false}
+use mathlib.Core.List.{List, [], _∷_, _++_}
+use mathlib.Core.Logic.{_↔_}
+use mathlib.Core.Option.{some}
+use Prim.Native.Nat.{ℕ, suc, _+_, _≤_, _<_}
+use native.Mathlib.Omega.{arith}
+use lib.Dec.{ltb}
+use lib.ListN.{length, drop}
+use borrow.Author.Tests.{le-ltb, lt-ltb}
+use Rattle.descriptor.specs.declared.Base.{Base}
+use Rattle.descriptor.specs.declared.Base.the-variants.{Simple, Class}
+use Rattle.descriptor.specs.declared.Read.{Read}
+use Rattle.descriptor.specs.declared.Read.the-variants.{Found, Refused}
+use Rattle.descriptor.specs.Read.{readWhole, readStrict}
+use Rattle.descriptor.specs.Method.{Method, Whole, Broken, pickM, readMethod, strictMethod, readMethodStrict}
+use Rattle.descriptor.specs.Answers.{foundMethod, refusedMethod, methodAnswer, paramsAfter, methodOf}
+use Rattle.jvms.specs.Jvms.{JavaType, dimensions, AnyName, ClassName, ReturnDescriptor, Parameter, Signature, MethodDescriptor}
+use Rattle.jvms.specs.Meaning.{typeAt, typeRead, Limits, placed, starts, ends, answer}
+use Rattle.jvms.specs.Derive.{method-strict}
+use Rattle.jvms.specs.Signatures.{method-sound, method-left}
+use Rattle.jvms.specs.JvmsTheorem.{ordinary-type, strict-type, ordinary-type-place, strict-type-place, ordinary-method-place, strict-method-place}
+use Rattle.bracepuffin.specs.declared.BpType.{BpType}
+use Rattle.bracepuffin.specs.declared.BpMethod.{BpMethod}
+use Rattle.bracepuffin.specs.Boundary.{typeFound, typeAnswer, bpMethodOf, bpMethod, methodResult}
+use Rattle.demands.specs.Refusals.{TypeCode, MethodCode, ordinary-type-code, strict-type-code, ordinary-method-code, strict-method-code}
+
+-- ---- 4.3.2, with the ReturnDescriptor of 4.3.3: a type or void
+
+-- the answer r to the bytes s is accepted exactly if the grammar derives a type from them, in at most 255 dimensions; and then it is that type
+pub record ReadsType (Name : List ℕ → Type 0) (s : List ℕ) (r : BpType) : Type 0 where
+  pub accepted : (r .refusal ≡ 0) ↔ ((t : JavaType) × ReturnDescriptor Name s t × (dimensions t ≤ 255))
+  pub fields : (t : JavaType) → ReturnDescriptor Name s t → dimensions t ≤ 255 → r ≡ typeFound (dimensions t) (placed 0 t)
+
+type-accepted : (d : ℕ) (b : Base) → typeFound d b .refusal ≡ 0
+type-accepted d (Simple k) = refl
+type-accepted d (Class at n) = refl
+
+module _ (Name : List ℕ → Type 0) (s : List ℕ) (x : Read) (code : TypeCode x)
+    (exact : (t : JavaType) → (typeRead s x ≡ some t) ↔ (ReturnDescriptor Name s t × (dimensions t ≤ 255)))
+    (place : (t : JavaType) → ReturnDescriptor Name s t → dimensions t ≤ 255 → x ≡ Found (dimensions t) (placed 0 t) (length s)) where
+  reads-type : ReadsType Name s (typeAnswer x)
+  unfolding typeRead
+  reads-type = record {
+    accepted = (λ e. found x refl code e, λ h. ap (λ (r : Read). typeAnswer r .refusal) (place (h .0) (h .1) (h .2)) ∙ type-accepted (dimensions (h .0)) (placed 0 (h .0)));
+    fields = λ t r h. ap typeAnswer (place t r h);
+  }
+    where
+      found : (r : Read) → x ≡ r → TypeCode r → typeAnswer r .refusal ≡ 0 → (t : JavaType) × ReturnDescriptor Name s t × (dimensions t ≤ 255)
+      found (Found d b next) e c z = let q = exact (typeAt s d b) .0 (ap (typeRead s) e) in (typeAt s d b, q .0, q .1)
+      found (Refused k o byte) e c z = absurd (omega arith)
+
+-- ORDINARY READING OF A TYPE ACCEPTS WHAT THE GRAMMAR DERIVES WITH ANY NAMES, AND NOTHING ELSE
+pub ordinary-type-accepted : (s : List ℕ) → ReadsType AnyName s (typeAnswer (readWhole s))
+ordinary-type-accepted s = reads-type AnyName s (readWhole s) (ordinary-type-code s) (ordinary-type s) (λ t r h. ordinary-type-place r h)
+
+-- STRICT READING OF A TYPE ACCEPTS WHAT THE JVMS DERIVES, AND NOTHING ELSE
+pub strict-type-accepted : (s : List ℕ) → ReadsType ClassName s (typeAnswer (readStrict s))
+strict-type-accepted s = reads-type ClassName s (readStrict s) (strict-type-code s) (strict-type s) (λ t r h. strict-type-place r h)
+
+-- ---- 4.3.3: a method
+
+-- the fields for a signature: how many parameters, where the return type begins, and that type
+abbrev pub methodFound : Signature → BpMethod
+methodFound m =
+    let at = ends 1 (m .parameters) + 1 in
+    bpMethod (foundMethod (length (m .parameters)) at (dimensions (m .result)) (placed at (m .result)))
+
+-- the same of a method, within the limits; then `params` ends as params′, the offsets of the parameters and what stood after them
+pub record ReadsMethod (Name : List ℕ → Type 0) (s params params′ : List ℕ) (r : BpMethod) : Type 0 where
+  pub accepted : (r .refusal ≡ 0) ↔ ((m : Signature) × MethodDescriptor Name s m × Limits m)
+  pub fields : (m : Signature) → MethodDescriptor Name s m → Limits m → r ≡ methodFound m
+  pub offsets : (m : Signature) → MethodDescriptor Name s m → Limits m → params′ ≡ starts 1 (m .parameters) ++ drop (length (m .parameters)) params
+
+starts-length : (at : ℕ) (ps : List Parameter) → length (starts at ps) ≡ length ps
+unfolding starts
+starts-length at [] = refl
+starts-length at (p ∷ ps) = ap suc (starts-length (at + length (p .bytes)) ps)
+
+method-accepted : (m : Signature) → methodFound m .refusal ≡ 0
+method-accepted m = go (placed (ends 1 (m .parameters) + 1) (m .result))
+  where
+    go : (b : Base) → bpMethodOf (foundMethod (length (m .parameters)) (ends 1 (m .parameters) + 1) (dimensions (m .result)) b) b .refusal ≡ 0
+    go (Simple k) = refl
+    go (Class at n) = refl
+
+answer-fields : (s : List ℕ) (m : Signature) → methodResult (answer s m) ≡ methodFound m
+unfolding answer methodAnswer
+answer-fields s m =
+    ap (λ (n : ℕ). bpMethod (foundMethod n (ends 1 (m .parameters) + 1) (dimensions (m .result)) (placed (ends 1 (m .parameters) + 1) (m .result)))) (starts-length 1 (m .parameters))
+
+answer-offsets : (s params : List ℕ) (m : Signature) → paramsAfter params (answer s m) ≡ starts 1 (m .parameters) ++ drop (length (m .parameters)) params
+unfolding answer paramsAfter
+answer-offsets s params m = ap (λ (n : ℕ). starts 1 (m .parameters) ++ drop n params) (starts-length 1 (m .parameters))
+
+broken-refused : (k o byte : ℕ) → methodResult (Broken k o byte) .refusal ≡ k
+unfolding methodAnswer
+broken-refused k o byte = refl
+
+module _ (Name : List ℕ → Type 0) (s params : List ℕ) (x : Method) (code : MethodCode x)
+    (sound : (offsets : List ℕ) (at : ℕ) (r : Read) → x ≡ Whole offsets at r → (m : Signature) × MethodDescriptor Name s m × Limits m)
+    (place : (m : Signature) → MethodDescriptor Name s m → Limits m → x ≡ answer s m) where
+  reads-method : ReadsMethod Name s params (paramsAfter params x) (methodResult x)
+  reads-method = record {
+    accepted = (λ e. found x refl code e, λ h. ap (λ (y : Method). methodResult y .refusal) (place (h .0) (h .1) (h .2)) ∙ ap (λ (r : BpMethod). r .refusal) (answer-fields s (h .0)) ∙ method-accepted (h .0));
+    fields = λ m d l. ap methodResult (place m d l) ∙ answer-fields s m;
+    offsets = λ m d l. ap (paramsAfter params) (place m d l) ∙ answer-offsets s params m;
+  }
+    where
+      found : (y : Method) → x ≡ y → MethodCode y → methodResult y .refusal ≡ 0 → (m : Signature) × MethodDescriptor Name s m × Limits m
+      found (Whole offsets at r) e c z = sound offsets at r e
+      found (Broken k o byte) e c z = absurd (let q = broken-refused k o byte in let f : ⊥ = omega arith in f)
+
+ordinary-sound : (s : List ℕ) (offsets : List ℕ) (at : ℕ) (r : Read) → readMethod s ≡ Whole offsets at r → (m : Signature) × MethodDescriptor AnyName s m × Limits m
+ordinary-sound s offsets at r e = let d = method-sound s offsets at r e in (d .signature, d .derived, d .limits)
+
+strict-sound : (s : List ℕ) (offsets : List ℕ) (at : ℕ) (r : Read) → readMethodStrict s ≡ Whole offsets at r → (m : Signature) × MethodDescriptor ClassName s m × Limits m
+unfolding readMethodStrict strictMethod
+strict-sound s offsets at r e = go (readMethod s) refl
+  where
+    go : (y : Method) → readMethod s ≡ y → (m : Signature) × MethodDescriptor ClassName s m × Limits m
+    go (Whole os o q) f =
+        let d = method-sound s os o q f in
+        let left = method-left (d .derived) (d .limits) offsets at r (rw (ordinary-method-place (d .derived) (d .limits)) at e) in
+        (d .signature, method-strict .1 (d .derived, left .0, left .1), d .limits)
+    go (Broken k o byte) f = absurd (let b : Broken k o byte ≡ Whole offsets at r = rw f at e in let z : _≡_ {A = ℕ} 0 1 = cc in omega arith)
+
+-- ORDINARY READING OF A METHOD ACCEPTS WHAT THE GRAMMAR DERIVES WITH ANY NAMES, AND NOTHING ELSE, GIVEN ROOM FOR 255 OFFSETS
+pub ordinary-method-accepted : (s params : List ℕ) → 255 ≤ length params
+    → ReadsMethod AnyName s params (paramsAfter params (methodOf false s (length params))) (methodResult (methodOf false s (length params)))
+unfolding methodOf
+ordinary-method-accepted s params room =
+    rw (le-ltb (length params) 255 room) (reads-method AnyName s params (readMethod s) (ordinary-method-code s) (ordinary-sound s) (λ m d l. ordinary-method-place d l))
+
+-- STRICT READING OF A METHOD ACCEPTS WHAT THE JVMS DERIVES, AND NOTHING ELSE, GIVEN ROOM FOR 255 OFFSETS
+pub strict-method-accepted : (s params : List ℕ) → 255 ≤ length params
+    → ReadsMethod ClassName s params (paramsAfter params (methodOf true s (length params))) (methodResult (methodOf true s (length params)))
+unfolding methodOf
+strict-method-accepted s params room =
+    rw (le-ltb (length params) 255 room) (reads-method ClassName s params (readMethodStrict s) (strict-method-code s) (strict-sound s) (λ m d l. strict-method-place d l))
+
+-- WITH LESS ROOM BOTH REFUSE 22, AND NOTHING IS WRITTEN
+pub method-short : (strict : Bool) (s params : List ℕ) → length params < 255
+    → (methodResult (methodOf strict s (length params)) ≡ bpMethod (refusedMethod 22 0 0)) × (paramsAfter params (methodOf strict s (length params)) ≡ params)
+unfolding methodOf methodAnswer paramsAfter
+method-short strict s params h = rw (lt-ltb (length params) 255 h) (refl, refl)
