@@ -2,3 +2,4 @@
 pub mod Examples
 pub mod Refusals
 pub mod Descriptors
+pub mod Contracts
