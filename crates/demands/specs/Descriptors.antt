@@ -4,16 +4,17 @@ use mathlib.Core.Bool.{Bool, true, false}
 use mathlib.Core.List.{List, [], _∷_, _++_}
 use mathlib.Core.Logic.{_↔_}
 use mathlib.Core.Option.{some}
-use Prim.Native.Nat.{ℕ, suc, _+_, _≤_, _<_}
+use Prim.Native.Nat.{ℕ, zero, suc, _+_, _≤_, _<_}
 use native.Mathlib.Omega.{arith}
-use lib.Dec.{ltb}
-use lib.ListN.{length, drop}
-use borrow.Author.Tests.{le-ltb, lt-ltb}
+use lib.Dec.{eqb, ltb}
+use lib.ListN.{length, take, drop}
+use lib.Seq.{take-append-seam}
+use borrow.Author.Tests.{le-ltb, lt-ltb, ne-eqb}
 use Rattle.descriptor.specs.declared.Base.{Base}
 use Rattle.descriptor.specs.declared.Base.the-variants.{Simple, Class}
 use Rattle.descriptor.specs.declared.Read.{Read}
 use Rattle.descriptor.specs.declared.Read.the-variants.{Found, Refused}
-use Rattle.descriptor.specs.Read.{readWhole, readStrict}
+use Rattle.descriptor.specs.Read.{pickR, readWhole, readStrict}
 use Rattle.descriptor.specs.Method.{Method, Whole, Broken, pickM, readMethod, strictMethod, readMethodStrict}
 use Rattle.descriptor.specs.Answers.{foundMethod, refusedMethod, methodAnswer, paramsAfter, methodOf}
 use Rattle.jvms.specs.Jvms.{JavaType, dimensions, AnyName, ClassName, ReturnDescriptor, Parameter, Signature, MethodDescriptor}
@@ -145,3 +146,79 @@ pub method-short : (strict : Bool) (s params : List ℕ) → length params < 255
     → (methodResult (methodOf strict s (length params)) ≡ bpMethod (refusedMethod 22 0 0)) × (paramsAfter params (methodOf strict s (length params)) ≡ params)
 unfolding methodOf methodAnswer paramsAfter
 method-short strict s params h = rw (lt-ltb (length params) 255 h) (refl, refl)
+
+-- ---- nothing of what was read is lost in the fields
+
+-- by the tag
+abbrev pub baseBack : ℕ → ℕ → ℕ → ℕ → Base
+baseBack zero category at len = Simple category
+baseBack (suc tag) category at len = Class at len
+
+-- what was read of so many bytes, from the fields
+abbrev pub typeBack : ℕ → BpType → Read
+typeBack size r =
+    pickR (eqb (r .refusal) 0) (Found (r .dims) (baseBack (r .tag) (r .category) (r .«name_at») (r .«name_len»)) size) (Refused (r .refusal) (r .offset) (r .byte))
+
+abbrev pub methodBack : ℕ → List ℕ → BpMethod → Method
+methodBack size params r =
+    pickM (eqb (r .refusal) 0)
+    (Whole (take (r .count) params) (r .«return_at») (Found (r .dims) (baseBack (r .tag) (r .category) (r .«name_at») (r .«name_len»)) size))
+    (Broken (r .refusal) (r .offset) (r .byte))
+
+abbrev TypeTold : List ℕ → Read → Type 0
+TypeTold s x = typeBack (length s) (typeAnswer x) ≡ x
+
+found-told : (s : List ℕ) (d : ℕ) (b : Base) → TypeTold s (Found d b (length s))
+found-told s d (Simple k) = refl
+found-told s d (Class at n) = refl
+
+type-told : (Name : List ℕ → Type 0) (s : List ℕ) (x : Read) → TypeCode x → ReadsType Name s (typeAnswer x)
+    → ((t : JavaType) → ReturnDescriptor Name s t → dimensions t ≤ 255 → x ≡ Found (dimensions t) (placed 0 t) (length s)) → TypeTold s x
+type-told Name s (Found d b next) c reads place =
+    let h = reads .accepted .0 (type-accepted d b) in
+    subst (TypeTold s) (sym (place (h .0) (h .1) (h .2))) (found-told s (dimensions (h .0)) (placed 0 (h .0)))
+type-told Name s (Refused k o byte) c reads place = rw (ne-eqb k 0 (λ e. omega arith))
+
+-- THE FIELDS OF A TYPE TELL ALL THAT WAS READ
+pub ordinary-type-told : (s : List ℕ) → typeBack (length s) (typeAnswer (readWhole s)) ≡ readWhole s
+ordinary-type-told s = type-told AnyName s (readWhole s) (ordinary-type-code s) (ordinary-type-accepted s) (λ t r h. ordinary-type-place r h)
+
+pub strict-type-told : (s : List ℕ) → typeBack (length s) (typeAnswer (readStrict s)) ≡ readStrict s
+strict-type-told s = type-told ClassName s (readStrict s) (strict-type-code s) (strict-type-accepted s) (λ t r h. strict-type-place r h)
+
+abbrev MethodTold : List ℕ → List ℕ → Method → Type 0
+MethodTold s params x = methodBack (length s) (paramsAfter params x) (methodResult x) ≡ x
+
+whole-told : (s params offsets : List ℕ) (at d : ℕ) (b : Base) → MethodTold s params (Whole offsets at (Found d b (length s)))
+unfolding methodAnswer paramsAfter
+whole-told s params offsets at d (Simple k) = rw (take-append-seam offsets (drop (length offsets) params))
+whole-told s params offsets at d (Class p n) = rw (take-append-seam offsets (drop (length offsets) params))
+
+answer-told : (s params : List ℕ) (m : Signature) → MethodTold s params (answer s m)
+unfolding answer
+answer-told s params m =
+    let at = ends 1 (m .parameters) + 1 in
+    whole-told s params (starts 1 (m .parameters)) at (dimensions (m .result)) (placed at (m .result))
+
+broken-told : (s params : List ℕ) (k o byte : ℕ) → 11 ≤ k → MethodTold s params (Broken k o byte)
+unfolding methodAnswer
+broken-told s params k o byte h = rw (ne-eqb k 0 (λ e. omega arith))
+
+told : (Name : List ℕ → Type 0) (s params : List ℕ) (x : Method) → MethodCode x
+    → ((offsets : List ℕ) (at : ℕ) (r : Read) → x ≡ Whole offsets at r → (m : Signature) × MethodDescriptor Name s m × Limits m)
+    → ((m : Signature) → MethodDescriptor Name s m → Limits m → x ≡ answer s m) → MethodTold s params x
+told Name s params (Whole offsets at r) c sound place =
+    let h = sound offsets at r refl in
+    subst (MethodTold s params) (sym (place (h .0) (h .1) (h .2))) (answer-told s params (h .0))
+told Name s params (Broken k o byte) c sound place = broken-told s params k o byte c
+
+-- AND SO DO THOSE OF A METHOD, WITH THE OFFSETS
+pub method-told : (strict : Bool) (s params : List ℕ)
+    → methodBack (length s) (paramsAfter params (methodOf strict s (length params))) (methodResult (methodOf strict s (length params))) ≡ methodOf strict s (length params)
+unfolding methodOf
+method-told strict s params = room (ltb (length params) 255) strict
+  where
+    room : (short strict : Bool) → MethodTold s params (pickM short (Broken 22 0 0) (pickM strict (readMethodStrict s) (readMethod s)))
+    room true strict = broken-told s params 22 0 0 (omega arith)
+    room false true = told ClassName s params (readMethodStrict s) (strict-method-code s) (strict-sound s) (λ m d l. strict-method-place d l)
+    room false false = told AnyName s params (readMethod s) (ordinary-method-code s) (ordinary-sound s) (λ m d l. ordinary-method-place d l)
