@@ -1,4 +1,5 @@
--- Descriptors against JVMS 4.3, in what a caller sees: the fields of the answers, and the slice of offsets. Assumes nothing.
+-- Descriptors against JVMS 4.3, in what a caller sees: the fields of the answers, and the slice of offsets.
+-- Nothing is claimed of the rule of 4.3.3 that a long or a double counts for two of the 255 parameters: reading does not look at it. Assumes nothing.
 use mathlib.Core.Path.{_≡_, refl, sym, ap, ap₂, subst, _∙_}
 use mathlib.Core.Bool.{Bool, true, false}
 use mathlib.Core.List.{List, [], _∷_, _++_}
@@ -52,11 +53,11 @@ module _ (Name : List ℕ → Type 0) (s : List ℕ) (x : Read) (code : TypeCode
       found (Found d b next) e c z = let q = exact (typeAt s d b) .0 (ap (typeRead s) e) in (typeAt s d b, q .0, q .1)
       found (Refused k o byte) e c z = absurd (omega arith)
 
--- ORDINARY READING OF A TYPE ACCEPTS WHAT THE GRAMMAR DERIVES WITH ANY NAMES, AND NOTHING ELSE
+-- ORDINARY READING OF A TYPE ACCEPTS EXACTLY WHAT THE GRAMMAR DERIVES WITH ANY NAMES, IN AT MOST 255 DIMENSIONS
 pub ordinary-type-accepted : (s : List ℕ) → ReadsType AnyName s (typeAnswer (readWhole s))
 ordinary-type-accepted s = reads-type AnyName s (readWhole s) (ordinary-type-code s) (ordinary-type s) (λ t r h. ordinary-type-place r h)
 
--- STRICT READING OF A TYPE ACCEPTS WHAT THE JVMS DERIVES, AND NOTHING ELSE
+-- STRICT READING OF A TYPE ACCEPTS EXACTLY WHAT THE GRAMMAR DERIVES, IN AT MOST 255 DIMENSIONS
 pub strict-type-accepted : (s : List ℕ) → ReadsType ClassName s (typeAnswer (readStrict s))
 strict-type-accepted s = reads-type ClassName s (readStrict s) (strict-type-code s) (strict-type s) (λ t r h. strict-type-place r h)
 
@@ -68,11 +69,12 @@ methodFound m =
     let at = ends 1 (m .parameters) + 1 in
     bpMethod (foundMethod (length (m .parameters)) at (dimensions (m .result)) (placed at (m .result)))
 
--- the same of a method, within the limits; then `params` ends as params′, the offsets of the parameters and what stood after them
+-- the same of a method, within the limits: then `params` ends as the offsets of the parameters and what stood after them, else as it came
 pub record ReadsMethod (Name : List ℕ → Type 0) (s params params′ : List ℕ) (r : BpMethod) : Type 0 where
   pub accepted : (r .refusal ≡ 0) ↔ ((m : Signature) × MethodDescriptor Name s m × Limits m)
   pub fields : (m : Signature) → MethodDescriptor Name s m → Limits m → r ≡ methodFound m
   pub offsets : (m : Signature) → MethodDescriptor Name s m → Limits m → params′ ≡ starts 1 (m .parameters) ++ drop (length (m .parameters)) params
+  pub otherwise : (r .refusal ≡ 0 → ⊥) → params′ ≡ params
 
 starts-length : (at : ℕ) (ps : List Parameter) → length (starts at ps) ≡ length ps
 unfolding starts
@@ -99,19 +101,31 @@ broken-refused : (k o byte : ℕ) → methodResult (Broken k o byte) .refusal �
 unfolding methodAnswer
 broken-refused k o byte = refl
 
+broken-params : (params : List ℕ) (k o byte : ℕ) → paramsAfter params (Broken k o byte) ≡ params
+unfolding paramsAfter
+broken-params params k o byte = refl
+
 module _ (Name : List ℕ → Type 0) (s params : List ℕ) (x : Method) (code : MethodCode x)
     (sound : (offsets : List ℕ) (at : ℕ) (r : Read) → x ≡ Whole offsets at r → (m : Signature) × MethodDescriptor Name s m × Limits m)
     (place : (m : Signature) → MethodDescriptor Name s m → Limits m → x ≡ answer s m) where
   reads-method : ReadsMethod Name s params (paramsAfter params x) (methodResult x)
   reads-method = record {
-    accepted = (λ e. found x refl code e, λ h. ap (λ (y : Method). methodResult y .refusal) (place (h .0) (h .1) (h .2)) ∙ ap (λ (r : BpMethod). r .refusal) (answer-fields s (h .0)) ∙ method-accepted (h .0));
+    accepted = (λ e. found x refl code e, none-refused);
     fields = λ m d l. ap methodResult (place m d l) ∙ answer-fields s m;
     offsets = λ m d l. ap (paramsAfter params) (place m d l) ∙ answer-offsets s params m;
+    otherwise = untouched x refl;
   }
     where
+      none-refused : (m : Signature) × MethodDescriptor Name s m × Limits m → methodResult x .refusal ≡ 0
+      none-refused h = ap (λ (r : BpMethod). r .refusal) (ap methodResult (place (h .0) (h .1) (h .2)) ∙ answer-fields s (h .0)) ∙ method-accepted (h .0)
+
       found : (y : Method) → x ≡ y → MethodCode y → methodResult y .refusal ≡ 0 → (m : Signature) × MethodDescriptor Name s m × Limits m
       found (Whole offsets at r) e c z = sound offsets at r e
       found (Broken k o byte) e c z = absurd (let q = broken-refused k o byte in let f : ⊥ = omega arith in f)
+
+      untouched : (y : Method) → x ≡ y → (methodResult y .refusal ≡ 0 → ⊥) → paramsAfter params y ≡ params
+      untouched (Whole offsets at r) e refused = absurd (refused (ap (λ (z : Method). methodResult z .refusal) (sym e) ∙ none-refused (sound offsets at r e)))
+      untouched (Broken k o byte) e refused = broken-params params k o byte
 
 ordinary-sound : (s : List ℕ) (offsets : List ℕ) (at : ℕ) (r : Read) → readMethod s ≡ Whole offsets at r → (m : Signature) × MethodDescriptor AnyName s m × Limits m
 ordinary-sound s offsets at r e = let d = method-sound s offsets at r e in (d .signature, d .derived, d .limits)
@@ -127,14 +141,14 @@ strict-sound s offsets at r e = go (readMethod s) refl
         (d .signature, method-strict .1 (d .derived, left .0, left .1), d .limits)
     go (Broken k o byte) f = absurd (let b : Broken k o byte ≡ Whole offsets at r = rw f at e in let z : _≡_ {A = ℕ} 0 1 = cc in omega arith)
 
--- ORDINARY READING OF A METHOD ACCEPTS WHAT THE GRAMMAR DERIVES WITH ANY NAMES, AND NOTHING ELSE, GIVEN ROOM FOR 255 OFFSETS
+-- ORDINARY READING OF A METHOD ACCEPTS EXACTLY WHAT THE GRAMMAR DERIVES WITH ANY NAMES, WITHIN THE LIMITS, GIVEN ROOM FOR 255 OFFSETS
 pub ordinary-method-accepted : (s params : List ℕ) → 255 ≤ length params
     → ReadsMethod AnyName s params (paramsAfter params (methodOf false s (length params))) (methodResult (methodOf false s (length params)))
 unfolding methodOf
 ordinary-method-accepted s params room =
     rw (le-ltb (length params) 255 room) (reads-method AnyName s params (readMethod s) (ordinary-method-code s) (ordinary-sound s) (λ m d l. ordinary-method-place d l))
 
--- STRICT READING OF A METHOD ACCEPTS WHAT THE JVMS DERIVES, AND NOTHING ELSE, GIVEN ROOM FOR 255 OFFSETS
+-- STRICT READING OF A METHOD ACCEPTS EXACTLY WHAT THE GRAMMAR DERIVES, WITHIN THE LIMITS, GIVEN ROOM FOR 255 OFFSETS
 pub strict-method-accepted : (s params : List ℕ) → 255 ≤ length params
     → ReadsMethod ClassName s params (paramsAfter params (methodOf true s (length params))) (methodResult (methodOf true s (length params)))
 unfolding methodOf
