@@ -1,2 +1,5 @@
 -- What the scope paper demands of the whole.
 pub mod Examples
+pub mod Refusals
+pub mod Descriptors
+pub mod Contracts

@@ -6,5 +6,6 @@ pub mod ToWord
 pub mod Derived
 pub mod Readable
 pub mod Round
+pub mod Held
 pub mod Lent
 pub mod Examples

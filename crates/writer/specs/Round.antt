@@ -51,6 +51,21 @@ unfolding printMethod
 method-length name params result =
     let a = length-append (printAll name params) (41 ∷ print name result) in omega arith
 
+-- the lengths of types, summed
+unfoldable pub sumLengths : (ℕ → List ℕ) → List ArgType → ℕ
+sumLengths name [] = 0
+sumLengths name (t ∷ ts) = depth t + baseLength name t + sumLengths name ts
+
+-- A METHOD IS AS LONG AS ITS PARAMETERS AND ITS RESULT TOGETHER, AND TWO MORE
+pub method-sum : (name : ℕ → List ℕ) (params : List ArgType) (result : ArgType)
+    → length (printMethod name params result) ≡ sumLengths name params + (depth result + baseLength name result) + 2
+unfolding printAll sumLengths
+method-sum name params result = rw (method-length name params result, all-sum params, print-length name result)
+  where
+    all-sum : (ts : List ArgType) → length (printAll name ts) ≡ sumLengths name ts
+    all-sum [] = refl
+    all-sum (t ∷ ts) = rw (length-append (print name t) (printAll name ts), print-length name t, all-sum ts)
+
 -- ---- reading then writing
 
 -- `name` gives the name of each number that `find` finds
