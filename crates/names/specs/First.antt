@@ -1,6 +1,7 @@
 -- A chain of checks is one list: what comes back is the number of the first check that holds, 0 where none does.
--- Every refusal is such a list, so its place in the list is its place in the order of refusals. Assumes nothing.
-use mathlib.Core.Path.{_≡_, refl, sym, _∙_}
+-- What names, writers, tables and questions refuse are such lists, so a refusal's place in the list is its place in the order; the readers
+-- of descriptors refuse in reading order instead. Assumes nothing.
+use mathlib.Core.Path.{_≡_, refl, sym, ap, _∙_}
 use mathlib.Core.Bool.{Bool, true, false, cond, not, _&&_, false≢true}
 use mathlib.Core.List.{List, [], _∷_, _++_}
 use mathlib.Core.Logic.{_↔_}
@@ -91,6 +92,27 @@ pub first-is : (before : List Check) (c : Bool) (k : ℕ) (after : List Check)
 first-is before c k after z f g = (
   first-told before c k after z f g,
   λ h. first-past before (check c k ∷ after) (h .1) ∙ first-hit c k after (h .0),
+)
+
+-- the same where several checks have one number: k comes back exactly if some check of number k holds and none before it does
+pub record FirstOf (l : List Check) (k : ℕ) : Type 0 where
+  pub before : List Check
+  pub after : List Check
+  pub is : l ≡ before ++ check true k ∷ after
+  pub none-before : quiet before ≡ true
+
+first-found : (l : List Check) (k : ℕ) → (k ≡ 0 → ⊥) → first l ≡ k → FirstOf l k
+unfolding first quiet
+first-found [] k z h = absurd (z (sym h))
+first-found (check true n ∷ l) k z h = record { before = []; after = l; is = ap (λ (m : ℕ). check true m ∷ l) h; none-before = refl }
+first-found (check false n ∷ l) k z h =
+    let r = first-found l k z h in
+    record { before = check false n ∷ r .before; after = r .after; is = ap (λ (m : List Check). check false n ∷ m) (r .is); none-before = r .none-before }
+
+pub first-of : (l : List Check) (k : ℕ) → (k ≡ 0 → ⊥) → (first l ≡ k) ↔ FirstOf l k
+first-of l k z = (
+  first-found l k z,
+  λ r. ap first (r .is) ∙ first-past (r .before) (check true k ∷ r .after) (r .none-before) ∙ first-hit true k (r .after) refl,
 )
 
 -- nothing is refused exactly if no condition holds, 0 being the number of no check
