@@ -5,9 +5,10 @@ ghost use mathlib.Core.Path.{_≡_};
 ghost use mathlib.Core.Bool.{not, _&&_, _||_};
 ghost use Prim.Native.Nat.{_+_, _-_, _≤_, min};
 ghost use lib.Dec.{leb, ltb};
-ghost use lib.ListN.{length};
+ghost use lib.ListN.{length, drop};
+ghost use lib.Seq.{slice};
 ghost use Rattle.ty.specs.Types.{compareNumbers, compareLists};
-ghost use Rattle.names.specs.Names.{placeGood, nameOf, isLess, checkName, checkRow, checkNames, found, lookup, lookUp};
+ghost use Rattle.names.specs.Names.{placeGood, nameOf, isLess, isEqual, checkName, checkRow, checkNames, found, lookup, lookUp};
 
 // The class number of a name, or a refusal.
 pub struct LookedUp {
@@ -72,6 +73,47 @@ fn is_not_above(last: &[u8], name: &[u8], count: u64) -> bool
     }
 }
 
+// Whether the names differ in the eight bytes from i on. None ends the loop early, so that the machine compares them at once.
+fn differ_in_block(a: &[u8], b: &[u8], i: usize) -> bool
+    requires { ⌜ (i + 8 ≤ length (now a)) × (i + 8 ≤ length (now b)) ⌝ }
+    ensures { λ r. ⌜ r ≡ not (isEqual (compareLists (slice i (i + 8) (now (a .entry))) (slice i (i + 8) (now (b .entry))))) ⌝ }
+{
+    let mut differ = false;
+    let mut k = 0;
+    while k < 8 {
+        if a[i + k] != b[i + k] {
+            differ = true;
+        }
+        k += 1;
+    }
+    differ
+}
+
+// Passes blocks of eight bytes in which the names are the same: they stand to each other as what is left of them does.
+fn skip_same(a: &[u8], b: &[u8], n: usize) -> usize
+    requires { ⌜ (n ≤ length (now a)) × (n ≤ length (now b)) ⌝ }
+    ensures { λ r. ⌜ (r ≤ n)
+        × (compareLists (now (a .entry)) (now (b .entry)) ≡ compareLists (drop r (now (a .entry))) (drop r (now (b .entry)))) ⌝ }
+{
+    let mut i: usize = 0;
+    while 8 <= n - i {
+        if differ_in_block(a, b, i) {
+            return i;
+        }
+        i += 8;
+    }
+    i
+}
+
+// `is_not_above` for neighbours in a table: what they have in common is passed first. Only `check_row` calls it, so that the
+// compiler puts it there.
+fn is_not_above_near(last: &[u8], name: &[u8], count: u64) -> bool
+    ensures { λ r. ⌜ r ≡ (ltb 0 count && not (isLess (compareLists (now (last .entry)) (now (name .entry))))) ⌝ }
+{
+    let i = skip_same(last, name, smaller(last.len(), name.len()));
+    is_not_above(&last[i..], &name[i..], count)
+}
+
 // Whether there is no room for one more name of that length.
 fn is_full(length: u64, count: u64, total: u64) -> bool
     ensures { λ r. ⌜ r ≡ (leb 1024 count || ltb 24576 (total + length)) ⌝ }
@@ -125,6 +167,7 @@ fn is_place(size: u64, at: u64, len: u64) -> bool
 }
 
 // The refusal of one row, after `count` others that have `total` bytes; the last of them has `span` bytes at `last`.
+// At a good place the tests are those of `check_name`, without that of the length.
 fn check_row(names: &[u8], last: u64, span: u64, at: u64, len: u64, count: u64, total: u64) -> u64
     requires { ⌜ (last ≤ length (now names)) × (span ≤ length (now names) - last) ⌝ }
     ensures { λ r. ⌜ r ≡ checkRow (now (names .entry)) at len (nameOf (now (names .entry)) last span) count total ⌝ }
@@ -136,7 +179,16 @@ fn check_row(names: &[u8], last: u64, span: u64, at: u64, len: u64, count: u64, 
     let to = from + span as usize;
     let start = at as usize;
     let end = start + len as usize;
-    check_name(&names[from..to], &names[start..end], count, total)
+    if !is_well_formed(names, start, end) {
+        return 10;
+    }
+    if is_not_above_near(&names[from..to], &names[start..end], count) {
+        return 5;
+    }
+    if is_full(len, count, total) {
+        return 8;
+    }
+    0
 }
 
 // The refusal of a table of names; 0 where there is none.

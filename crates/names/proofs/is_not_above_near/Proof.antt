@@ -1,0 +1,69 @@
+-- `is_not_above_near` meets its contract: past the blocks in common, the order is that of what is left. Assumes nothing.
+use borrow.Author.Needs.{needs}
+use mathlib.Core.Path.{_≡_, sym, ap, ap₂, _∙_}
+use mathlib.Core.Bool.{not, _&&_}
+use mathlib.Core.List.{List}
+use Prim.Native.Nat.{ℕ, _-_}
+use native.Mathlib.Omega.{arith}
+use lib.Dec.{ltb}
+use lib.ListN.{length, take, drop, length-drop}
+use lib.Seq.{take-all}
+use Rattle.ty.specs.declared.Order.{Order}
+use Rattle.ty.specs.Types.{compareLists}
+use Rattle.names.specs.Names.{isLess}
+use Rattle.names.proofs.is_not_above_near.Statement.{statement}
+use Rattle.names.proofs.is_not_above_near.Tie as tie
+
+-- what is left from i on
+left : (l : List ℕ) (i : ℕ) → take (length l - i) (drop i l) ≡ drop i l
+left l i = take-all (length l - i) (drop i l) (omega (arith, length-drop i l))
+
+smaller-requires : tie.Need-smaller-requires
+smaller-requires c κs = search needs
+
+skip-same-requires : tie.Need-skip-same-requires
+skip-same-requires c κs = search needs
+
+sub-is-not-above : tie.Need-sub-is-not-above
+sub-is-not-above c = search needs
+
+part-is-not-above-start : tie.Need-part-is-not-above-start
+part-is-not-above-start c = search needs
+
+part-is-not-above-end : tie.Need-part-is-not-above-end
+part-is-not-above-end c = search needs
+
+sub-is-not-above-2 : tie.Need-sub-is-not-above-2
+sub-is-not-above-2 c = search needs
+
+part-is-not-above-start-2 : tie.Need-part-is-not-above-start-2
+part-is-not-above-start-2 c = search needs
+
+part-is-not-above-end-2 : tie.Need-part-is-not-above-end-2
+part-is-not-above-end-2 c = search needs
+
+is-not-above-requires : tie.Need-is-not-above-requires
+is-not-above-requires c κs = search needs
+
+returns : tie.Need-returns
+returns c =
+    let p = c .before .before .before .skip-same in
+    let a = c .before .before .before .before .before .before .before .args in
+    c .is-not-above .ensures
+    ∙ ap (λ (o : Order). ltb 0 (a .count) && not (isLess o))
+    (ap₂ compareLists (left (a .last .now) (p .result)) (left (a .name .now) (p .result)) ∙ sym (p .ensures .1))
+
+pub is-not-above-near-spec : {M : Type 1} → statement M
+is-not-above-near-spec =
+    tie.close
+    (tie.spec
+    smaller-requires
+    skip-same-requires
+    sub-is-not-above
+    part-is-not-above-start
+    part-is-not-above-end
+    sub-is-not-above-2
+    part-is-not-above-start-2
+    part-is-not-above-end-2
+    is-not-above-requires
+    returns)
