@@ -17,8 +17,10 @@
 //! `Relations` puts answers together.
 
 mod classes;
+mod descriptors;
 pub mod ffi;
 mod names;
+mod order;
 mod part;
 mod read;
 mod refusal;

@@ -85,7 +85,7 @@ impl fmt::Debug for Offsets {
 }
 
 /// A method's descriptor with its types, after `MethodDescriptor` of ty.rs.
-#[derive(Debug, Clone, PartialEq, Eq, Hash)]
+#[derive(Debug, Clone, PartialEq, Eq, PartialOrd, Ord, Hash)]
 pub struct MethodDescriptor<'a> {
     pub parameters: Vec<ArgType<'a>>,
     pub return_type: ArgType<'a>,
