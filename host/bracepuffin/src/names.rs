@@ -3,18 +3,18 @@
 use std::cmp::Ordering;
 
 use crate::ffi::BpWritten;
-use crate::part::{self, Used};
+use crate::part::{self, Used, PAYLOAD};
 use crate::slices::{self, Columns};
-use crate::types::{ArgType, Base};
+use crate::types::{ArgType, Base, Categories, PrimitiveType};
 use crate::Refusal;
 
 /// The most bytes that the descriptor of a type has: 255 dimensions and a name of 255 bytes.
 pub const TYPE_BYTES: usize = 512;
 
 /// Tags of words.
-pub(crate) const PRIMITIVE: u64 = 0;
+const PRIMITIVE: u64 = 0;
 pub(crate) const CLASS: u64 = 1;
-pub(crate) const UNKNOWN: u64 = 2;
+const UNKNOWN: u64 = 2;
 
 /// Methods of fewer parameters have their words in less memory, since it has to be cleared.
 const FEW: usize = 16;
@@ -90,7 +90,8 @@ impl Names {
         }
     }
 
-    /// The same without a call: the names were checked when the table was made, and ascend.
+    /// The same without a call, which would check all names again: they were checked when the table was made, and
+    /// ascend.
     pub(crate) fn find(&self, name: &str) -> Option<u64> {
         let (mut low, mut high) = (0, self.len() as u64);
         while low < high {
@@ -107,6 +108,19 @@ impl Names {
     /// The word of a type; its class must be in the table.
     pub fn word(&self, ty: ArgType) -> Result<u64, Refusal> {
         word_of(ty, |name| self.class_number(name))
+    }
+
+    /// The type of a word; none for a word that is no type of this table.
+    pub fn type_of(&self, word: u64) -> Option<ArgType<'_>> {
+        let payload = word & PAYLOAD;
+        let base = match word >> 48 & 0xff {
+            PRIMITIVE => Base::Primitive(*PrimitiveType::ALL.get(payload as usize)?),
+            CLASS => Base::Object(self.name(payload)?),
+            UNKNOWN => Base::Unknown(Categories::from_payload(payload)?),
+            _ => return None,
+        };
+        let dimensions = (word >> 56) as u8;
+        Some(ArgType { dimensions, base })
     }
 
     /// The descriptor of a type word.
@@ -216,6 +230,14 @@ impl Names {
         let parameters = &words[..parameters.len()];
         slices::write_method(part, parameters, used.over_part(result), out)
     }
+}
+
+/// The descriptor of a type over a table that has its class alone, or nothing; its base takes so many bytes.
+pub(crate) fn written(table: Columns, ty: ArgType, base: usize) -> Result<String, Refusal> {
+    let word = word_of(ty, |_| Ok(0))?;
+    let mut out = room(usize::from(ty.dimensions) + base);
+    let written = slices::write_type(table, word, &mut out);
+    owned(written, out)
 }
 
 /// Bytes to be written over. Any byte serves but 0: memory that is all 0 is asked for in another way, which is slower.

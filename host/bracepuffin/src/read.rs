@@ -85,7 +85,7 @@ impl fmt::Debug for Offsets {
 }
 
 /// A method's descriptor with its types, after `MethodDescriptor` of ty.rs.
-#[derive(Debug, Clone, PartialEq, Eq, Hash)]
+#[derive(Debug, Clone, PartialEq, Eq, PartialOrd, Ord, Hash)]
 pub struct MethodDescriptor<'a> {
     pub parameters: Vec<ArgType<'a>>,
     pub return_type: ArgType<'a>,
@@ -113,7 +113,7 @@ impl<'a, 'o> Method<'a, 'o> {
         Some(between(self.descriptor, ends))
     }
 
-    /// The type of a parameter. It was accepted with the whole, so its text alone says it and nothing is checked again.
+    /// The type of a parameter: its text is read again, alone.
     #[inline]
     pub fn parameter(&self, number: usize) -> Option<ArgType<'a>> {
         self.parameter_text(number).map(accepted_type)
@@ -232,31 +232,10 @@ fn base(tag: u64, category: u64, name: &[u8]) -> Base<'_> {
     object(name)
 }
 
-/// The primitives by the low five bits of their letters; what is no letter of a parameter has no meaning.
-const LETTERS: [PrimitiveType; 32] = {
-    let mut table = [PrimitiveType::Void; 32];
-    let (letters, mut category) = (b"VZBSCIJFD", 0);
-    while category < letters.len() {
-        table[letters[category] as usize % 32] = PrimitiveType::ALL[category];
-        category += 1;
-    }
-    table
-};
-
-/// The type of a parameter that was accepted: brackets, then a letter alone or a name between 'L' and ';'.
+/// The type of a parameter's text. It was accepted with the whole, so it is a type when it is read alone.
 #[inline]
 fn accepted_type(text: &[u8]) -> ArgType<'_> {
-    let brackets = text.iter().take_while(|byte| **byte == b'[').count();
-    ArgType {
-        dimensions: brackets as u8,
-        base: match text[brackets] {
-            b'L' => object(&text[brackets + 1..text.len() - 1]),
-            letter => {
-                debug_assert!(b"ZBSCIJFD".contains(&letter));
-                Base::Primitive(LETTERS[usize::from(letter % 32)])
-            }
-        },
-    }
+    read_type(text).expect("a parameter that was accepted is a type")
 }
 
 /// The class of a name that was accepted.

@@ -1,12 +1,9 @@
 //! What is asked of two types over a class table: their join, and whether one is assignable to the other.
 
 use crate::classes::{accepted, ClassTable};
-use crate::names::{word_of, CLASS, PRIMITIVE, UNKNOWN};
-use crate::slices;
-use crate::types::{ArgType, Base, Categories, PrimitiveType};
-use crate::Refusal;
-
-const PAYLOAD: u64 = 0xffff_ffff_ffff;
+use crate::names::word_of;
+use crate::types::ArgType;
+use crate::{slices, Refusal};
 
 impl ClassTable {
     /// The join of two types: `join` of lattice.rs. A class that is not in the table is refused.
@@ -31,14 +28,6 @@ impl ClassTable {
 
     /// The type of a word; none for a word that is no type of this table.
     pub fn type_of(&self, word: u64) -> Option<ArgType<'_>> {
-        let payload = word & PAYLOAD;
-        let base = match word >> 48 & 0xff {
-            PRIMITIVE => Base::Primitive(*PrimitiveType::ALL.get(payload as usize)?),
-            CLASS => Base::Object(self.names().name(payload)?),
-            UNKNOWN => Base::Unknown(Categories::from_payload(payload)?),
-            _ => return None,
-        };
-        let dimensions = (word >> 56) as u8;
-        Some(ArgType { dimensions, base })
+        self.names().type_of(word)
     }
 }

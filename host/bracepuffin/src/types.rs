@@ -1,6 +1,10 @@
 //! Types: those of ty.rs, with dimensions in place of boxes and names borrowed from the input or from a table.
+//! What is asked of a type alone is answered here, from its parts; `tests/ty` compares it with ty.rs.
 
 use std::fmt;
+
+use crate::OBJECT;
+use PrimitiveType::*;
 
 /// The categories with their numbers: what a type is without its dimensions, and the members of an Unknown.
 #[derive(Clone, Copy, Debug, Eq, Hash, Ord, PartialEq, PartialOrd)]
@@ -20,6 +24,7 @@ pub enum PrimitiveType {
 }
 
 impl PrimitiveType {
+    /// All of them, by number.
     pub const ALL: [Self; 11] = [
         Self::Void,
         Self::Boolean,
@@ -46,7 +51,7 @@ impl PrimitiveType {
 }
 
 /// What the dimensions of a type stand over.
-#[derive(Debug, Clone, Copy, PartialEq, Eq, Hash)]
+#[derive(Debug, Clone, Copy, PartialEq, Eq, PartialOrd, Ord, Hash)]
 pub enum Base<'a> {
     Primitive(PrimitiveType),
     /// A class by its name, which is borrowed from the descriptor or the table.
@@ -69,11 +74,18 @@ impl Categories {
         if list.len() > PrimitiveType::ALL.len() || (0..list.len()).any(repeats) {
             return None;
         }
+        Some(Self::of(list))
+    }
+
+    /// The same for at most eleven categories without repeats.
+    const fn of(list: &[PrimitiveType]) -> Self {
         let mut payload = (list.len() as u64) << (4 * (DIGITS - 1));
-        for (place, category) in (2..).zip(list) {
-            payload |= category.number() << (4 * (DIGITS - place));
+        let mut place = 0;
+        while place < list.len() {
+            payload |= (list[place] as u64) << (4 * (DIGITS - 2 - place as u32));
+            place += 1;
         }
-        Some(Self(payload))
+        Self(payload)
     }
 
     /// The list of a payload; none if it is no list.
@@ -85,10 +97,12 @@ impl Categories {
         Self::new(&list?).filter(|same| same.0 == payload)
     }
 
+    /// The payload of the word of such an Unknown.
     pub fn payload(self) -> u64 {
         self.0
     }
 
+    /// How many there are.
     pub fn len(self) -> usize {
         (self.0 >> (4 * (DIGITS - 1)) & 0xf) as usize
     }
@@ -97,6 +111,7 @@ impl Categories {
         self.len() == 0
     }
 
+    /// The categories in order.
     pub fn iter(self) -> impl Iterator<Item = PrimitiveType> {
         (0..self.len()).map(move |place| PrimitiveType::ALL[self.digit(place)])
     }
@@ -130,6 +145,7 @@ impl<'a> ArgType<'a> {
     pub const FLOAT: ArgType<'static> = ArgType::primitive(PrimitiveType::Float);
     pub const DOUBLE: ArgType<'static> = ArgType::primitive(PrimitiveType::Double);
 
+    /// A category as a type; ty.rs has the variant for it.
     pub const fn primitive(category: PrimitiveType) -> Self {
         Self {
             dimensions: 0,
@@ -137,6 +153,7 @@ impl<'a> ArgType<'a> {
         }
     }
 
+    /// The class of this name, with slashes.
     pub const fn object(name: &'a str) -> Self {
         Self {
             dimensions: 0,
@@ -144,10 +161,69 @@ impl<'a> ArgType<'a> {
         }
     }
 
-    pub const fn unknown(categories: Categories) -> Self {
+    /// One of these categories. ty.rs has the variant for it.
+    pub const fn unknown_of(categories: Categories) -> Self {
         Self {
             dimensions: 0,
             base: Base::Unknown(categories),
+        }
+    }
+
+    /// Any category but void: the list of all ten.
+    pub const fn unknown() -> ArgType<'static> {
+        one_of(&[
+            Int, Long, Float, Double, Boolean, Short, Byte, Char, Object, Array,
+        ])
+    }
+
+    /// Whatever takes one register.
+    pub const fn narrow() -> ArgType<'static> {
+        one_of(&[Int, Float, Boolean, Short, Byte, Char, Object, Array])
+    }
+
+    /// Whatever takes two registers.
+    pub const fn wide() -> ArgType<'static> {
+        one_of(&[Long, Double])
+    }
+
+    /// A class or an array, it is not known which.
+    pub const fn unknown_object() -> ArgType<'static> {
+        one_of(&[Object, Array])
+    }
+
+    /// What may be compared for equality: whatever takes one register, but no float.
+    pub const fn equality_operand() -> ArgType<'static> {
+        one_of(&[Int, Boolean, Short, Byte, Char, Object, Array])
+    }
+
+    /// java/lang/String.
+    pub const fn string() -> ArgType<'static> {
+        ArgType::object("java/lang/String")
+    }
+
+    /// java/lang/Class.
+    pub const fn class() -> ArgType<'static> {
+        ArgType::object("java/lang/Class")
+    }
+
+    /// java/lang/Throwable.
+    pub const fn throwable() -> ArgType<'static> {
+        ArgType::object("java/lang/Throwable")
+    }
+
+    /// The array of int.
+    pub const fn int_array() -> ArgType<'static> {
+        ArgType {
+            dimensions: 1,
+            ..ArgType::INT
+        }
+    }
+
+    /// The array of java/lang/Object.
+    pub const fn object_array() -> ArgType<'static> {
+        ArgType {
+            dimensions: 1,
+            ..ArgType::object(OBJECT)
         }
     }
 
@@ -157,14 +233,17 @@ impl<'a> ArgType<'a> {
         Some(Self { dimensions, ..self })
     }
 
+    /// Whether it is a category, without dimensions.
     pub fn is_primitive(&self) -> bool {
         self.as_primitive().is_some()
     }
 
+    /// Whether it is a class, without dimensions.
     pub fn is_object(&self) -> bool {
         self.as_object().is_some()
     }
 
+    /// Whether it has dimensions.
     pub fn is_array(&self) -> bool {
         self.dimensions > 0
     }
@@ -182,10 +261,17 @@ impl<'a> ArgType<'a> {
         }
     }
 
+    /// Whether it is anything but an Unknown. An array is known, whatever it is an array of.
+    pub fn is_known(&self) -> bool {
+        !self.is_unknown()
+    }
+
+    /// Whether it is an Unknown, without dimensions.
     pub fn is_unknown(&self) -> bool {
         self.dimensions == 0 && matches!(self.base, Base::Unknown(_))
     }
 
+    /// The category, if it is one.
     pub fn as_primitive(&self) -> Option<PrimitiveType> {
         match self.base {
             Base::Primitive(category) if self.dimensions == 0 => Some(category),
@@ -193,6 +279,7 @@ impl<'a> ArgType<'a> {
         }
     }
 
+    /// The name of the class, if it is one.
     pub fn as_object(&self) -> Option<&'a str> {
         match self.base {
             Base::Object(name) if self.dimensions == 0 => Some(name),
@@ -200,6 +287,7 @@ impl<'a> ArgType<'a> {
         }
     }
 
+    /// The type that it is an array of, if it is one.
     pub fn as_array_element(&self) -> Option<Self> {
         let dimensions = self.dimensions.checked_sub(1)?;
         Some(Self {
@@ -207,4 +295,9 @@ impl<'a> ArgType<'a> {
             ..*self
         })
     }
+}
+
+/// One of these categories, at most eleven and none twice.
+const fn one_of(categories: &[PrimitiveType]) -> ArgType<'static> {
+    ArgType::unknown_of(Categories::of(categories))
 }

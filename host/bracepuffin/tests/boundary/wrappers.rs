@@ -216,20 +216,6 @@ fn words_and_descriptors() {
     assert_eq!(names.write_method_into(&[5], 0, &mut [0; 4]), Ok("(I)V"));
 }
 
-/// The example of the crate's first page.
-#[test]
-fn there_and_back() -> Result<(), Refusal> {
-    let method = bracepuffin::read_method(b"([Ljava/lang/String;I)V")?;
-    let names = bracepuffin::Names::new(["java/lang/String", "java/lang/Object"])?;
-    let words = [
-        names.word(method.parameters[0])?,
-        names.word(method.parameters[1])?,
-    ];
-    let text = names.write_method(&words, names.word(method.return_type)?)?;
-    assert_eq!(text, "([Ljava/lang/String;I)V");
-    Ok(())
-}
-
 #[test]
 fn refusals_in_words() {
     let text = |number| refused(number, 7, 0x3b).to_string();

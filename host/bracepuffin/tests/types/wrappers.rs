@@ -68,7 +68,7 @@ fn lists_of_categories() {
 #[test]
 fn words_there_and_back() {
     let table = table();
-    let unknown = ArgType::unknown(list(&[Int, Object]));
+    let unknown = ArgType::unknown_of(list(&[Int, Object]));
     let deep = ArgType {
         dimensions: 255,
         ..unknown
@@ -83,5 +83,5 @@ fn words_there_and_back() {
         assert_eq!(table.type_of(word), None);
     }
     assert!(unknown.is_unknown() && !deep.is_unknown() && deep.is_array());
-    assert!(!unknown.is_wide() && ArgType::unknown(list(&[])).is_wide());
+    assert!(!unknown.is_wide() && ArgType::unknown_of(list(&[])).is_wide());
 }

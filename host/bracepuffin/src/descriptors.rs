@@ -1,0 +1,103 @@
+//! Types and methods as text, under the names of ty.rs: letters, descriptors, and the conversions from text.
+
+use std::fmt::{self, Write};
+
+use crate::part::NOTHING;
+use crate::slices::{self, Columns};
+use crate::types::{ArgType, Base, PrimitiveType};
+use crate::{names, read_method, read_type, MethodDescriptor, Refusal};
+
+impl PrimitiveType {
+    /// The letter that stands for it, as the archive writes it: 'L' for Object and '[' for Array.
+    pub fn descriptor(self) -> char {
+        let mut letter = [0];
+        let written = slices::write_type(NOTHING, self.number(), &mut letter);
+        assert_eq!(written.refusal, 0, "a category is written in one byte");
+        char::from(letter[0])
+    }
+
+    /// The category of a letter; none for what is no letter of one.
+    pub fn from_descriptor(letter: char) -> Option<Self> {
+        let mut all = Self::ALL.into_iter();
+        all.find(|category| category.descriptor() == letter)
+    }
+}
+
+impl ArgType<'_> {
+    /// The descriptor, written by the archive; '?' stands for an Unknown, as in ty.rs, and no reader takes it.
+    ///
+    /// A class name of no bytes or more than 255 is refused (`Refusal::LENGTH`), since no table of names may hold it,
+    /// though a descriptor with a longer name can be read. ty.rs writes any name.
+    pub fn to_descriptor(&self) -> Result<String, Refusal> {
+        let (name, len) = match self.base {
+            Base::Object(name) => (name, [name.len() as u64]),
+            _ => return names::written(NOTHING, *self, 1),
+        };
+        let alone = Columns {
+            names: name.as_bytes(),
+            name_at: &[0],
+            name_len: &len,
+        };
+        names::written(alone, *self, name.len() + 2)
+    }
+}
+
+/// The descriptor, with names of any length, as ty.rs prints it. It never fails, so it is put together here, in Rust,
+/// and is not proved. `Names::write_method` has the archive write it; the tests compare the two.
+impl fmt::Display for MethodDescriptor<'_> {
+    fn fmt(&self, formatter: &mut fmt::Formatter<'_>) -> fmt::Result {
+        formatter.write_char('(')?;
+        for parameter in &self.parameters {
+            print(*parameter, formatter)?;
+        }
+        formatter.write_char(')')?;
+        print(self.return_type, formatter)
+    }
+}
+
+fn print(ty: ArgType, formatter: &mut fmt::Formatter<'_>) -> fmt::Result {
+    for _ in 0..ty.dimensions {
+        formatter.write_char('[')?;
+    }
+    match ty.base {
+        Base::Primitive(category) => formatter.write_char(category.descriptor()),
+        Base::Object(name) => write!(formatter, "L{name};"),
+        Base::Unknown(_) => formatter.write_char('?'),
+    }
+}
+
+/// `read_type`. Names are borrowed from the text, which `FromStr` cannot do.
+impl<'a> TryFrom<&'a [u8]> for ArgType<'a> {
+    type Error = Refusal;
+
+    fn try_from(descriptor: &'a [u8]) -> Result<Self, Refusal> {
+        read_type(descriptor)
+    }
+}
+
+/// `read_type`.
+impl<'a> TryFrom<&'a str> for ArgType<'a> {
+    type Error = Refusal;
+
+    fn try_from(descriptor: &'a str) -> Result<Self, Refusal> {
+        read_type(descriptor.as_bytes())
+    }
+}
+
+/// `read_method`. Names are borrowed from the text, which `FromStr` cannot do.
+impl<'a> TryFrom<&'a [u8]> for MethodDescriptor<'a> {
+    type Error = Refusal;
+
+    fn try_from(descriptor: &'a [u8]) -> Result<Self, Refusal> {
+        read_method(descriptor)
+    }
+}
+
+/// `read_method`.
+impl<'a> TryFrom<&'a str> for MethodDescriptor<'a> {
+    type Error = Refusal;
+
+    fn try_from(descriptor: &'a str) -> Result<Self, Refusal> {
+        read_method(descriptor.as_bytes())
+    }
+}
