@@ -1,6 +1,6 @@
 // Type and method descriptors of ty.rs: read from bytes, ordinary and strict.
 ghost use mathlib.Core.Path.{_≡_};
-ghost use mathlib.Core.Bool.{true, false};
+ghost use mathlib.Core.Bool.{true};
 ghost use Prim.Native.Nat.{_+_, _-_, _≤_, _<_};
 ghost use lib.Dec.{eqb, ltb};
 ghost use lib.ListN.{length, take, drop, set};
@@ -178,11 +178,11 @@ fn flat_core(k: u64, at: usize, void: bool, dims: u64) -> Core
     }
 }
 
-// The type at `at`, after `dims` brackets, so not Void. Each '[' asks for one more type from the bytes after it.
+// The type at `at`, after `dims` brackets. Each '[' asks for one more type from the bytes after it, Void no longer allowed.
 // Each call is lent the slice anew, `&s[0..]`: the compiler then keeps this function's own in registers.
-fn read_core(s: &[u8], at: usize, dims: u64) -> Core
+fn read_core(s: &[u8], at: usize, void: bool, dims: u64) -> Core
     requires { ⌜ dims ≤ 255 ⌝ }
-    ensures { λ r. ⌜ r ≡ coreOf (readType (drop at (now (s .entry))) at false dims) ⌝ }
+    ensures { λ r. ⌜ r ≡ coreOf (readType (drop at (now (s .entry))) at void dims) ⌝ }
 {
     if s.len() <= at {
         Core { what: 11, at: at }
@@ -194,46 +194,56 @@ fn read_core(s: &[u8], at: usize, dims: u64) -> Core
             if 255 <= dims {
                 Core { what: 18, at: at }
             } else {
-                read_core(&s[0..], at + 1, dims + 1)
+                read_core(&s[0..], at + 1, false, dims + 1)
             }
         } else {
-            flat_core(k, at, false, dims)
+            flat_core(k, at, void, dims)
         }
     }
 }
 
-// The same after one '[', without a call unless a class or another '[' follows.
-fn second_core(s: &[u8], at: usize) -> Core
-    ensures { λ r. ⌜ r ≡ coreOf (readType (drop at (now (s .entry))) at false 1) ⌝ }
+// The same, without a call for what follows a first '[' unless it is a class or another '['.
+fn second_core(s: &[u8], at: usize, void: bool, dims: u64) -> Core
+    requires { ⌜ dims ≤ 255 ⌝ }
+    ensures { λ r. ⌜ r ≡ coreOf (readType (drop at (now (s .entry))) at void dims) ⌝ }
 {
     if s.len() <= at {
         Core { what: 11, at: at }
     } else {
         let k = letter(s[at]);
         if k == 9 {
-            name_core(&s[0..], at, 1)
+            name_core(&s[0..], at, dims)
         } else if k == 10 {
-            read_core(&s[0..], at + 1, 2)
+            if 255 <= dims {
+                Core { what: 18, at: at }
+            } else {
+                read_core(&s[0..], at + 1, false, dims + 1)
+            }
         } else {
-            flat_core(k, at, false, 1)
+            flat_core(k, at, void, dims)
         }
     }
 }
 
 // The same from the first byte of a type on: most types have no '[' or one, and the recursion is a call that is not inlined.
-fn first_core(s: &[u8], at: usize, void: bool) -> Core
-    ensures { λ r. ⌜ r ≡ coreOf (readType (drop at (now (s .entry))) at void 0) ⌝ }
+fn first_core(s: &[u8], at: usize, void: bool, dims: u64) -> Core
+    requires { ⌜ dims ≤ 255 ⌝ }
+    ensures { λ r. ⌜ r ≡ coreOf (readType (drop at (now (s .entry))) at void dims) ⌝ }
 {
     if s.len() <= at {
         Core { what: 11, at: at }
     } else {
         let k = letter(s[at]);
         if k == 9 {
-            name_core(&s[0..], at, 0)
+            name_core(&s[0..], at, dims)
         } else if k == 10 {
-            second_core(s, at + 1)
+            if 255 <= dims {
+                Core { what: 18, at: at }
+            } else {
+                second_core(s, at + 1, false, dims + 1)
+            }
         } else {
-            flat_core(k, at, void, 0)
+            flat_core(k, at, void, dims)
         }
     }
 }
@@ -273,7 +283,7 @@ fn read_of(s: &[u8], at: usize, c: Core) -> Read
 pub fn read_type(s: &[u8], at: usize, void: bool) -> Read
     ensures { λ r. ⌜ r ≡ readType (drop at (now (s .entry))) at void 0 ⌝ }
 {
-    let c = first_core(s, at, void);
+    let c = first_core(s, at, void, 0);
     read_of(s, at, c)
 }
 
@@ -294,7 +304,7 @@ fn ended(s: &[u8], c: Core) -> Core
 fn read_last(s: &[u8], at: usize) -> Read
     ensures { λ r. ⌜ r ≡ finish (now (s .entry)) (readType (drop at (now (s .entry))) at true 0) ⌝ }
 {
-    let c = first_core(s, at, true);
+    let c = first_core(s, at, true, 0);
     let e = ended(s, c);
     read_of(s, at, e)
 }

@@ -83,31 +83,31 @@ read-core-flat-core-requires t c κs = search needs
 read-core-returns : (t : ℕ) → read-core-lts.Need-returns (claims t) (read-core-at t) read-core.Post
 read-core-returns t c =
     let a = c .before .before .args in
-    core-end (a .s .now) (a .at) false (a .dims) (c .if1 .taken)
+    core-end (a .s .now) (a .at) (a .void) (a .dims) (c .if1 .taken)
 
 read-core-returns-2 : (t : ℕ) → read-core-lts.Need-returns-2 (claims t) (read-core-at t) read-core.Post
 read-core-returns-2 t c =
     let a = c .before .before .before .before .before .before .before .args in
     c .name-core .ensures
     ∙ ap (λ (l : List ℕ). coreOf (readName (drop (a .at + 1) l) (a .at) (a .dims))) (lent-anew (a .s .now))
-    ∙ core-name (a .s .now) (a .at) false (a .dims) (c .before .before .before .before .before .if1 .left) (c .before .before .before .letter .result) (c .before .before .before .letter .ensures) (c .before .before .if2 .taken)
+    ∙ core-name (a .s .now) (a .at) (a .void) (a .dims) (c .before .before .before .before .before .if1 .left) (c .before .before .before .letter .result) (c .before .before .before .letter .ensures) (c .before .before .if2 .taken)
 
 read-core-returns-3 : (t : ℕ) → read-core-lts.Need-returns-3 (claims t) (read-core-at t) read-core.Post
 read-core-returns-3 t c =
     let a = c .before .before .before .before .before .before .before .args in
-    core-full (a .s .now) (a .at) false (a .dims) (c .before .before .before .before .before .if1 .left) (c .before .before .before .letter .result) (c .before .before .before .letter .ensures) (c .before .if3 .taken) (c .if4 .taken)
+    core-full (a .s .now) (a .at) (a .void) (a .dims) (c .before .before .before .before .before .if1 .left) (c .before .before .before .letter .result) (c .before .before .before .letter .ensures) (c .before .if3 .taken) (c .if4 .taken)
 
 read-core-returns-4 : (t : ℕ) → read-core-lts.Need-returns-4 (claims t) (read-core-at t) read-core.Post
 read-core-returns-4 t c =
     let a = c .before .before .before .before .before .before .before .before .before .args in
     c .read-core .ensures
     ∙ ap (λ (l : List ℕ). coreOf (readType (drop (a .at + 1) l) (a .at + 1) false (a .dims + 1))) (lent-anew (a .s .now))
-    ∙ core-deeper (a .s .now) (a .at) false (a .dims) (c .before .before .before .before .before .before .before .if1 .left) (c .before .before .before .before .before .letter .result) (c .before .before .before .before .before .letter .ensures) (c .before .before .before .if3 .taken) (c .before .before .if4 .left)
+    ∙ core-deeper (a .s .now) (a .at) (a .void) (a .dims) (c .before .before .before .before .before .before .before .if1 .left) (c .before .before .before .before .before .letter .result) (c .before .before .before .before .before .letter .ensures) (c .before .before .before .if3 .taken) (c .before .before .if4 .left)
 
 read-core-returns-5 : (t : ℕ) → read-core-lts.Need-returns-5 (claims t) (read-core-at t) read-core.Post
 read-core-returns-5 t c =
     let a = c .before .before .before .before .before .before .before .args in
-    c .flat-core .ensures ∙ core-flat (a .s .now) (a .at) false (a .dims) (c .before .before .before .before .before .if1 .left) (c .before .before .before .letter .result) (c .before .before .before .letter .ensures) (c .before .before .if2 .left) (c .before .if3 .left)
+    c .flat-core .ensures ∙ core-flat (a .s .now) (a .at) (a .void) (a .dims) (c .before .before .before .before .before .if1 .left) (c .before .before .before .letter .result) (c .before .before .before .letter .ensures) (c .before .before .if2 .left) (c .before .if3 .left)
 
 pub +read-core-spec : {M : Type 1} → statement M
 +read-core-spec = close μ-read-core λ t. read-core-lts.spec (claims t)

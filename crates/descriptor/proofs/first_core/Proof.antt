@@ -3,10 +3,9 @@ use borrow.Author.Needs.{needs}
 use mathlib.Core.Path.{ap, _∙_}
 use mathlib.Core.List.{List}
 use Prim.Native.Nat.{ℕ, _+_}
-use native.Mathlib.Omega.{arith}
 use lib.ListN.{drop}
 use Rattle.descriptor.specs.Read.{readName}
-use Rattle.descriptor.specs.Core.{coreOf, lent-anew, core-end, core-name, core-deeper, core-flat}
+use Rattle.descriptor.specs.Core.{coreOf, lent-anew, core-end, core-name, core-full, core-deeper, core-flat}
 use Rattle.descriptor.proofs.first_core.Statement.{statement}
 use Rattle.descriptor.proofs.first_core.Tie as tie
 
@@ -31,6 +30,9 @@ name-core-requires c κs = search needs
 add-second-core : tie.Need-add-second-core
 add-second-core c = search needs
 
+add-second-core-2 : tie.Need-add-second-core-2
+add-second-core-2 c = search needs
+
 second-core-requires : tie.Need-second-core-requires
 second-core-requires c κs = search needs
 
@@ -40,24 +42,29 @@ flat-core-requires c κs = search needs
 returns : tie.Need-returns
 returns c =
     let a = c .before .before .args in
-    core-end (a .s .now) (a .at) (a .void) 0 (c .if1 .taken)
+    core-end (a .s .now) (a .at) (a .void) (a .dims) (c .if1 .taken)
 
 returns-2 : tie.Need-returns-2
 returns-2 c =
     let a = c .before .before .before .before .before .before .before .args in
     c .name-core .ensures
-    ∙ ap (λ (l : List ℕ). coreOf (readName (drop (a .at + 1) l) (a .at) 0)) (lent-anew (a .s .now))
-    ∙ core-name (a .s .now) (a .at) (a .void) 0 (c .before .before .before .before .before .if1 .left) (c .before .before .before .letter .result) (c .before .before .before .letter .ensures) (c .before .before .if2 .taken)
+    ∙ ap (λ (l : List ℕ). coreOf (readName (drop (a .at + 1) l) (a .at) (a .dims))) (lent-anew (a .s .now))
+    ∙ core-name (a .s .now) (a .at) (a .void) (a .dims) (c .before .before .before .before .before .if1 .left) (c .before .before .before .letter .result) (c .before .before .before .letter .ensures) (c .before .before .if2 .taken)
 
 returns-3 : tie.Need-returns-3
 returns-3 c =
     let a = c .before .before .before .before .before .before .before .args in
-    c .second-core .ensures ∙ core-deeper (a .s .now) (a .at) (a .void) 0 (c .before .before .before .before .before .if1 .left) (c .before .before .before .letter .result) (c .before .before .before .letter .ensures) (c .before .if3 .taken) (omega arith)
+    core-full (a .s .now) (a .at) (a .void) (a .dims) (c .before .before .before .before .before .if1 .left) (c .before .before .before .letter .result) (c .before .before .before .letter .ensures) (c .before .if3 .taken) (c .if4 .taken)
 
 returns-4 : tie.Need-returns-4
 returns-4 c =
+    let a = c .before .before .before .before .before .before .before .before .args in
+    c .second-core .ensures ∙ core-deeper (a .s .now) (a .at) (a .void) (a .dims) (c .before .before .before .before .before .before .if1 .left) (c .before .before .before .before .letter .result) (c .before .before .before .before .letter .ensures) (c .before .before .if3 .taken) (c .before .if4 .left)
+
+returns-5 : tie.Need-returns-5
+returns-5 c =
     let a = c .before .before .before .before .before .before .before .args in
-    c .flat-core .ensures ∙ core-flat (a .s .now) (a .at) (a .void) 0 (c .before .before .before .before .before .if1 .left) (c .before .before .before .letter .result) (c .before .before .before .letter .ensures) (c .before .before .if2 .left) (c .before .if3 .left)
+    c .flat-core .ensures ∙ core-flat (a .s .now) (a .at) (a .void) (a .dims) (c .before .before .before .before .before .if1 .left) (c .before .before .before .letter .result) (c .before .before .before .letter .ensures) (c .before .before .if2 .left) (c .before .if3 .left)
 
 pub first-core-spec : {M : Type 1} → statement M
 first-core-spec =
@@ -70,9 +77,11 @@ first-core-spec =
     part-name-core-end
     name-core-requires
     add-second-core
+    add-second-core-2
     second-core-requires
     flat-core-requires
     returns
     returns-2
     returns-3
-    returns-4)
+    returns-4
+    returns-5)

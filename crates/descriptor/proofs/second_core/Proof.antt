@@ -4,10 +4,9 @@ use mathlib.Core.Path.{ap, _∙_}
 use mathlib.Core.Bool.{false}
 use mathlib.Core.List.{List}
 use Prim.Native.Nat.{ℕ, _+_}
-use native.Mathlib.Omega.{arith}
 use lib.ListN.{drop}
 use Rattle.descriptor.specs.Read.{readName, readType}
-use Rattle.descriptor.specs.Core.{coreOf, lent-anew, core-end, core-name, core-deeper, core-flat}
+use Rattle.descriptor.specs.Core.{coreOf, lent-anew, core-end, core-name, core-full, core-deeper, core-flat}
 use Rattle.descriptor.proofs.second_core.Statement.{statement}
 use Rattle.descriptor.proofs.second_core.Tie as tie
 
@@ -41,6 +40,9 @@ part-read-core-end c = search needs
 add-read-core : tie.Need-add-read-core
 add-read-core c = search needs
 
+add-read-core-2 : tie.Need-add-read-core-2
+add-read-core-2 c = search needs
+
 read-core-requires : tie.Need-read-core-requires
 read-core-requires c κs = search needs
 
@@ -50,26 +52,31 @@ flat-core-requires c κs = search needs
 returns : tie.Need-returns
 returns c =
     let a = c .before .before .args in
-    core-end (a .s .now) (a .at) false 1 (c .if1 .taken)
+    core-end (a .s .now) (a .at) (a .void) (a .dims) (c .if1 .taken)
 
 returns-2 : tie.Need-returns-2
 returns-2 c =
     let a = c .before .before .before .before .before .before .before .args in
     c .name-core .ensures
-    ∙ ap (λ (l : List ℕ). coreOf (readName (drop (a .at + 1) l) (a .at) 1)) (lent-anew (a .s .now))
-    ∙ core-name (a .s .now) (a .at) false 1 (c .before .before .before .before .before .if1 .left) (c .before .before .before .letter .result) (c .before .before .before .letter .ensures) (c .before .before .if2 .taken)
+    ∙ ap (λ (l : List ℕ). coreOf (readName (drop (a .at + 1) l) (a .at) (a .dims))) (lent-anew (a .s .now))
+    ∙ core-name (a .s .now) (a .at) (a .void) (a .dims) (c .before .before .before .before .before .if1 .left) (c .before .before .before .letter .result) (c .before .before .before .letter .ensures) (c .before .before .if2 .taken)
 
 returns-3 : tie.Need-returns-3
 returns-3 c =
-    let a = c .before .before .before .before .before .before .before .before .args in
-    c .read-core .ensures
-    ∙ ap (λ (l : List ℕ). coreOf (readType (drop (a .at + 1) l) (a .at + 1) false 2)) (lent-anew (a .s .now))
-    ∙ core-deeper (a .s .now) (a .at) false 1 (c .before .before .before .before .before .before .if1 .left) (c .before .before .before .before .letter .result) (c .before .before .before .before .letter .ensures) (c .before .before .if3 .taken) (omega arith)
+    let a = c .before .before .before .before .before .before .before .args in
+    core-full (a .s .now) (a .at) (a .void) (a .dims) (c .before .before .before .before .before .if1 .left) (c .before .before .before .letter .result) (c .before .before .before .letter .ensures) (c .before .if3 .taken) (c .if4 .taken)
 
 returns-4 : tie.Need-returns-4
 returns-4 c =
+    let a = c .before .before .before .before .before .before .before .before .before .args in
+    c .read-core .ensures
+    ∙ ap (λ (l : List ℕ). coreOf (readType (drop (a .at + 1) l) (a .at + 1) false (a .dims + 1))) (lent-anew (a .s .now))
+    ∙ core-deeper (a .s .now) (a .at) (a .void) (a .dims) (c .before .before .before .before .before .before .before .if1 .left) (c .before .before .before .before .before .letter .result) (c .before .before .before .before .before .letter .ensures) (c .before .before .before .if3 .taken) (c .before .before .if4 .left)
+
+returns-5 : tie.Need-returns-5
+returns-5 c =
     let a = c .before .before .before .before .before .before .before .args in
-    c .flat-core .ensures ∙ core-flat (a .s .now) (a .at) false 1 (c .before .before .before .before .before .if1 .left) (c .before .before .before .letter .result) (c .before .before .before .letter .ensures) (c .before .before .if2 .left) (c .before .if3 .left)
+    c .flat-core .ensures ∙ core-flat (a .s .now) (a .at) (a .void) (a .dims) (c .before .before .before .before .before .if1 .left) (c .before .before .before .letter .result) (c .before .before .before .letter .ensures) (c .before .before .if2 .left) (c .before .if3 .left)
 
 pub second-core-spec : {M : Type 1} → statement M
 second-core-spec =
@@ -85,9 +92,11 @@ second-core-spec =
     part-read-core-start
     part-read-core-end
     add-read-core
+    add-read-core-2
     read-core-requires
     flat-core-requires
     returns
     returns-2
     returns-3
-    returns-4)
+    returns-4
+    returns-5)
