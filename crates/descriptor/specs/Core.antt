@@ -22,29 +22,28 @@ coreOf (Found d (Simple k) next) = record { what = 256 + k + 1024 * d; at = next
 coreOf (Found d (Class p n) next) = record { what = 265 + 1024 * d; at = next }
 coreOf (Refused code o byte) = record { what = code; at = o }
 
--- the type whose core these two words are, read from `at` on after `dims` brackets
-abbrev pub unCore : List ℕ → ℕ → ℕ → Core → Read
-unCore s at dims c =
+-- the type whose core these two words are, read from `at` on
+abbrev pub unCore : List ℕ → ℕ → Core → Read
+unCore s at c =
     pickR (ltb (c .what) 256) (Refused (c .what) (c .at) (byteIf (eqb (c .what) 12) (getD s (c .at) 0)))
     (pickR (ltb (c .what % 256) 9) (Found (c .what / 1024) (Simple (c .what % 256)) (c .at)) (Found (c .what / 1024) (Class from (c .at - from - 1)) (c .at)))
   where
     from : ℕ
-    from = at + (c .what / 1024 - dims) + 1
+    from = at + c .what / 1024 + 1
 
 -- what a core has to keep for its type to be made from it
-pub record Sound (s : List ℕ) (at dims : ℕ) (c : Core) : Type 0 where
+pub record Sound (s : List ℕ) (at : ℕ) (c : Core) : Type 0 where
   pub inside : c .what ≡ 12 → c .at < length s
-  pub deeper : 256 ≤ c .what → dims ≤ c .what / 1024
-  pub name : 256 ≤ c .what → 9 ≤ c .what % 256 → at + (c .what / 1024 - dims) + 2 ≤ c .at
+  pub name : 256 ≤ c .what → 9 ≤ c .what % 256 → at + c .what / 1024 + 2 ≤ c .at
   pub within : 256 ≤ c .what → c .at ≤ length s
 
--- what a core tells of the type read from `at` on after `dims` brackets: all of it
-pub record CoreTells (s : List ℕ) (at dims : ℕ) (c : Core) (r : Read) : Type 0 where
-  pub whole : r ≡ unCore s at dims c
-  pub sound : Sound s at dims c
+-- what a core tells of the type read from `at` on: all of it
+pub record CoreTells (s : List ℕ) (at : ℕ) (c : Core) (r : Read) : Type 0 where
+  pub whole : r ≡ unCore s at c
+  pub sound : Sound s at c
 
-module _ (s : List ℕ) (at dims : ℕ) where
-  told : (r : Read) → Tells s at dims r → CoreTells s at dims (coreOf r) r
+module _ (s : List ℕ) (at : ℕ) where
+  told : (r : Read) → Tells s at 0 r → CoreTells s at (coreOf r) r
   told (Found d (Simple k) next) h =
       let w = 256 + k + 1024 * d in
       let m = h .made in
@@ -52,30 +51,30 @@ module _ (s : List ℕ) (at dims : ℕ) where
       let i : w % 256 ≡ k = omega arith in
       record {
         whole = rw (le-ltb w 256 (omega arith), lt-ltb (w % 256) 9 (omega arith), q, i);
-        sound = record { inside = λ e. absurd (omega arith); deeper = λ l. omega arith; name = λ l n. absurd (omega arith); within = λ l. h .within };
+        sound = record { inside = λ e. absurd (omega arith); name = λ l n. absurd (omega arith); within = λ l. h .within };
       }
   told (Found d (Class p n) next) h =
       let w = 265 + 1024 * d in
       let b = h .behind in
       let e = h .made .ends in
       let q : w / 1024 ≡ d = omega arith in
-      let f : at + (d - dims) + 1 ≡ p = omega arith in
+      let f : at + d + 1 ≡ p = omega arith in
       let g : next - p - 1 ≡ n = omega arith in
       record {
         whole = rw (le-ltb w 256 (omega arith), le-ltb (w % 256) 9 (omega arith), q, f, g);
-        sound = record { inside = λ e. absurd (omega arith); deeper = λ l. omega arith; name = λ l n. omega arith; within = λ l. h .within };
+        sound = record { inside = λ e. absurd (omega arith); name = λ l n. omega arith; within = λ l. h .within };
       }
   told (Refused code o byte) h =
       record {
         whole = rw (lt-ltb code 256 (omega arith)) (ap (Refused code o) (h .names));
-        sound = record { inside = h .inside; deeper = λ l. absurd (omega arith); name = λ l n. absurd (omega arith); within = λ l. absurd (omega arith) };
+        sound = record { inside = h .inside; name = λ l n. absurd (omega arith); within = λ l. absurd (omega arith) };
       }
 
   -- A TYPE IS ALL IN ITS CORE
-  pub core-tells : (void : Bool) → dims ≤ 255 → (c : Core) → c ≡ coreOf (readType (drop at s) at void dims) → CoreTells s at dims c (readType (drop at s) at void dims)
-  core-tells void l c e =
-      let r = readType (drop at s) at void dims in
-      subst (λ (x : Core). CoreTells s at dims x r) (sym e) (told r (read-tells s at void dims l))
+  pub core-tells : (void : Bool) (c : Core) → c ≡ coreOf (readType (drop at s) at void 0) → CoreTells s at c (readType (drop at s) at void 0)
+  core-tells void c e =
+      let r = readType (drop at s) at void 0 in
+      subst (λ (x : Core). CoreTells s at x r) (sym e) (told r (read-tells s at void))
 
 -- ---- the end of the bytes, at a core
 
@@ -87,9 +86,9 @@ pickC false a b = b
 abbrev pub endedOf : ℕ → Core → Core
 endedOf n c = pickC (ltb (c .what) 256) c (pickC (eqb (c .at) n) c (record { what = 15; at = c .at }))
 
-ended-core : (s : List ℕ) (at dims : ℕ) (r : Read) → Tells s at dims r → endedOf (length s) (coreOf r) ≡ coreOf (finish s r)
+ended-core : (s : List ℕ) (at : ℕ) (r : Read) → Tells s at 0 r → endedOf (length s) (coreOf r) ≡ coreOf (finish s r)
 unfolding finish
-ended-core s at dims (Found d (Simple k) next) h = rw (le-ltb (256 + k + 1024 * d) 256 (omega arith)) (go (eqb next (length s)))
+ended-core s at (Found d (Simple k) next) h = rw (le-ltb (256 + k + 1024 * d) 256 (omega arith)) (go (eqb next (length s)))
   where
     c : Core
     c = record { what = 256 + k + 1024 * d; at = next }
@@ -97,7 +96,7 @@ ended-core s at dims (Found d (Simple k) next) h = rw (le-ltb (256 + k + 1024 * 
     go : (t : Bool) → pickC t c (record { what = 15; at = next }) ≡ coreOf (pickR t (Found d (Simple k) next) (Refused 15 next 0))
     go true = refl
     go false = refl
-ended-core s at dims (Found d (Class p n) next) h = rw (le-ltb (265 + 1024 * d) 256 (omega arith)) (go (eqb next (length s)))
+ended-core s at (Found d (Class p n) next) h = rw (le-ltb (265 + 1024 * d) 256 (omega arith)) (go (eqb next (length s)))
   where
     c : Core
     c = record { what = 265 + 1024 * d; at = next }
@@ -105,14 +104,14 @@ ended-core s at dims (Found d (Class p n) next) h = rw (le-ltb (265 + 1024 * d) 
     go : (t : Bool) → pickC t c (record { what = 15; at = next }) ≡ coreOf (pickR t (Found d (Class p n) next) (Refused 15 next 0))
     go true = refl
     go false = refl
-ended-core s at dims (Refused code o byte) h = rw (lt-ltb code 256 (omega arith))
+ended-core s at (Refused code o byte) h = rw (lt-ltb code 256 (omega arith))
 
 pub ended-tells : (s : List ℕ) (at : ℕ) (c e : Core) → c ≡ coreOf (readType (drop at s) at true 0) → e ≡ endedOf (length s) c
-    → CoreTells s at 0 e (finish s (readType (drop at s) at true 0))
+    → CoreTells s at e (finish s (readType (drop at s) at true 0))
 ended-tells s at c e f g =
     let r = readType (drop at s) at true 0 in
-    let h = read-tells s at true 0 (omega arith) in
-    subst (λ (x : Core). CoreTells s at 0 x (finish s r)) (sym (g ∙ ap (endedOf (length s)) f ∙ ended-core s at 0 r h)) (told s at 0 (finish s r) (finish-tells s at 0 r h))
+    let h = read-tells s at true in
+    subst (λ (x : Core). CoreTells s at x (finish s r)) (sym (g ∙ ap (endedOf (length s)) f ∙ ended-core s at r h)) (told s at (finish s r) (finish-tells s at 0 r h))
 
 -- ---- one step of reading a core, by the letter k of the byte at an offset
 

@@ -141,8 +141,8 @@ module _ (s : List ℕ) where
           (choose-tells at dims h l (letterOf (getD s at 0)) void inner f)
 
   -- what is told of the type at an offset
-  pub read-tells : (at : ℕ) (void : Bool) (dims : ℕ) → dims ≤ 255 → Tells s at dims (readType (drop at s) at void dims)
-  read-tells at void dims l = turns-tell (length s) at void dims (omega arith) l
+  pub read-tells : (at : ℕ) (void : Bool) → Tells s at 0 (readType (drop at s) at void 0)
+  read-tells at void = turns-tell (length s) at void 0 (omega arith) (omega arith)
 
   -- what is refused after a type
   pub finish-tells : (at dims : ℕ) (r : Read) → Tells s at dims r → Tells s at dims (finish s r)
@@ -164,17 +164,16 @@ module _ (s : List ℕ) where
   tells-placed at dims (Found d (Class p n) next) h = (let a = h .made .after in omega arith, let w = h .made .within in omega arith)
   tells-placed at dims (Refused code o byte) h = tt
 
-  pub read-placed : (at : ℕ) (void : Bool) (dims : ℕ) → dims ≤ 255 → Placed (length s) (readType (drop at s) at void dims)
-  read-placed at void dims l = tells-placed at dims (readType (drop at s) at void dims) (read-tells at void dims l)
+  pub read-placed : (at : ℕ) (void : Bool) → Placed (length s) (readType (drop at s) at void 0)
+  read-placed at void = tells-placed at 0 (readType (drop at s) at void 0) (read-tells at void)
 
   pub finish-placed : (at : ℕ) (void : Bool) → Placed (length s) (finish s (readType (drop at s) at void 0))
   finish-placed at void =
-      let t = readType (drop at s) at void 0 in tells-placed at 0 (finish s t) (finish-tells at 0 t (read-tells at void 0 (omega arith)))
+      let t = readType (drop at s) at void 0 in tells-placed at 0 (finish s t) (finish-tells at 0 t (read-tells at void))
 
   -- what a type found tells, of an answer that is known to be the type at an offset
-  pub found-tells : (at : ℕ) (void : Bool) (dims d : ℕ) (base : Base) (next : ℕ) → dims ≤ 255
-      → readType (drop at s) at void dims ≡ Found d base next → FoundTells s at dims d base next
-  found-tells at void dims d base next l e = subst (Tells s at dims) e (read-tells at void dims l)
+  pub found-tells : (at : ℕ) (void : Bool) (d : ℕ) (base : Base) (next : ℕ) → readType (drop at s) at void 0 ≡ Found d base next → FoundTells s at 0 d base next
+  found-tells at void d base next e = subst (Tells s at 0) e (read-tells at void)
 
 -- ---- the first ';'
 

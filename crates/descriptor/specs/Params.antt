@@ -38,7 +38,7 @@ turns-same (suc t) (suc u) s at count h k = go (leb (length s) at) refl (λ next
     go true e f = rw e
     go false e f =
         ap (λ (p : Params). pickP (leb (length s) at) (Stopped 17 at 0) (pickP (eqb (getD s at 0) 41) (Listed [] at) (pickP (leb 255 count) (Stopped 19 at 0) p)))
-        (onward-same s at (λ next. readParams t s next (count + 1)) (λ next. readParams u s next (count + 1)) (readType (drop at s) at false 0) (read-tells s at false 0 (omega arith)) f)
+        (onward-same s at (λ next. readParams t s next (count + 1)) (λ next. readParams u s next (count + 1)) (readType (drop at s) at false 0) (read-tells s at false) f)
 
 module _ (s : List ℕ) (at count : ℕ) where
   params-end : length s ≤ at → paramsAt s at count ≡ Stopped 17 at 0
@@ -56,7 +56,7 @@ module _ (s : List ℕ) (at count : ℕ) where
       ∙ ap (λ (b : Bool). pickP b (Stopped 17 at 0) (pickP (eqb (getD s at 0) 41) (Listed [] at) (pickP (leb 255 count) (Stopped 19 at 0) (onward at (λ next. readParams (length s - (at + 1)) s next (count + 1)) (readType (drop at s) at false 0)))))
       (lt-leb (length s) at h)
       ∙ ap (λ (p : Params). pickP (eqb (getD s at 0) 41) (Listed [] at) (pickP (leb 255 count) (Stopped 19 at 0) p))
-      (onward-same s at (λ next. readParams (length s - (at + 1)) s next (count + 1)) (λ next. paramsAt s next (count + 1)) (readType (drop at s) at false 0) (read-tells s at false 0 (omega arith))
+      (onward-same s at (λ next. readParams (length s - (at + 1)) s next (count + 1)) (λ next. paramsAt s next (count + 1)) (readType (drop at s) at false 0) (read-tells s at false)
       (λ next i. turns-same (length s - (at + 1)) (length s - next) s next (count + 1) (omega arith) (omega arith)))
 
 -- ---- a method from a parameter on
@@ -118,7 +118,7 @@ strict-bad s at dims d (Class p n) next l h = go (strictName (take n (drop p s))
 
 module _ (s : List ℕ) (at d : ℕ) (base : Base) (next : ℕ) (t : Read) (r : t ≡ readType (drop at s) at false 0) (f : t ≡ Found d base next) where
   type-tells : Tells s at 0 (Found d base next)
-  type-tells = subst (Tells s at 0) (sym r ∙ f) (read-tells s at false 0 (omega arith))
+  type-tells = subst (Tells s at 0) (sym r ∙ f) (read-tells s at false)
 
   strict-more : (offsets : List ℕ) (o : ℕ) (result x q : Read) → strictly s t ≡ x → BadAt x → strictly s result ≡ q
       → strictMethod s (Whole (at ∷ offsets) o result) ≡ also at (judgedAll s true (firstBad s true 0 t) (Whole offsets o result))
@@ -257,12 +257,12 @@ proper-params (suc turns) s at count =
     either-params (leb (length s) at) _ _ (λ z. omega arith)
     (either-params (eqb (getD s at 0) 41) _ _ tt
     (either-params (leb 255 count) _ _ (λ z. omega arith)
-    (proper-onward s at (λ next. readParams turns s next (count + 1)) (readType (drop at s) at false 0) (read-tells s at false 0 (omega arith)) (λ next. proper-params turns s next (count + 1)))))
+    (proper-onward s at (λ next. readParams turns s next (count + 1)) (readType (drop at s) at false 0) (read-tells s at false) (λ next. proper-params turns s next (count + 1)))))
 
 proper-after : (s : List ℕ) (p : Params) → ProperParams p → Proper (afterParams s p)
 unfolding afterParams returns
 proper-after s (Listed offsets close) h =
-    go (finish s (readType (drop (close + 1) s) (close + 1) true 0)) (finish-tells s (close + 1) 0 _ (read-tells s (close + 1) true 0 (omega arith)))
+    go (finish s (readType (drop (close + 1) s) (close + 1) true 0)) (finish-tells s (close + 1) 0 _ (read-tells s (close + 1) true))
   where
     go : (r : Read) → Tells s (close + 1) 0 r → Proper (returns s offsets close r)
     go (Found d base next) h = tt
@@ -273,7 +273,7 @@ proper-strict : (s : List ℕ) (offsets : List ℕ) (m : Method) → Proper m �
 unfolding strictParams
 proper-strict s [] m h = h
 proper-strict s (o ∷ offsets) m h =
-    go (strictly s (readType (drop o s) o false 0)) refl (strictly-tells s o 0 _ (read-tells s o false 0 (omega arith))) (proper-strict s offsets m h)
+    go (strictly s (readType (drop o s) o false 0)) refl (strictly-tells s o 0 _ (read-tells s o false)) (proper-strict s offsets m h)
   where
     go : (r : Read) → strictly s (readType (drop o s) o false 0) ≡ r → Tells s o 0 r → Proper (strictParams s offsets m) → Proper (strictParams s (o ∷ offsets) m)
     go (Found d base next) e t q = rw e q

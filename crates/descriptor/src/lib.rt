@@ -248,10 +248,10 @@ fn first_core(s: &[u8], at: usize, void: bool, dims: u64) -> Core
     }
 }
 
-// The type that a core stands for, read from `at` on after `dims` brackets.
-fn read_of(s: &[u8], at: usize, dims: u64, c: Core) -> Read
-    requires { ⌜ Sound (now s) at dims c ⌝ }
-    ensures { λ r. ⌜ r ≡ unCore (now (s .entry)) at dims c ⌝ }
+// The type that a core stands for, read from `at` on.
+fn read_of(s: &[u8], at: usize, c: Core) -> Read
+    requires { ⌜ Sound (now s) at c ⌝ }
+    ensures { λ r. ⌜ r ≡ unCore (now (s .entry)) at c ⌝ }
 {
     let what = c.what;
     let next = c.at;
@@ -269,7 +269,7 @@ fn read_of(s: &[u8], at: usize, dims: u64, c: Core) -> Read
                 next: next,
             }
         } else {
-            let from = at + (found - dims) as usize + 1;
+            let from = at + found as usize + 1;
             Read::Found {
                 dims: found,
                 base: Base::Class(from, next - from - 1),
@@ -279,13 +279,12 @@ fn read_of(s: &[u8], at: usize, dims: u64, c: Core) -> Read
     }
 }
 
-// The type at `at`, after `dims` brackets.
-pub fn read_type(s: &[u8], at: usize, void: bool, dims: u64) -> Read
-    requires { ⌜ dims ≤ 255 ⌝ }
-    ensures { λ r. ⌜ r ≡ readType (drop at (now (s .entry))) at void dims ⌝ }
+// The type at `at`.
+pub fn read_type(s: &[u8], at: usize, void: bool) -> Read
+    ensures { λ r. ⌜ r ≡ readType (drop at (now (s .entry))) at void 0 ⌝ }
 {
-    let c = first_core(s, at, void, dims);
-    read_of(s, at, dims, c)
+    let c = first_core(s, at, void, 0);
+    read_of(s, at, c)
 }
 
 // A type has to end where the bytes do.
@@ -307,7 +306,7 @@ fn read_last(s: &[u8], at: usize) -> Read
 {
     let c = first_core(s, at, true, 0);
     let e = ended(s, c);
-    read_of(s, at, 0, e)
+    read_of(s, at, e)
 }
 
 // ArgType::from_str.
@@ -497,7 +496,7 @@ fn read_params(
     if 255 <= count {
         return refused(19, at, 0);
     }
-    let t = read_type(s, at, false, 0);
+    let t = read_type(s, at, false);
     match t {
         Read::Found { next, .. } => {
             let worse = first_bad(s, strict, bad, t);

@@ -34,11 +34,11 @@ same p q b n e f = λ i. record { bytes = (e .0 ∙ sym (f .0)) i; offset = (e .
 module _ {M : Type 1} (𝓤 : URA M) (H : Heap 𝓤) (A : Atoms 𝓤) (mem : Memory → SProp 𝓤) (run : Routine → Fun 𝓤) (κs : Lfts 1) where
   pub new-one : (a : Args new.signature κs) (r₁ r₂ : Res new.signature κs) (x₁ x₂ : AtExit new.ended κs)
       → ent 𝓤 (conj 𝓤 (new.clauses 𝓤 H A mem run κs a .ensures tt r₁ x₁) (new.clauses 𝓤 H A mem run κs a .ensures tt r₂ x₂)) (fact 𝓤 (r₁ ≡ r₂))
-  new-one a r₁ r₂ x₁ x₂ = both 𝓤 _ _ r₁ r₂ (same r₁ r₂ (a .0) 0)
+  new-one a r₁ r₂ x₁ x₂ = both 𝓤 _ _ r₁ r₂ (same r₁ r₂ _ _)
 
   pub moved-one : (a : Args moved.signature κs) (r₁ r₂ : Res moved.signature κs) (x₁ x₂ : AtExit moved.ended κs)
       → ent 𝓤 (conj 𝓤 (moved.clauses 𝓤 H A mem run κs a .ensures tt r₁ x₁) (moved.clauses 𝓤 H A mem run κs a .ensures tt r₂ x₂)) (fact 𝓤 (r₁ ≡ r₂))
-  moved-one a r₁ r₂ x₁ x₂ = both 𝓤 _ _ r₁ r₂ (same r₁ r₂ (a .0 .bytes) (a .1 .0))
+  moved-one a r₁ r₂ x₁ x₂ = both 𝓤 _ _ r₁ r₂ (same r₁ r₂ _ _)
 
   pub peek-one : (a : Args peek.signature κs) (r₁ r₂ : Res peek.signature κs) (x₁ x₂ : AtExit peek.ended κs)
       → ent 𝓤 (conj 𝓤 (peek.clauses 𝓤 H A mem run κs a .ensures tt r₁ x₁) (peek.clauses 𝓤 H A mem run κs a .ensures tt r₂ x₂)) (fact 𝓤 (r₁ ≡ r₂))

@@ -44,7 +44,7 @@ fn consume_at(s: &[u8], at: usize, b: u8) -> usize
 fn type_at(s: &[u8], at: usize, void: bool) -> Read
     ensures { λ r. ⌜ r ≡ readType (drop at (now (s .entry))) at void 0 ⌝ }
 {
-    descriptor::read_type(s, at, void, 0)
+    descriptor::read_type(s, at, void)
 }
 
 // Refusal 15 where bytes are left.

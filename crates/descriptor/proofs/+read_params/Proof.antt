@@ -92,7 +92,7 @@ read-params-first-bad-requires : (t : ℕ) → read-params-lts.Need-first-bad-re
 read-params-first-bad-requires t c κs =
     let a = c .before .before .before .before .before .before .before .before .before .before .args in
     let r = c .before .before .before .read-type in
-    subst (Placed (length (a .s .now))) (sym (r .ensures) ∙ c .before .t .given .1) (read-placed (a .s .now) (a .at) false 0 (omega arith))
+    subst (Placed (length (a .s .now))) (sym (r .ensures) ∙ c .before .t .given .1) (read-placed (a .s .now) (a .at) false)
 
 read-params-sub-read-params : (t : ℕ) → read-params-lts.Need-sub-read-params (claims t) (read-params-at t) read-params.Post
 read-params-sub-read-params t c = search needs
@@ -112,7 +112,7 @@ read-params-read-params-requires t c κs =
     let p = c .before .before .before .before .before .before .before .before .before .before .before .before .before .pre in
     let l = c .before .before .before .before .before .before .before .if3 .left in
     let i = c .before .before .before .before .before .before .before .before .before .before .if1 .left in
-    let f = found-tells (a .s .now) (a .at) false 0 _ _ _ (omega arith) (sym (c .before .before .before .before .before .before .read-type .ensures) ∙ c .before .before .before .before .t .given .1) .forward in
+    let f = found-tells (a .s .now) (a .at) false _ _ _ (sym (c .before .before .before .before .before .before .read-type .ensures) ∙ c .before .before .before .before .t .given .1) .forward in
     let e = ap length (lent-anew (a .s .now)) in
     (let q : length (take (length (a .s .now) - 0) (drop 0 (a .s .now))) - c .before .before .before .before .t .given .0 .1 .1 .0 < t = omega arith in q, (p .1 .0, omega arith, omega arith))
 

@@ -19,14 +19,10 @@ refuse-requires c κs = search needs
 refuse-requires-2 : tie.Need-refuse-requires-2
 refuse-requires-2 c κs = search needs
 
-sub-from : tie.Need-sub-from
-sub-from c = c .before .before .before .before .pre .deeper (c .before .if2 .left)
-
 add-from : tie.Need-add-from
 add-from c =
     let p = c .before .before .before .before .pre in
     let n = p .name (c .before .if2 .left) (c .if3 .left) in
-    let d = p .deeper (c .before .if2 .left) in
     let w = p .within (c .before .if2 .left) in
     omega arith
 
@@ -34,23 +30,20 @@ add-from-2 : tie.Need-add-from-2
 add-from-2 c =
     let p = c .before .before .before .before .pre in
     let n = p .name (c .before .if2 .left) (c .if3 .left) in
-    let d = p .deeper (c .before .if2 .left) in
     let w = p .within (c .before .if2 .left) in
     omega arith
 
-sub-t21 : tie.Need-sub-t21
-sub-t21 c =
+sub-t19 : tie.Need-sub-t19
+sub-t19 c =
     let p = c .before .before .before .before .pre in
     let n = p .name (c .before .if2 .left) (c .if3 .left) in
-    let d = p .deeper (c .before .if2 .left) in
     let w = p .within (c .before .if2 .left) in
     omega arith
 
-sub-t22 : tie.Need-sub-t22
-sub-t22 c =
+sub-t20 : tie.Need-sub-t20
+sub-t20 c =
     let p = c .before .before .before .before .pre in
     let n = p .name (c .before .if2 .left) (c .if3 .left) in
-    let d = p .deeper (c .before .if2 .left) in
     let w = p .within (c .before .if2 .left) in
     omega arith
 
@@ -76,11 +69,10 @@ read-of-spec =
     wide-requires
     refuse-requires
     refuse-requires-2
-    sub-from
     add-from
     add-from-2
-    sub-t21
-    sub-t22
+    sub-t19
+    sub-t20
     returns
     returns-2
     returns-3

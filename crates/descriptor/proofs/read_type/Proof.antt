@@ -12,14 +12,13 @@ read-of-requires : tie.Need-read-of-requires
 read-of-requires c κs =
     let a = c .before .before .args in
     let k = c .first-core in
-    core-tells (a .s .now) (a .at) (a .dims) (a .void) (c .before .before .pre) (k .result) (k .ensures) .sound
+    core-tells (a .s .now) (a .at) (a .void) (k .result) (k .ensures) .sound
 
 returns : tie.Need-returns
 returns c =
     let a = c .before .before .before .args in
     let k = c .before .first-core in
-    c .read-of .ensures
-    ∙ sym (core-tells (a .s .now) (a .at) (a .dims) (a .void) (c .before .before .before .pre) (k .result) (k .ensures) .whole)
+    c .read-of .ensures ∙ sym (core-tells (a .s .now) (a .at) (a .void) (k .result) (k .ensures) .whole)
 
 pub read-type-spec : {M : Type 1} → statement M
 read-type-spec = tie.close (tie.spec first-core-requires read-of-requires returns)
