@@ -202,30 +202,7 @@ fn read_core(s: &[u8], at: usize, void: bool, dims: u64) -> Core
     }
 }
 
-// The same, without a call for what follows a first '[' unless it is a class or another '['.
-fn second_core(s: &[u8], at: usize, void: bool, dims: u64) -> Core
-    requires { ⌜ dims ≤ 255 ⌝ }
-    ensures { λ r. ⌜ r ≡ coreOf (readType (drop at (now (s .entry))) at void dims) ⌝ }
-{
-    if s.len() <= at {
-        Core { what: 11, at: at }
-    } else {
-        let k = letter(s[at]);
-        if k == 9 {
-            name_core(&s[0..], at, dims)
-        } else if k == 10 {
-            if 255 <= dims {
-                Core { what: 18, at: at }
-            } else {
-                read_core(&s[0..], at + 1, false, dims + 1)
-            }
-        } else {
-            flat_core(k, at, void, dims)
-        }
-    }
-}
-
-// The same from the first byte of a type on: most types have no '[' or one, and the recursion is a call that is not inlined.
+// The same, for the first byte of a type: most types have no '[', and the recursion is a call that is not inlined.
 fn first_core(s: &[u8], at: usize, void: bool, dims: u64) -> Core
     requires { ⌜ dims ≤ 255 ⌝ }
     ensures { λ r. ⌜ r ≡ coreOf (readType (drop at (now (s .entry))) at void dims) ⌝ }
@@ -240,7 +217,7 @@ fn first_core(s: &[u8], at: usize, void: bool, dims: u64) -> Core
             if 255 <= dims {
                 Core { what: 18, at: at }
             } else {
-                second_core(s, at + 1, false, dims + 1)
+                read_core(&s[0..], at + 1, false, dims + 1)
             }
         } else {
             flat_core(k, at, void, dims)

@@ -1,10 +1,11 @@
 -- Each way out is a step of reading a core, by the letter of the first byte. Assumes nothing.
 use borrow.Author.Needs.{needs}
 use mathlib.Core.Path.{ap, _∙_}
+use mathlib.Core.Bool.{false}
 use mathlib.Core.List.{List}
 use Prim.Native.Nat.{ℕ, _+_}
 use lib.ListN.{drop}
-use Rattle.descriptor.specs.Read.{readName}
+use Rattle.descriptor.specs.Read.{readName, readType}
 use Rattle.descriptor.specs.Core.{coreOf, lent-anew, core-end, core-name, core-full, core-deeper, core-flat}
 use Rattle.descriptor.proofs.first_core.Statement.{statement}
 use Rattle.descriptor.proofs.first_core.Tie as tie
@@ -27,14 +28,23 @@ part-name-core-end c = search needs
 name-core-requires : tie.Need-name-core-requires
 name-core-requires c κs = search needs
 
-add-second-core : tie.Need-add-second-core
-add-second-core c = search needs
+sub-read-core : tie.Need-sub-read-core
+sub-read-core c = search needs
 
-add-second-core-2 : tie.Need-add-second-core-2
-add-second-core-2 c = search needs
+part-read-core-start : tie.Need-part-read-core-start
+part-read-core-start c = search needs
 
-second-core-requires : tie.Need-second-core-requires
-second-core-requires c κs = search needs
+part-read-core-end : tie.Need-part-read-core-end
+part-read-core-end c = search needs
+
+add-read-core : tie.Need-add-read-core
+add-read-core c = search needs
+
+add-read-core-2 : tie.Need-add-read-core-2
+add-read-core-2 c = search needs
+
+read-core-requires : tie.Need-read-core-requires
+read-core-requires c κs = search needs
 
 flat-core-requires : tie.Need-flat-core-requires
 flat-core-requires c κs = search needs
@@ -58,8 +68,10 @@ returns-3 c =
 
 returns-4 : tie.Need-returns-4
 returns-4 c =
-    let a = c .before .before .before .before .before .before .before .before .args in
-    c .second-core .ensures ∙ core-deeper (a .s .now) (a .at) (a .void) (a .dims) (c .before .before .before .before .before .before .if1 .left) (c .before .before .before .before .letter .result) (c .before .before .before .before .letter .ensures) (c .before .before .if3 .taken) (c .before .if4 .left)
+    let a = c .before .before .before .before .before .before .before .before .before .args in
+    c .read-core .ensures
+    ∙ ap (λ (l : List ℕ). coreOf (readType (drop (a .at + 1) l) (a .at + 1) false (a .dims + 1))) (lent-anew (a .s .now))
+    ∙ core-deeper (a .s .now) (a .at) (a .void) (a .dims) (c .before .before .before .before .before .before .before .if1 .left) (c .before .before .before .before .before .letter .result) (c .before .before .before .before .before .letter .ensures) (c .before .before .before .if3 .taken) (c .before .before .if4 .left)
 
 returns-5 : tie.Need-returns-5
 returns-5 c =
@@ -76,9 +88,12 @@ first-core-spec =
     part-name-core-start
     part-name-core-end
     name-core-requires
-    add-second-core
-    add-second-core-2
-    second-core-requires
+    sub-read-core
+    part-read-core-start
+    part-read-core-end
+    add-read-core
+    add-read-core-2
+    read-core-requires
     flat-core-requires
     returns
     returns-2
