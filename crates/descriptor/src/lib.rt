@@ -202,29 +202,6 @@ fn read_core(s: &[u8], at: usize, void: bool, dims: u64) -> Core
     }
 }
 
-// The same, for the first byte of a type: most types have no '[', and the recursion is a call that is not inlined.
-fn first_core(s: &[u8], at: usize, void: bool, dims: u64) -> Core
-    requires { ⌜ dims ≤ 255 ⌝ }
-    ensures { λ r. ⌜ r ≡ coreOf (readType (drop at (now (s .entry))) at void dims) ⌝ }
-{
-    if s.len() <= at {
-        Core { what: 11, at: at }
-    } else {
-        let k = letter(s[at]);
-        if k == 9 {
-            name_core(&s[0..], at, dims)
-        } else if k == 10 {
-            if 255 <= dims {
-                Core { what: 18, at: at }
-            } else {
-                read_core(&s[0..], at + 1, false, dims + 1)
-            }
-        } else {
-            flat_core(k, at, void, dims)
-        }
-    }
-}
-
 // The type that a core stands for, read from `at` on.
 fn read_of(s: &[u8], at: usize, c: Core) -> Read
     requires { ⌜ Sound (now s) at c ⌝ }
@@ -260,7 +237,7 @@ fn read_of(s: &[u8], at: usize, c: Core) -> Read
 pub fn read_type(s: &[u8], at: usize, void: bool) -> Read
     ensures { λ r. ⌜ r ≡ readType (drop at (now (s .entry))) at void 0 ⌝ }
 {
-    let c = first_core(s, at, void, 0);
+    let c = read_core(s, at, void, 0);
     read_of(s, at, c)
 }
 
@@ -281,7 +258,7 @@ fn ended(s: &[u8], c: Core) -> Core
 fn read_last(s: &[u8], at: usize) -> Read
     ensures { λ r. ⌜ r ≡ finish (now (s .entry)) (readType (drop at (now (s .entry))) at true 0) ⌝ }
 {
-    let c = first_core(s, at, true, 0);
+    let c = read_core(s, at, true, 0);
     let e = ended(s, c);
     read_of(s, at, e)
 }

@@ -5,8 +5,8 @@ use Rattle.descriptor.specs.Core.{ended-tells}
 use Rattle.descriptor.proofs.read_last.Statement.{statement}
 use Rattle.descriptor.proofs.read_last.Tie as tie
 
-first-core-requires : tie.Need-first-core-requires
-first-core-requires c κs = search needs
+read-core-requires : tie.Need-read-core-requires
+read-core-requires c κs = search needs
 
 ended-requires : tie.Need-ended-requires
 ended-requires c κs = search needs
@@ -14,15 +14,15 @@ ended-requires c κs = search needs
 read-of-requires : tie.Need-read-of-requires
 read-of-requires c κs =
     let a = c .before .before .before .args in
-    let k = c .before .first-core in
+    let k = c .before .read-core in
     ended-tells (a .s .now) (a .at) (k .result) (c .ended .result) (k .ensures) (c .ended .ensures) .sound
 
 returns : tie.Need-returns
 returns c =
     let a = c .before .before .before .before .args in
-    let k = c .before .before .first-core in
+    let k = c .before .before .read-core in
     let e = c .before .ended in
     c .read-of .ensures ∙ sym (ended-tells (a .s .now) (a .at) (k .result) (e .result) (k .ensures) (e .ensures) .whole)
 
 pub read-last-spec : {M : Type 1} → statement M
-read-last-spec = tie.close (tie.spec first-core-requires ended-requires read-of-requires returns)
+read-last-spec = tie.close (tie.spec read-core-requires ended-requires read-of-requires returns)
