@@ -1,7 +1,7 @@
 -- The type word: two hex digits of dimensions, two of tag, twelve of payload. Which words are legal, what type a word
 -- stands for, and the word of a type. Assumes nothing.
 use mathlib.Core.Path.{_≡_}
-use mathlib.Core.Bool.{Bool, true, false, not}
+use mathlib.Core.Bool.{Bool, true, false, not, _&&_}
 use mathlib.Core.List.{List, [], _∷_}
 use Prim.Native.Nat.{ℕ, zero, suc, _+_, _*_, _/_, _%_, _^_}
 use lib.Dec.{eqb, leb, ltb}
@@ -69,6 +69,11 @@ legalBase names tag load =
 
 unfoldable pub legalWord : ℕ → ℕ → Bool
 legalWord names w = legalBase names (tagOf w) (loadOf w)
+
+-- the same of each word of a list
+unfoldable pub allLegal : ℕ → List ℕ → Bool
+allLegal names [] = true
+allLegal names (w ∷ ws) = legalWord names w && allLegal names ws
 
 -- whether a type is within the limits: categories up to 10 and none twice in a list, classes that are names, 255 dimensions
 unfoldable pub distinct : List ℕ → Bool

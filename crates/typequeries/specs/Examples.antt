@@ -3,7 +3,7 @@
 use mathlib.Core.Path.{_≡_, refl}
 use mathlib.Core.List.{[], _∷_}
 use Rattle.ty.specs.Types.{arrays, elem as listed, compareNumbers, compareLists, compare, categories}
-use Rattle.ty.specs.Words.{unpack, pack, listOf, goodDigits, goodUnknown, baseOf, typeOf, wordOf, legalBase, legalWord}
+use Rattle.ty.specs.Words.{unpack, pack, listOf, goodDigits, goodUnknown, baseOf, typeOf, wordOf, legalBase, legalWord, allLegal}
 use Rattle.utf8.specs.Utf8.{table, within, matches, firstMatch, sequence, scan, validPrefix, wellFormed}
 use Rattle.sets.specs.Sets as sets
 use Rattle.sets.specs.Sets.{bit, at, member, insert, remove, clear, members}
@@ -21,7 +21,7 @@ use Rattle.queries.specs.Queries as queries
 use Rattle.queries.specs.Queries.{Given, given, evenLengths, even, viewIn}
 use Rattle.queries.specs.Examples.{all}
 use Rattle.typequeries.specs.declared.TypeQuery.the-variants.{Join, Assignable}
-use Rattle.typequeries.specs.TypeQueries.{worldIn, allLegal, wordChecks, typeChecks, typeQueryRefusal, typeValue}
+use Rattle.typequeries.specs.TypeQueries.{worldIn, wordChecks, typeChecks, typeQueryRefusal, typeValue}
 
 -- a/Probe alone
 abbrev pub objectless : Given

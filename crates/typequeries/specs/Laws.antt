@@ -8,7 +8,7 @@ use native.Mathlib.Omega.{arith}
 use lib.Dec.{eqb, ltb}
 use lib.ListN.{length, replicate}
 use borrow.Author.Tests.{eq-eqb, ne-eqb, lt-ltb, le-ltb, eqb-true, eqb-false}
-use Rattle.ty.specs.Words.{legalWord, typeOf, wordOf, Legal}
+use Rattle.ty.specs.Words.{legalWord, typeOf, wordOf, Legal, allLegal}
 use Rattle.ty.specs.Round.{legal-more}
 use Rattle.names.specs.First as checks
 use Rattle.names.specs.First.{both, first-hit, first-miss}
@@ -27,7 +27,7 @@ use Rattle.queries.specs.Laws.{checked-even, checked-uneven, good-in, object-kn
 use Rattle.typequeries.specs.declared.TypeQuery.{TypeQuery}
 use Rattle.typequeries.specs.declared.TypeQuery.the-variants.{Join, Assignable}
 use Rattle.typequeries.specs.declared.Opened.{Opened}
-use Rattle.typequeries.specs.TypeQueries.{numbersOf, worldIn, allLegal, wordChecks, typeChecks, typeQueryRefusal, typeValue, Ready, Opens}
+use Rattle.typequeries.specs.TypeQueries.{numbersOf, worldIn, wordChecks, typeChecks, typeQueryRefusal, typeValue, Ready, Opens}
 
 -- ---- two words
 

@@ -6,7 +6,7 @@ use mathlib.Core.List.{List, [], _∷_}
 use Prim.Native.Nat.{ℕ, _-_, _^_}
 use lib.Dec.{eqb, ltb}
 use lib.ListN.{length}
-use Rattle.ty.specs.Words.{legalWord, typeOf, wordOf}
+use Rattle.ty.specs.Words.{legalWord, allLegal, typeOf, wordOf}
 use Rattle.names.specs.First as checks
 use Rattle.names.specs.First.{Check, check}
 use Rattle.lattice.specs.declared.Numbers.{Numbers}
@@ -33,11 +33,6 @@ worldIn g = record {
 }
 
 -- ---- refusals
-
--- whether each word is a type over that many names
-unfoldable pub allLegal : ℕ → List ℕ → Bool
-allLegal names [] = true
-allLegal names (w ∷ ws) = legalWord names w && allLegal names ws
 
 -- after the rows, in order: their own, a word that is no type, no name is java/lang/Object
 unfoldable pub wordChecks : ℕ → Tables → List ℕ → List Check

@@ -13,12 +13,12 @@ ghost use mathlib.Core.Path.{_≡_};
 ghost use mathlib.Core.Bool.{cond};
 ghost use mathlib.Core.List.{[], _∷_};
 ghost use lib.ListN.{length};
-ghost use Rattle.ty.specs.Words.{legalWord};
+ghost use Rattle.ty.specs.Words.{legalWord, allLegal};
 ghost use Rattle.names.specs.First as checks;
 ghost use Rattle.lattice.specs.World.{worldOf};
 ghost use Rattle.joins.specs.Joins.{Joinable};
 ghost use Rattle.queries.specs.Queries.{given, noMarks, answered, Asked};
-ghost use Rattle.typequeries.specs.TypeQueries.{numbersOf, worldIn, allLegal, wordChecks, typeChecks, typeQueryRefusal, typeValue, Opens};
+ghost use Rattle.typequeries.specs.TypeQueries.{numbersOf, worldIn, wordChecks, typeChecks, typeQueryRefusal, typeValue, Opens};
 
 // The least length of the work.
 const ROOM: usize = 8192;

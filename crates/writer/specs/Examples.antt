@@ -5,13 +5,13 @@ use mathlib.Core.Option.{some, none, bind}
 use Prim.Native.Nat.{ℕ}
 use Rattle.utf8.specs.Utf8.{table, within, matches, firstMatch, sequence, scan, validPrefix, wellFormed}
 use Rattle.ty.specs.Types.{arrays, elem, compareNumbers, compareLists}
-use Rattle.ty.specs.Words.{unpack, pack, listOf, goodDigits, goodUnknown, baseOf, typeOf, wordOf, legalBase, legalWord}
+use Rattle.ty.specs.Words.{unpack, pack, listOf, goodDigits, goodUnknown, baseOf, typeOf, wordOf, legalBase, legalWord, allLegal}
 use Rattle.names.specs.First.{first}
 use Rattle.names.specs.Names.{placeGood, nameChecks, checkRow, checkRows, checkNames, lookup}
 use Rattle.descriptor.specs.Read.{letterOf, indexOf, nameOf, readName, readType, finish}
 use Rattle.descriptor.specs.Method.{readParams, returns, afterParams, readMethod}
 use Rattle.jvms.specs.Meaning.{typeAt, typeRead, parametersAt, methodRead}
-use Rattle.writer.specs.Print.{letterByte, print, printAll, printMethod, printWord, printMethodWords, allLegal}
+use Rattle.writer.specs.Print.{letterByte, print, printAll, printMethod, printWord, printMethodWords}
 use Rattle.writer.specs.Print.{checkedTypeRefusal, typeRefusal, checkedMethodRefusal, methodRefusal, answer, output}
 use Rattle.writer.specs.ToWord.{toType, toTypes, toMethod, readMethodAs, wordsOf, toWords}
 

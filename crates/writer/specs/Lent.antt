@@ -11,12 +11,12 @@ use lib.ListN.{length, getD, drop, replicate, length-map}
 use lib.Seq.{drop-cons}
 use borrow.Author.Tests.{eqb-true, eqb-false, leb-true, ltb-true, ltb-false, eq-eqb, lt-ltb, le-ltb, le-leb}
 use Rattle.ty.specs.Types.{arrays, elem}
-use Rattle.ty.specs.Words.{dimsOf, tagOf, loadOf, baseOf, typeOf, legalBase, legalWord}
+use Rattle.ty.specs.Words.{dimsOf, tagOf, loadOf, baseOf, typeOf, legalBase, legalWord, allLegal}
 use Rattle.ty.specs.Round.{legal-primitive, legal-object, legal-unknown, legal-none}
 use Rattle.names.specs.First.{Check, check, first, both}
 use Rattle.names.specs.Names.{nameAt, checkNames}
 use Rattle.names.specs.Table.{Checked, checked, accepted, sum, below}
-use Rattle.writer.specs.Print.{print, printAll, printWord, printWords, printMethodWords, allLegal}
+use Rattle.writer.specs.Print.{print, printAll, printWord, printWords, printMethodWords}
 use Rattle.writer.specs.Print.{checkedTypeRefusal, typeRefusal, checkedMethodRefusal, methodRefusal, answer, output, Wrote}
 use Rattle.writer.specs.Steps.{printBase, classBytes, print-word, print-class, print-method, legal-inside, type-named, method-named}
 use Rattle.writer.specs.declared.Written.{Written}

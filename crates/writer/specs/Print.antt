@@ -7,7 +7,7 @@ use Prim.Native.Nat.{ℕ, zero, suc, _+_}
 use lib.Dec.{ltb}
 use lib.ListN.{length, getD, drop}
 use Rattle.ty.specs.Types.{ArgType, Primitive, Object, Array, Unknown}
-use Rattle.ty.specs.Words.{typeOf, legalWord}
+use Rattle.ty.specs.Words.{typeOf, legalWord, allLegal}
 use Rattle.names.specs.First.{check, first, orElse}
 use Rattle.names.specs.Names.{nameAt, checkNames}
 use Rattle.writer.specs.declared.Written.{Written}
@@ -52,11 +52,6 @@ unfoldable pub printMethodWords : List ℕ → List ℕ → List ℕ → List �
 printMethodWords bytes ats lens params result = printMethod (nameAt bytes ats lens) (typesOf params) (typeOf result)
 
 -- ---- refusals, in their order: those of the names, 8 ROOM (a method's parameters), 7 TYPE, 22 SHORT
-
--- whether each word is that of a type over so many names
-unfoldable pub allLegal : ℕ → List ℕ → Bool
-allLegal names [] = true
-allLegal names (w ∷ ws) = legalWord names w && allLegal names ws
 
 -- of a type, once the names are checked; `room` is the length of the output
 unfoldable pub checkedTypeRefusal : List ℕ → List ℕ → List ℕ → ℕ → ℕ → ℕ

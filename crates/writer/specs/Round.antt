@@ -7,7 +7,7 @@ use Prim.Native.Nat.{ℕ, suc, _+_, _^_, _≤_, _<_}
 use native.Mathlib.Omega.{arith}
 use lib.ListN.{length, getD, drop, length-append}
 use Rattle.ty.specs.Types.{ArgType, Primitive, Object, Array, Unknown, depth}
-use Rattle.ty.specs.Words.{typeOf, wordOf, legalWord, legalType}
+use Rattle.ty.specs.Words.{typeOf, wordOf, legalWord, legalType, allLegal}
 use Rattle.ty.specs.Round.{word-type, legal-of-word, word-of-type}
 use Rattle.names.specs.First.{both}
 use Rattle.names.specs.Names.{nameAt, checkNames, lookup}
@@ -20,7 +20,7 @@ use Rattle.jvms.specs.Jvms.{dimensions, AnyName}
 use Rattle.jvms.specs.Jvms.{Signature, MethodDescriptor, MethodDescriptor.method}
 use Rattle.jvms.specs.Meaning.{typeRead, methodRead, Limits, placed}
 use Rattle.jvms.specs.JvmsTheorem.{ordinary-type, ordinary-type-place, ordinary-method}
-use Rattle.writer.specs.Print.{print, printAll, printMethod, printWord, printMethodWords, typesOf, allLegal, typeRefusal, methodRefusal, answer, output, Wrote}
+use Rattle.writer.specs.Print.{print, printAll, printMethod, printWord, printMethodWords, typesOf, typeRefusal, methodRefusal, answer, output, Wrote}
 use Rattle.writer.specs.ToWord.{toType, readAs, toWord, MethodType, methodType, MethodWords, methodWords, toTypes, toMethod, readMethodAs, wordsOf, toWords}
 use Rattle.writer.specs.Derived.{limits-parts, return-printed, method-printed, legalTypes, return-legal, parameters-legal}
 use Rattle.writer.specs.Readable.{readable, allReadable, named, allNamed, named-depth, named-length, named-low, return-derived, named-back, parameters-derived, all-back}

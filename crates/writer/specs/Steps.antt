@@ -11,12 +11,12 @@ use lib.ListN.{length, getD, drop, replicate, length-append, length-replicate, d
 use lib.Seq.{drop-cons}
 use borrow.Author.Tests.{ltb-true, leb-true, lt-ltb, le-ltb, not-true, not-false}
 use Rattle.ty.specs.Types.{ArgType, arrays}
-use Rattle.ty.specs.Words.{dimsOf, tagOf, loadOf, baseOf, typeOf, legalBase, legalWord}
+use Rattle.ty.specs.Words.{dimsOf, tagOf, loadOf, baseOf, typeOf, legalBase, legalWord, allLegal}
 use Rattle.ty.specs.Round.{legal-primitive, legal-object}
 use Rattle.names.specs.First.{first, both, else-none, else-some}
 use Rattle.names.specs.Names.{nameAt, checkNames}
 use Rattle.names.specs.Table.{Checked, name-length}
-use Rattle.writer.specs.Print.{letterByte, print, printAll, printMethod, printWord, printWords, printMethodWords, allLegal}
+use Rattle.writer.specs.Print.{letterByte, print, printAll, printMethod, printWord, printWords, printMethodWords}
 use Rattle.writer.specs.Print.{checkedTypeRefusal, typeRefusal, checkedMethodRefusal, methodRefusal, answer, output, Wrote}
 use Rattle.writer.specs.Store.{Put, put-whole}
 use Rattle.writer.specs.declared.Written.{Written}

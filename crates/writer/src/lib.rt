@@ -7,9 +7,9 @@ ghost use mathlib.Core.Bool.{true};
 ghost use Prim.Native.Nat.{_+_, _≤_};
 ghost use lib.ListN.{length, take, drop, replicate};
 ghost use lib.Seq.{sets};
-ghost use Rattle.ty.specs.Words.{legalBase, legalWord};
+ghost use Rattle.ty.specs.Words.{legalBase, legalWord, allLegal};
 ghost use Rattle.names.specs.Table.{Checked};
-ghost use Rattle.writer.specs.Print.{letterByte, allLegal, printWord, printWords, printMethodWords, Wrote, checkedTypeRefusal, typeRefusal, checkedMethodRefusal, methodRefusal};
+ghost use Rattle.writer.specs.Print.{letterByte, printWord, printWords, printMethodWords, Wrote, checkedTypeRefusal, typeRefusal, checkedMethodRefusal, methodRefusal};
 ghost use Rattle.writer.specs.Store.{Put};
 ghost use Rattle.writer.specs.Steps.{Short, classBytes, printBase, wordSize, wordsSize, methodSize};
 

@@ -5,7 +5,7 @@ use Prim.Native.Nat.{_≤_, _-_}
 use mathlib.Core.Bool.{true, false}
 use native.Mathlib.Omega.{arith}
 use lib.ListN.{length, drop}
-use Rattle.writer.specs.Print.{allLegal}
+use Rattle.ty.specs.Words.{allLegal}
 use Rattle.writer.specs.Steps.{holds, fails, legal-told, legal-none}
 use Rattle.writer.proofs.are_legal.Statement.{statement}
 use Rattle.writer.proofs.are_legal.Tie as tie

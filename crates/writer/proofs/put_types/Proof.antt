@@ -7,7 +7,8 @@ use mathlib.Core.Bool.{true}
 use mathlib.Core.List.{List}
 use lib.ListN.{length, drop, getD, length-append}
 use lib.Seq.{sets}
-use Rattle.writer.specs.Print.{allLegal, printWord, printWords}
+use Rattle.ty.specs.Words.{allLegal}
+use Rattle.writer.specs.Print.{printWord, printWords}
 use Rattle.writer.specs.Store.{put-before, put-length}
 use Rattle.writer.specs.Steps.{legal-front, words-next, words-none}
 use Rattle.writer.proofs.put_types.Statement.{statement}

@@ -5,7 +5,7 @@ use Prim.Native.Nat.{_≤_, _+_, _-_, _*_}
 use native.Mathlib.Omega.{arith}
 use mathlib.Core.Bool.{true}
 use lib.ListN.{length, drop}
-use Rattle.writer.specs.Print.{allLegal}
+use Rattle.ty.specs.Words.{allLegal}
 use Rattle.writer.specs.Steps.{wordsSize, size-next, size-none, legal-front}
 use Rattle.writer.proofs.types_length.Statement.{statement}
 use Rattle.writer.proofs.types_length.Tie as tie

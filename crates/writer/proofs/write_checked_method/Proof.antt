@@ -5,8 +5,7 @@ use Prim.Native.Nat.{ℕ}
 use mathlib.Core.Bool.{Bool, _&&_}
 use native.Mathlib.Omega.{arith}
 use lib.ListN.{length}
-use Rattle.ty.specs.Words.{legalWord}
-use Rattle.writer.specs.Print.{allLegal}
+use Rattle.ty.specs.Words.{legalWord, allLegal}
 use Rattle.writer.specs.Steps.{holds, fails, checked-short, method-size, method-many, method-illegal, method-long, method-fits, wrote-none, wrote-all}
 use Rattle.writer.proofs.write_checked_method.Statement.{statement}
 use Rattle.writer.proofs.write_checked_method.Tie as tie
