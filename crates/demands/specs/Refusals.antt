@@ -27,7 +27,7 @@ tells-code s at dims (Refused code o byte) h = h .least
 end-code : (s : List ℕ) (at : ℕ) → TypeCode (finish s (readType (drop at s) at true 0))
 end-code s at =
     let r = readType (drop at s) at true 0 in
-    tells-code s at 0 (finish s r) (finish-tells s at 0 r (read-tells s at true 0 (omega arith)))
+    tells-code s at 0 (finish s r) (finish-tells s at 0 r (read-tells s at true))
 
 strictly-code : (s : List ℕ) (r : Read) → TypeCode r → TypeCode (strictly s r)
 unfolding strictly
@@ -77,7 +77,7 @@ list-code (suc turns) s at count =
     either (leb (length s) at) _ _ (omega arith)
     (either (eqb (getD s at 0) 41) _ _ tt
     (either (leb 255 count) _ _ (omega arith)
-    (onward-code s at (λ next. readParams turns s next (count + 1)) r (tells-code s at 0 r (read-tells s at false 0 (omega arith))) (λ next. list-code turns s next (count + 1)))))
+    (onward-code s at (λ next. readParams turns s next (count + 1)) r (tells-code s at 0 r (read-tells s at false)) (λ next. list-code turns s next (count + 1)))))
 
 after-code : (s : List ℕ) (p : Params) → ListCode p → MethodCode (afterParams s p)
 unfolding afterParams returns
@@ -102,7 +102,7 @@ unfolding strictParams
 names-code s [] m h = h
 names-code s (at ∷ offsets) m h =
     let r = readType (drop at s) at false 0 in
-    go (strictly s r) refl (strictly-code s r (tells-code s at 0 r (read-tells s at false 0 (omega arith)))) (names-code s offsets m h)
+    go (strictly s r) refl (strictly-code s r (tells-code s at 0 r (read-tells s at false))) (names-code s offsets m h)
   where
     go : (r : Read) → strictly s (readType (drop at s) at false 0) ≡ r → TypeCode r → MethodCode (strictParams s offsets m) → MethodCode (strictParams s (at ∷ offsets) m)
     go (Found d base next) e c others = rw e others
