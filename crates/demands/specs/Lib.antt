@@ -3,3 +3,4 @@ pub mod Examples
 pub mod Refusals
 pub mod Descriptors
 pub mod Contracts
+pub mod Parts
