@@ -58,21 +58,6 @@ pub fn compare_names(a: &[u8], b: &[u8]) -> Order
     compare_numbers(a.len() as u64, b.len() as u64)
 }
 
-// Whether the name is not above the last of `count`.
-fn is_not_above(last: &[u8], name: &[u8], count: u64) -> bool
-    ensures { λ r. ⌜ r ≡ (ltb 0 count && not (isLess (compareLists (now (last .entry)) (now (name .entry))))) ⌝ }
-{
-    if count == 0 {
-        return false;
-    }
-    let o = compare_names(last, name);
-    match o {
-        Order::Less => false,
-        Order::Equal => true,
-        Order::Greater => true,
-    }
-}
-
 // Whether the names differ in the eight bytes from i on. None ends the loop early, so that the machine compares them at once.
 fn differ_in_block(a: &[u8], b: &[u8], i: usize) -> bool
     requires { ⌜ (i + 8 ≤ length (now a)) × (i + 8 ≤ length (now b)) ⌝ }
@@ -105,13 +90,27 @@ fn skip_same(a: &[u8], b: &[u8], n: usize) -> usize
     i
 }
 
-// `is_not_above` for neighbours in a table: what they have in common is passed first. Only `check_row` calls it, so that the
-// compiler puts it there.
-fn is_not_above_near(last: &[u8], name: &[u8], count: u64) -> bool
+// Whether the name is not above the last of `count`, byte by byte.
+fn rest_is_not_above(last: &[u8], name: &[u8], count: u64) -> bool
+    ensures { λ r. ⌜ r ≡ (ltb 0 count && not (isLess (compareLists (now (last .entry)) (now (name .entry))))) ⌝ }
+{
+    if count == 0 {
+        return false;
+    }
+    let o = compare_names(last, name);
+    match o {
+        Order::Less => false,
+        Order::Equal => true,
+        Order::Greater => true,
+    }
+}
+
+// The same, past what the two have in common: names of a table often begin alike.
+fn is_not_above(last: &[u8], name: &[u8], count: u64) -> bool
     ensures { λ r. ⌜ r ≡ (ltb 0 count && not (isLess (compareLists (now (last .entry)) (now (name .entry))))) ⌝ }
 {
     let i = skip_same(last, name, smaller(last.len(), name.len()));
-    is_not_above(&last[i..], &name[i..], count)
+    rest_is_not_above(&last[i..], &name[i..], count)
 }
 
 // Whether there is no room for one more name of that length.
@@ -167,7 +166,6 @@ fn is_place(size: u64, at: u64, len: u64) -> bool
 }
 
 // The refusal of one row, after `count` others that have `total` bytes; the last of them has `span` bytes at `last`.
-// At a good place the tests are those of `check_name`, without that of the length.
 fn check_row(names: &[u8], last: u64, span: u64, at: u64, len: u64, count: u64, total: u64) -> u64
     requires { ⌜ (last ≤ length (now names)) × (span ≤ length (now names) - last) ⌝ }
     ensures { λ r. ⌜ r ≡ checkRow (now (names .entry)) at len (nameOf (now (names .entry)) last span) count total ⌝ }
@@ -179,16 +177,7 @@ fn check_row(names: &[u8], last: u64, span: u64, at: u64, len: u64, count: u64, 
     let to = from + span as usize;
     let start = at as usize;
     let end = start + len as usize;
-    if !is_well_formed(names, start, end) {
-        return 10;
-    }
-    if is_not_above_near(&names[from..to], &names[start..end], count) {
-        return 5;
-    }
-    if is_full(len, count, total) {
-        return 8;
-    }
-    0
+    check_name(&names[from..to], &names[start..end], count, total)
 }
 
 // The refusal of a table of names; 0 where there is none.

@@ -66,38 +66,26 @@ fn print(ty: ArgType, formatter: &mut fmt::Formatter<'_>) -> fmt::Result {
     }
 }
 
-/// `read_type`. Names are borrowed from the text, which `FromStr` cannot do.
-impl<'a> TryFrom<&'a [u8]> for ArgType<'a> {
-    type Error = Refusal;
+/// The conversions from bytes and from text, by a reader. Names are borrowed from the text, which `FromStr` cannot do.
+macro_rules! read_from_text {
+    ($type:ident, $read:ident) => {
+        impl<'a> TryFrom<&'a [u8]> for $type<'a> {
+            type Error = Refusal;
 
-    fn try_from(descriptor: &'a [u8]) -> Result<Self, Refusal> {
-        read_type(descriptor)
-    }
+            fn try_from(descriptor: &'a [u8]) -> Result<Self, Refusal> {
+                $read(descriptor)
+            }
+        }
+
+        impl<'a> TryFrom<&'a str> for $type<'a> {
+            type Error = Refusal;
+
+            fn try_from(descriptor: &'a str) -> Result<Self, Refusal> {
+                $read(descriptor.as_bytes())
+            }
+        }
+    };
 }
 
-/// `read_type`.
-impl<'a> TryFrom<&'a str> for ArgType<'a> {
-    type Error = Refusal;
-
-    fn try_from(descriptor: &'a str) -> Result<Self, Refusal> {
-        read_type(descriptor.as_bytes())
-    }
-}
-
-/// `read_method`. Names are borrowed from the text, which `FromStr` cannot do.
-impl<'a> TryFrom<&'a [u8]> for MethodDescriptor<'a> {
-    type Error = Refusal;
-
-    fn try_from(descriptor: &'a [u8]) -> Result<Self, Refusal> {
-        read_method(descriptor)
-    }
-}
-
-/// `read_method`.
-impl<'a> TryFrom<&'a str> for MethodDescriptor<'a> {
-    type Error = Refusal;
-
-    fn try_from(descriptor: &'a str) -> Result<Self, Refusal> {
-        read_method(descriptor.as_bytes())
-    }
-}
+read_from_text!(ArgType, read_type);
+read_from_text!(MethodDescriptor, read_method);

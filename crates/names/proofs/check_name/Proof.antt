@@ -1,19 +1,18 @@
 -- `check_name` meets its contract: its tests in the order of the chain. Assumes nothing.
 use borrow.Author.Needs.{needs}
 use mathlib.Core.Path.{_≡_, refl, sym, ap, _∙_}
-use mathlib.Core.Bool.{true, false, not, _&&_}
+use mathlib.Core.Bool.{Bool, true, false, cond, not, _&&_, _||_}
 use mathlib.Core.List.{List}
-use Prim.Native.Nat.{ℕ, _-_, _<_}
+use Prim.Native.Nat.{ℕ, _+_, _-_, _≤_, _<_}
 use native.Mathlib.Omega.{arith}
-use lib.Dec.{ltb}
-use lib.ListN.{length}
+use lib.Dec.{leb, ltb}
+use lib.ListN.{length, take, drop}
 use lib.Seq.{take-all}
-use borrow.Author.Tests.{eq-eqb, ne-eqb, lt-ltb, not-true, not-false}
+use borrow.Author.Tests.{eq-eqb, ne-eqb, lt-ltb, le-ltb, not-true, not-false}
 use Rattle.ty.specs.Types.{compareLists}
 use Rattle.utf8.specs.Utf8.{wellFormed}
 use Rattle.names.specs.First.{first}
 use Rattle.names.specs.Names.{isLess, nameChecks, checkName}
-use Rattle.names.proofs.Chain.{sized}
 use Rattle.names.proofs.check_name.Statement.{statement}
 use Rattle.names.proofs.check_name.Tie as tie
 
@@ -28,15 +27,19 @@ module _ (last name : List ℕ) (count total : ℕ) where
   unfolding checkName nameChecks first
   long h = rw (ne-eqb (length name) 0 (λ e. omega arith), lt-ltb 255 (length name) h)
 
--- the third test is of the whole name
-told : (c : tie.After-is-well-formed) → c .is-well-formed .result ≡ wellFormed (c .before .before .before .before .before .args .name .now)
-told c =
-    let n = c .before .before .before .before .before .args .name .now in
-    c .is-well-formed .ensures ∙ ap wellFormed (take-all (length n - 0) n (omega arith))
+  -- of 1 to 255 bytes: whether they are well-formed, not above the last, and without room
+  sized : (formed low full : Bool) → (length name ≡ 0 → ⊥) → length name ≤ 255
+      → formed ≡ wellFormed (take (length name - 0) (drop 0 name))
+      → low ≡ (ltb 0 count && not (isLess (compareLists last name)))
+      → full ≡ (leb 1024 count || ltb 24576 (total + length name))
+      → cond (not formed) 10 (cond low 5 (cond full 8 0)) ≡ checkName last name count total
+  unfolding checkName nameChecks first
+  sized formed low full z h f l u =
+      rw (ne-eqb (length name) 0 z, le-ltb 255 (length name) h, ← l, ← u, ← (f ∙ ap wellFormed (take-all (length name - 0) name (omega arith))))
 
 -- past the third test the name is well-formed, past the fourth it is above the last
-formed : (c : tie.Else3) → let n = c .before .before .before .before .before .before .args .name .now in true ≡ wellFormed n
-formed c = sym (not-false (c .before .is-well-formed .result) (c .if3 .left)) ∙ told (c .before)
+formed : (c : tie.Else3) → let n = c .before .before .before .before .before .before .args .name .now in true ≡ wellFormed (take (length n - 0) (drop 0 n))
+formed c = sym (not-false (c .before .is-well-formed .result) (c .if3 .left)) ∙ c .before .is-well-formed .ensures
 
 above : (c : tie.Else4)
     → let a = c .before .before .before .before .before .before .before .before .args in false ≡ (ltb 0 (a .count) && not (isLess (compareLists (a .last .now) (a .name .now))))
@@ -55,7 +58,7 @@ returns-3 : tie.Need-returns-3
 returns-3 c =
     let a = c .before .before .before .before .before .before .args in
     let w = c .before .is-well-formed in
-    sized (a .last .now) (a .name .now) (a .count) (a .total) false _ _ (c .before .before .before .if1 .left) (omega arith) (sym (not-true (w .result) (c .if3 .taken)) ∙ told (c .before)) refl refl
+    sized (a .last .now) (a .name .now) (a .count) (a .total) false _ _ (c .before .before .before .if1 .left) (omega arith) (sym (not-true (w .result) (c .if3 .taken)) ∙ w .ensures) refl refl
 
 is-not-above-requires : tie.Need-is-not-above-requires
 is-not-above-requires c κs = search needs

@@ -1,62 +1,69 @@
--- `is_not_above` meets its contract. Assumes nothing.
+-- `is_not_above` meets its contract: past the blocks in common, the order is that of what is left. Assumes nothing.
 use borrow.Author.Needs.{needs}
-use mathlib.Core.Path.{_≡_}
+use mathlib.Core.Path.{_≡_, sym, ap, ap₂, _∙_}
 use mathlib.Core.Bool.{not, _&&_}
 use mathlib.Core.List.{List}
-use Prim.Native.Nat.{ℕ}
+use Prim.Native.Nat.{ℕ, _-_}
 use native.Mathlib.Omega.{arith}
 use lib.Dec.{ltb}
-use borrow.Author.Tests.{lt-ltb, le-ltb}
+use lib.ListN.{length, take, drop, length-drop}
+use lib.Seq.{take-all}
 use Rattle.ty.specs.declared.Order.{Order}
 use Rattle.ty.specs.Types.{compareLists}
 use Rattle.names.specs.Names.{isLess}
 use Rattle.names.proofs.is_not_above.Statement.{statement}
 use Rattle.names.proofs.is_not_above.Tie as tie
 
--- after the first name, by the order found
-later : (count : ℕ) (last name : List ℕ) (o r : Order) → (count ≡ 0 → ⊥) → r ≡ compareLists last name → r ≡ o
-    → not (isLess o) ≡ (ltb 0 count && not (isLess (compareLists last name)))
-later count last name o r z e t = rw (lt-ltb 0 count (omega arith), ← e, t)
+-- what is left from i on
+left : (l : List ℕ) (i : ℕ) → take (length l - i) (drop i l) ≡ drop i l
+left l i = take-all (length l - i) (drop i l) (omega (arith, length-drop i l))
+
+smaller-requires : tie.Need-smaller-requires
+smaller-requires c κs = search needs
+
+skip-same-requires : tie.Need-skip-same-requires
+skip-same-requires c κs = search needs
+
+sub-rest-is-not-above : tie.Need-sub-rest-is-not-above
+sub-rest-is-not-above c = search needs
+
+part-rest-is-not-above-start : tie.Need-part-rest-is-not-above-start
+part-rest-is-not-above-start c = search needs
+
+part-rest-is-not-above-end : tie.Need-part-rest-is-not-above-end
+part-rest-is-not-above-end c = search needs
+
+sub-rest-is-not-above-2 : tie.Need-sub-rest-is-not-above-2
+sub-rest-is-not-above-2 c = search needs
+
+part-rest-is-not-above-start-2 : tie.Need-part-rest-is-not-above-start-2
+part-rest-is-not-above-start-2 c = search needs
+
+part-rest-is-not-above-end-2 : tie.Need-part-rest-is-not-above-end-2
+part-rest-is-not-above-end-2 c = search needs
+
+rest-is-not-above-requires : tie.Need-rest-is-not-above-requires
+rest-is-not-above-requires c κs = search needs
 
 returns : tie.Need-returns
-returns c = rw (le-ltb 0 (c .before .before .before .args .count) (omega arith))
-
-compare-names-requires : tie.Need-compare-names-requires
-compare-names-requires c κs = search needs
-
-enum-told : tie.Need-enum-told
-enum-told c = search needs
-
-enum-told-2 : tie.Need-enum-told-2
-enum-told-2 c = search needs
-
-enum-told-3 : tie.Need-enum-told-3
-enum-told-3 c = search needs
-
-returns-2 : tie.Need-returns-2
-returns-2 c =
-    let a = c .before .before .before .before .before .before .args in
-    later (a .count) (a .last .now) (a .name .now) _ _ (c .before .before .before .if1 .left) (c .before .before .compare-names .ensures) (c .enum-told .given .1)
-
-returns-3 : tie.Need-returns-3
-returns-3 c =
-    let a = c .before .before .before .before .before .before .args in
-    later (a .count) (a .last .now) (a .name .now) _ _ (c .before .before .before .if1 .left) (c .before .before .compare-names .ensures) (c .enum-told2 .given .1)
-
-returns-4 : tie.Need-returns-4
-returns-4 c =
-    let a = c .before .before .before .before .before .before .args in
-    later (a .count) (a .last .now) (a .name .now) _ _ (c .before .before .before .if1 .left) (c .before .before .compare-names .ensures) (c .enum-told3 .given .1)
+returns c =
+    let p = c .before .before .before .skip-same in
+    let a = c .before .before .before .before .before .before .before .args in
+    c .rest-is-not-above .ensures
+    ∙ ap (λ (o : Order). ltb 0 (a .count) && not (isLess o))
+    (ap₂ compareLists (left (a .last .now) (p .result)) (left (a .name .now) (p .result)) ∙ sym (p .ensures .1))
 
 pub is-not-above-spec : {M : Type 1} → statement M
 is-not-above-spec =
     tie.close
     (tie.spec
-    returns
-    compare-names-requires
-    enum-told
-    enum-told-2
-    enum-told-3
-    returns-2
-    returns-3
-    returns-4)
+    smaller-requires
+    skip-same-requires
+    sub-rest-is-not-above
+    part-rest-is-not-above-start
+    part-rest-is-not-above-end
+    sub-rest-is-not-above-2
+    part-rest-is-not-above-start-2
+    part-rest-is-not-above-end-2
+    rest-is-not-above-requires
+    returns)
