@@ -31,24 +31,24 @@ is-number class n h = go (eqb n (2 ^ 64 - 1)) refl
     go false e = refl
 
 parent-test : (w : World) (class cloneable serializable : ℕ) → class < 1024 → w .cloneable ≡ present cloneable → w .serializable ≡ present serializable
-    → arrayParent w class ≡ (eqb class (w .view .object) || (eqb class cloneable || eqb class serializable))
+    → arrayParent w class ≡ (eqb class (w .object) || (eqb class cloneable || eqb class serializable))
 unfolding arrayParent
 parent-test w class cloneable serializable h p q =
-    ap₂ (λ (a b : Bool). eqb class (w .view .object) || (a || b))
+    ap₂ (λ (a b : Bool). eqb class (w .object) || (a || b))
     (ap (isNumber class) p ∙ is-number class cloneable h) (ap (isNumber class) q ∙ is-number class serializable h)
 
 -- the three tests, one after the other
 module _ (w : World) (class cloneable serializable : ℕ) (h : class < 1024) (p : w .cloneable ≡ present cloneable) (q : w .serializable ≡ present serializable) where
-  pub parent-object : class ≡ w .view .object → true ≡ arrayParent w class
-  parent-object e = sym (parent-test w class cloneable serializable h p q ∙ rw (eq-eqb class (w .view .object) e))
+  pub parent-object : class ≡ w .object → true ≡ arrayParent w class
+  parent-object e = sym (parent-test w class cloneable serializable h p q ∙ rw (eq-eqb class (w .object) e))
 
-  pub parent-cloneable : (class ≡ w .view .object → ⊥) → class ≡ cloneable → true ≡ arrayParent w class
+  pub parent-cloneable : (class ≡ w .object → ⊥) → class ≡ cloneable → true ≡ arrayParent w class
   parent-cloneable d e =
-      sym (parent-test w class cloneable serializable h p q ∙ rw (ne-eqb class (w .view .object) d, eq-eqb class cloneable e))
+      sym (parent-test w class cloneable serializable h p q ∙ rw (ne-eqb class (w .object) d, eq-eqb class cloneable e))
 
-  pub parent-serializable : (class ≡ w .view .object → ⊥) → (class ≡ cloneable → ⊥) → eqb class serializable ≡ arrayParent w class
+  pub parent-serializable : (class ≡ w .object → ⊥) → (class ≡ cloneable → ⊥) → eqb class serializable ≡ arrayParent w class
   parent-serializable d e =
-      sym (parent-test w class cloneable serializable h p q ∙ rw (ne-eqb class (w .view .object) d, ne-eqb class cloneable e))
+      sym (parent-test w class cloneable serializable h p q ∙ rw (ne-eqb class (w .object) d, ne-eqb class cloneable e))
 
 -- ---- a flat word by what it is
 
@@ -120,7 +120,7 @@ module _ (w : World) where
   array-to-class (Array t) class h = refl
   array-to-class (Unknown cs) class h = never (sym h)
 
-  pub class-to-class : (t : ArgType) (value class : ℕ) → t ≡ Object value → notNo (relation (w .view) value class) ≡ assignableApart w t (Object class)
+  pub class-to-class : (t : ArgType) (value class : ℕ) → t ≡ Object value → notNo (w .relation value class) ≡ assignableApart w t (Object class)
   unfolding assignableApart
   class-to-class t value class e = sym (ap (λ (u : ArgType). assignableApart w u (Object class)) e)
 

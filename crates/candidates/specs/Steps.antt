@@ -167,11 +167,11 @@ module _ (w : World) (upper : List ArgType) (ws : List ℕ) (i : ℕ) where
 
   -- the bound before the place i
   pub least-step : 0 < i → i ≤ length ws
-      → leastHint w upper (typesFrom (i - 1) ws) ≡ candidate w upper (concreteHint (w .view .object) (typeOf (getD ws (i - 1) 0))) (leastHint w upper (typesFrom i ws))
+      → leastHint w upper (typesFrom (i - 1) ws) ≡ candidate w upper (concreteHint (w .object) (typeOf (getD ws (i - 1) 0))) (leastHint w upper (typesFrom i ws))
   unfolding leastHint
   least-step g h =
       ap (leastHint w upper) (types-step ws (i - 1) (omega arith))
-      ∙ ap (λ (k : ℕ). candidate w upper (concreteHint (w .view .object) (typeOf (getD ws (i - 1) 0))) (leastHint w upper (typesFrom k ws))) (let q : i - 1 + 1 ≡ i = omega arith in q)
+      ∙ ap (λ (k : ℕ). candidate w upper (concreteHint (w .object) (typeOf (getD ws (i - 1) 0))) (leastHint w upper (typesFrom k ws))) (let q : i - 1 + 1 ≡ i = omega arith in q)
 
 pub candidate-yes : (w : World) (upper : List ArgType) (t : ArgType) (rest : Option ArgType) → assignableToAll w t upper ≡ true → candidate w upper (some t) rest ≡ lesser t rest
 candidate-yes w upper t rest e = ap (λ (b : Bool). cond b (lesser t rest) rest) e

@@ -12,16 +12,17 @@ use Rattle.ty.specs.Words.{tagOf, loadOf, typeOf, wordOf, legalWord, legalType,
 use Rattle.ty.specs.Round.{word-of-type, legal-of-word, word-fits, legal-more}
 use Rattle.ty.specs.Shape.{type-array, word-deeper, legal-element}
 use Rattle.ty.specs.Steps.{known-flat, primitive-array, primitive-flat, array-test, type-primitive, type-object, legal-category, check-object}
-use Rattle.view.specs.View.{supertype, numberOf}
+use Rattle.view.specs.View.{View, supertype, numberOf}
 use Rattle.view.specs.Reach.{Good}
 use Rattle.view.specs.Ancestors.{ancestor-below}
 use Rattle.view.specs.Supertype.{supertype-some, supertype-least}
-use Rattle.hierarchy.specs.Table.{view-good}
+use Rattle.hierarchy.specs.Table.{viewOf, view-good}
 use Rattle.lattice.specs.declared.Numbers.{Numbers}
-use Rattle.lattice.specs.Lattice.{World, unknownUnion, inBoth, orFull, joinKnown, classOr, joinApart, join}
+use Rattle.lattice.specs.Lattice.{World, Lawful, unknownUnion, inBoth, orFull, joinKnown, classOr, joinApart, join}
 use Rattle.lattice.specs.Legality.{join-legal}
 use Rattle.lattice.specs.JoinTable.{cell, join-categories}
 use Rattle.lattice.specs.JoinCases.{joinArrayOther, join-same, join-apart, apart-unknowns, apart-right-unknown, apart-left-unknown, apart-left-array, apart-right-array, arrays-left, arrays-right, arrays-both, apart-classes, apart-left-primitive, apart-right-primitive}
+use Rattle.lattice.specs.World.{present, with-lawful}
 use Rattle.joins.specs.Joins.{parentWorld, Fits, Known, Base, bothArrays}
 
 -- ---- words by their types
@@ -120,30 +121,36 @@ module _ (pairs : List ℕ) (n : Numbers) (fits : Fits n) where
   abbrev world : World
   world = parentWorld pairs n
 
-  good : Good (world .view)
+  abbrev view : View
+  view = viewOf pairs [] (n .classes)
+
+  good : Good view
   good = view-good pairs [] (n .classes) (fits .0) (fits .1)
 
-  module _ (left right : ℕ) (l : left < n .classes .names) (r : right < n .classes .names) where
-    some-class : (c : ℕ) × (supertype (world .view) left right ≡ some c)
-    some-class = supertype-some (world .view) good left right l r
+  lawful : Lawful world
+  lawful = with-lawful view (present (n .cloneable)) (present (n .serializable)) good
 
-    number-class : numberOf (supertype (world .view) left right) ≡ some-class .0
+  module _ (left right : ℕ) (l : left < n .classes .names) (r : right < n .classes .names) where
+    some-class : (c : ℕ) × (supertype view left right ≡ some c)
+    some-class = supertype-some view good left right l r
+
+    number-class : numberOf (supertype view left right) ≡ some-class .0
     unfolding numberOf
     number-class = ap numberOf (some-class .1)
 
-    pub supertype-lt : numberOf (supertype (world .view) left right) < 1024
+    pub supertype-lt : numberOf (supertype view left right) < 1024
     supertype-lt =
         let c = some-class in
-        let b = ancestor-below (world .view) good left (c .0) l (supertype-least (world .view) good left right l r (c .0) (c .1) .0 .0) in
+        let b = ancestor-below view good left (c .0) l (supertype-least view good left right l r (c .0) (c .1) .0 .0) in
         let e = number-class in
         let f = fits .0 in
         omega arith
 
-    pub classes-word : 2 ^ 48 + numberOf (supertype (world .view) left right) ≡ wordOf (joinApart world (Object left) (Object right))
+    pub classes-word : 2 ^ 48 + numberOf (supertype view left right) ≡ wordOf (joinApart world (Object left) (Object right))
     unfolding wordOf
     classes-word =
         ap (λ (c : ℕ). 2 ^ 48 + c) number-class
-        ∙ sym (ap wordOf (apart-classes world left right ∙ ap (classOr (world .view .object)) (some-class .1)))
+        ∙ sym (ap wordOf (apart-classes world left right ∙ ap (classOr (world .object)) (some-class .1)))
 
   -- ---- two words
 
@@ -161,7 +168,7 @@ module _ (pairs : List ℕ) (n : Numbers) (fits : Fits n) where
     word-same e = sym (word-of-type 1024 left legal-left) ∙ sym (ap wordOf (join-same world (typeOf left) (typeOf right) (ap typeOf e)))
 
     pub answer-type : left < 2 ^ 64 → right < 2 ^ 64 → legalType (n .classes .names) (join world (typeOf left) (typeOf right)) ≡ true
-    answer-type f g = join-legal world good (typeOf left) (typeOf right) (legal-of-word (n .classes .names) left f l) (legal-of-word (n .classes .names) right g r)
+    answer-type f g = join-legal world lawful (typeOf left) (typeOf right) (legal-of-word (n .classes .names) left f l) (legal-of-word (n .classes .names) right g r)
 
     module _ (apart : left ≡ right → ⊥) where
       word-apart : (t : ArgType) → joinApart world (typeOf left) (typeOf right) ≡ t → wordOf t ≡ answer

@@ -10,11 +10,8 @@ use lib.Dec.{eqb}
 use borrow.Author.Tests.{eq-eqb, eqb-true, ltb-true, leb-true}
 use Rattle.ty.specs.Types.{ArgType, Primitive, Object, Array, Unknown, elem, compareNumbers, compare, categories, isKnown, isPrimitive, isConcrete, ObjectCategory, ArrayCategory}
 use Rattle.ty.specs.Words.{legalAtBase}
-use Rattle.view.specs.View.{ancestor, supertype}
-use Rattle.view.specs.Reach.{Good}
-use Rattle.view.specs.Relations.{relation-yes}
-use Rattle.view.specs.Supertype.{supertype-some, supertype-least}
-use Rattle.lattice.specs.Lattice.{World, notNo, sameType, unknownAccepts, ascending, unknownUnion, primitiveAssignable, assignableApart, isAssignable, narrow, underDouble, joinPrimitive, inBoth, orFull, joinKnown, classOr, joinElements, joinArrayClass, joinApart, join}
+use Rattle.view.specs.declared.Relation.the-variants.{Yes}
+use Rattle.lattice.specs.Lattice.{World, Lawful, notNo, sameType, unknownAccepts, ascending, unknownUnion, primitiveAssignable, assignableApart, isAssignable, narrow, underDouble, joinPrimitive, inBoth, orFull, joinKnown, classOr, joinElements, joinArrayClass, joinApart, join}
 use Rattle.lattice.specs.Jls.{allBelow, below}
 use Rattle.lattice.specs.References.{same-exactly, assignable-self, assignable-classes, array-object, assignable-arrays}
 use Rattle.lattice.specs.Fits.{by-cond, ascending-elem}
@@ -95,23 +92,23 @@ module _ (w : World) where
 
   class-other : (t u : ArgType) (c : ℕ) → Other (joinArrayClass w t u c)
   unfolding isPrimitive joinArrayClass unknownUnion
-  class-other t u c = by-cond Other (eqb c (w .view .object)) (Object (w .view .object)) (unknownUnion t u) refl refl
+  class-other t u c = by-cond Other (eqb c (w .object)) (Object (w .object)) (unknownUnion t u) refl refl
 
   -- what is no primitive joins to no primitive
   apart-other : (t u : ArgType) → Other t → Other u → Other (joinApart w t u)
   unfolding isPrimitive joinApart
   apart-other (Primitive j) u h i = absurd (true≢false h)
   apart-other (Object c) (Primitive k) h i = absurd (true≢false i)
-  apart-other (Object c) (Object d) h i = go (supertype (w .view) c d)
+  apart-other (Object c) (Object d) h i = go (w .supertype c d)
     where
-      go : (o : Option ℕ) → Other (classOr (w .view .object) o)
+      go : (o : Option ℕ) → Other (classOr (w .object) o)
       go none = refl
       go (some s) = refl
   apart-other (Object c) (Array u) h i = class-other (Object c) (Array u) c
   apart-other (Object c) (Unknown ds) h i = known-other (Object c) ds refl
   apart-other (Array t) (Primitive k) h i = absurd (true≢false i)
   apart-other (Array t) (Object d) h i = class-other (Array t) (Object d) d
-  apart-other (Array t) (Array u) h i = elements-by Other (w .view .object) t u (cond (sameType t u) t (joinApart w t u)) refl (λ p q. refl)
+  apart-other (Array t) (Array u) h i = elements-by Other (w .object) t u (cond (sameType t u) t (joinApart w t u)) refl (λ p q. refl)
   apart-other (Array t) (Unknown ds) h i = known-other (Array t) ds refl
   apart-other (Unknown cs) (Primitive k) h i = absurd (true≢false i)
   apart-other (Unknown cs) (Object d) h i = known-other (Object d) cs refl
@@ -137,34 +134,35 @@ module _ (w : World) where
       go true e = (assignable-self w t, ap (λ (x : ArgType). isAssignable w x t) (sym (same-exactly t u .0 e)) ∙ assignable-self w t)
       go false e = h
 
-  arrays-above : (t u : ArgType) → Above t u (join w t u) → Above (Array t) (Array u) (joinElements (w .view .object) t u (join w t u))
+  arrays-above : (t u : ArgType) → Above t u (join w t u) → Above (Array t) (Array u) (joinElements (w .object) t u (join w t u))
   arrays-above t u h =
-      elements-by (Above (Array t) (Array u)) (w .view .object) t u (join w t u) (array-object w t, array-object w u)
+      elements-by (Above (Array t) (Array u)) (w .object) t u (join w t u) (array-object w t, array-object w u)
       (λ p q.
       let o = join-other t u p q in
       (assignable-arrays w t (join w t u) p o ∙ h .0, assignable-arrays w u (join w t u) q o ∙ h .1))
 
-module _ (w : World) (g : Good (w .view)) where
+module _ (w : World) (g : Lawful w) where
   abbrev Fit : ArgType → Type 0
-  Fit t = legalAtBase (w .view .names) t ≡ true
+  Fit t = legalAtBase (w .names) t ≡ true
 
-  classes-above : (c d : ℕ) → c < w .view .names → d < w .view .names → Above w (Object c) (Object d) (classOr (w .view .object) (supertype (w .view) c d))
-  classes-above c d l m =
-      let s = supertype-some (w .view) g c d l m in
-      let a = supertype-least (w .view) g c d l m (s .0) (s .1) .0 in
-      subst (λ (o : Option ℕ). Above w (Object c) (Object d) (classOr (w .view .object) o)) (sym (s .1)) (up c (s .0) (a .0), up d (s .0) (a .1))
+  classes-above : (c d : ℕ) → c < w .names → d < w .names → Above w (Object c) (Object d) (classOr (w .object) (w .supertype c d))
+  classes-above c d l m = go (w .supertype c d) refl
     where
-      up : (x y : ℕ) → ancestor (w .view) x y ≡ true → isAssignable w (Object x) (Object y) ≡ true
-      up x y a = assignable-classes w x y ∙ ap notNo (relation-yes (w .view) x y .1 a)
+      up : (x y : ℕ) → w .relation x y ≡ Yes → isAssignable w (Object x) (Object y) ≡ true
+      up x y a = assignable-classes w g x y ∙ ap notNo a
+
+      go : (o : Option ℕ) → w .supertype c d ≡ o → Above w (Object c) (Object d) (classOr (w .object) o)
+      go none e = (up c (w .object) (g .top c), up d (w .object) (g .top d))
+      go (some s) e = let a = g .above c d s l m e in (up c s (a .1), up d s (a .2))
 
   -- a class and an array
   class-array-above : (c : ℕ) (t u v : ArgType) → Above w (Object c) (Array t) (unknownUnion u v) → Above w (Object c) (Array t) (joinArrayClass w u v c)
   unfolding joinArrayClass
-  class-array-above c t u v h = go (eqb c (w .view .object)) refl
+  class-array-above c t u v h = go (eqb c (w .object)) refl
     where
-      go : (b : Bool) → eqb c (w .view .object) ≡ b → Above w (Object c) (Array t) (cond b (Object (w .view .object)) (unknownUnion u v))
+      go : (b : Bool) → eqb c (w .object) ≡ b → Above w (Object c) (Array t) (cond b (Object (w .object)) (unknownUnion u v))
       go true e = (
-        ap (λ (x : ℕ). isAssignable w (Object x) (Object (w .view .object))) (eqb-true c (w .view .object) e) ∙ assignable-self w (Object (w .view .object)),
+        ap (λ (x : ℕ). isAssignable w (Object x) (Object (w .object))) (eqb-true c (w .object) e) ∙ assignable-self w (Object (w .object)),
         array-object w t,
       )
       go false e = h
@@ -172,17 +170,17 @@ module _ (w : World) (g : Good (w .view)) where
   apart-above : (t u : ArgType) → Fit t → Fit u → isConcrete t ≡ true → isConcrete u ≡ true → Above w t u (joinApart w t u)
   unfolding isKnown isConcrete legalAtBase joinApart join
   apart-above (Primitive j) (Primitive k) h i a b = primitives-above w j k (leb-true j 10 h) (leb-true k 10 i)
-  apart-above (Primitive j) (Object d) h i a b = union-above w (w .view .names) (Primitive j) (Object d) refl refl h i
-  apart-above (Primitive j) (Array u) h i a b = union-above w (w .view .names) (Primitive j) (Array u) refl refl h i
+  apart-above (Primitive j) (Object d) h i a b = union-above w (w .names) (Primitive j) (Object d) refl refl h i
+  apart-above (Primitive j) (Array u) h i a b = union-above w (w .names) (Primitive j) (Array u) refl refl h i
   apart-above (Primitive j) (Unknown ds) h i a b = absurd (false≢true b)
-  apart-above (Object c) (Primitive k) h i a b = union-above w (w .view .names) (Object c) (Primitive k) refl refl h i
-  apart-above (Object c) (Object d) h i a b = classes-above c d (ltb-true c (w .view .names) h) (ltb-true d (w .view .names) i)
+  apart-above (Object c) (Primitive k) h i a b = union-above w (w .names) (Object c) (Primitive k) refl refl h i
+  apart-above (Object c) (Object d) h i a b = classes-above c d (ltb-true c (w .names) h) (ltb-true d (w .names) i)
   apart-above (Object c) (Array u) h i a b =
-      class-array-above c u (Object c) (Array u) (union-above w (w .view .names) (Object c) (Array u) refl refl h i)
+      class-array-above c u (Object c) (Array u) (union-above w (w .names) (Object c) (Array u) refl refl h i)
   apart-above (Object c) (Unknown ds) h i a b = absurd (false≢true b)
-  apart-above (Array t) (Primitive k) h i a b = union-above w (w .view .names) (Array t) (Primitive k) refl refl h i
+  apart-above (Array t) (Primitive k) h i a b = union-above w (w .names) (Array t) (Primitive k) refl refl h i
   apart-above (Array t) (Object d) h i a b =
-      let q = union-above w (w .view .names) (Array t) (Object d) refl refl h i in
+      let q = union-above w (w .names) (Array t) (Object d) refl refl h i in
       let r = class-array-above d t (Array t) (Object d) (q .1, q .0) in
       (r .1, r .0)
   apart-above (Array t) (Array u) h i a b = arrays-above w t u (same-above w t u (apart-above t u h i a b))
@@ -190,7 +188,7 @@ module _ (w : World) (g : Good (w .view)) where
   apart-above (Unknown cs) u h i a b = absurd (false≢true a)
 
   -- ABOVE BOTH
-  pub join-above : (t u : ArgType) → legalAtBase (w .view .names) t ≡ true → legalAtBase (w .view .names) u ≡ true
+  pub join-above : (t u : ArgType) → legalAtBase (w .names) t ≡ true → legalAtBase (w .names) u ≡ true
       → isConcrete t ≡ true → isConcrete u ≡ true
       → (isAssignable w t (join w t u) ≡ true) × (isAssignable w u (join w t u) ≡ true)
   join-above t u h i a b = same-above w t u (apart-above t u h i a b)

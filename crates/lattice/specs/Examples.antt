@@ -10,7 +10,7 @@ use Rattle.view.specs.Examples.{whole}
 use Rattle.lattice.specs.Lattice.{World, sameType, hasAll, unknownAccepts, ascending, unknownUnion, primitiveAssignable, assignableApart, isAssignable, narrow, underDouble, joinPrimitive, joinKnown, joinApart, join, joinFrom, joinAll, arrayParent, joinArrayClass}
 
 abbrev pub world : World
-world = record { view = whole; cloneable = none; serializable = none }
+world = record { names = 4; object = 3; relation = relation whole; supertype = supertype whole; cloneable = none; serializable = none }
 
 -- Boolean with Int; Boolean, a/TrussA, a/TrussB in order; Char to Short; an array with a class that is not Object
 pub examples : (join world (Primitive 1) (Primitive 5) ≡ Unknown (1 ∷ 5 ∷ []))
@@ -22,7 +22,7 @@ examples = (refl, refl, refl, refl)
 
 -- with a/TrussA in the place of java/lang/Cloneable: an array is assignable to it, and their join is Unknown[Object, Array] all the same
 abbrev clones : World
-clones = record { view = whole; cloneable = some 1; serializable = none }
+clones = record { names = 4; object = 3; relation = relation whole; supertype = supertype whole; cloneable = some 1; serializable = none }
 
 pub array-cloneable : (isAssignable clones (Array (Primitive 5)) (Object 1) ≡ true)
     × (join clones (Array (Primitive 5)) (Object 1) ≡ Unknown (9 ∷ 10 ∷ []))

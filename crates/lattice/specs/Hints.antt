@@ -151,15 +151,15 @@ module _ (w : World) where
 
   -- a member's hint that is assignable to all upper bounds
   abbrev pub Candidate : List ArgType → List ArgType → ArgType → Type 0
-  Candidate upper ts u = (t : ArgType) × List·Memᴰ t ts × (concreteHint (w .view .object) t ≡ some u) × (assignableToAll w u upper ≡ true)
+  Candidate upper ts u = (t : ArgType) × List·Memᴰ t ts × (concreteHint (w .object) t ≡ some u) × (assignableToAll w u upper ≡ true)
 
   -- a candidate of a list is the first's or one of the rest
   module _ (upper : List ArgType) (t : ArgType) (ts : List ArgType) (v : ArgType) where
     later : Candidate upper ts v → Candidate upper (t ∷ ts) v
     later c = (c .0, List·Memᴰ·tail (c .1), c .2, c .3)
 
-    split : Candidate upper (t ∷ ts) v → (concreteHint (w .view .object) t ≡ some v) ⊎ Candidate upper ts v
-    split c = ⊎-elim (λ e. inl (ap (concreteHint (w .view .object)) (sym e) ∙ c .2)) (λ m. inr (c .0, m, c .2, c .3)) (List·Memᴰ·cases-cons (c .1))
+    split : Candidate upper (t ∷ ts) v → (concreteHint (w .object) t ≡ some v) ⊎ Candidate upper ts v
+    split c = ⊎-elim (λ e. inl (ap (concreteHint (w .object)) (sym e) ∙ c .2)) (λ m. inr (c .0, m, c .2, c .3)) (List·Memᴰ·cases-cons (c .1))
 
   -- none of the list is a candidate
   abbrev None : List ArgType → List ArgType → Type 0
@@ -172,9 +172,9 @@ module _ (w : World) where
   least-none : (upper ts : List ArgType) → leastHint w upper ts ≡ none → None upper ts
   unfolding leastHint
   least-none upper [] h v c = List·Memᴰ·not-nil (c .1)
-  least-none upper (t ∷ ts) h v c = go (concreteHint (w .view .object) t) refl h (λ q. least-none upper ts q v)
+  least-none upper (t ∷ ts) h v c = go (concreteHint (w .object) t) refl h (λ q. least-none upper ts q v)
     where
-      go : (o : Option ArgType) → concreteHint (w .view .object) t ≡ o → candidate w upper o (leastHint w upper ts) ≡ none
+      go : (o : Option ArgType) → concreteHint (w .object) t ≡ o → candidate w upper o (leastHint w upper ts) ≡ none
           → (leastHint w upper ts ≡ none → Candidate upper ts v → ⊥) → ⊥
       go none e q ih = ⊎-elim (λ f. none-some v (sym e ∙ f)) (ih q) (split upper t ts v c)
       go (some x) e q ih = which (assignableToAll w x upper) refl q
@@ -187,9 +187,9 @@ module _ (w : World) where
   least-is : (upper ts : List ArgType) (u : ArgType) → leastHint w upper ts ≡ some u → Least upper ts u
   unfolding leastHint Lesser
   least-is upper [] u h = absurd (none-some u h)
-  least-is upper (t ∷ ts) u h = go (concreteHint (w .view .object) t) refl h (least-is upper ts)
+  least-is upper (t ∷ ts) u h = go (concreteHint (w .object) t) refl h (least-is upper ts)
     where
-      go : (o : Option ArgType) → concreteHint (w .view .object) t ≡ o → candidate w upper o (leastHint w upper ts) ≡ some u
+      go : (o : Option ArgType) → concreteHint (w .object) t ≡ o → candidate w upper o (leastHint w upper ts) ≡ some u
           → ((x : ArgType) → leastHint w upper ts ≡ some x → Least upper ts x) → Least upper (t ∷ ts) u
       go none e q ih = (later upper t ts u (ih u q .0), λ v c. ⊎-elim (λ f. absurd (none-some v (sym e ∙ f))) (ih u q .1 v) (split upper t ts v c))
       go (some x) e q ih = which (assignableToAll w x upper) refl q
@@ -224,12 +224,12 @@ module _ (w : World) where
 
     module _ (u : ArgType) (h : mostSpecificUpper w upper ≡ some u) where
       -- a hint of one of the upper bounds
-      pub specific-hint : (t : ArgType) × List·Memᴰ t upper × (concreteHint (w .view .object) t ≡ some u)
+      pub specific-hint : (t : ArgType) × List·Memᴰ t upper × (concreteHint (w .object) t ≡ some u)
       specific-hint = let c = specific-least u h .0 in (c .0, c .1, c .2)
 
       -- so concrete
       pub specific-concrete : isConcrete u ≡ true
-      specific-concrete = let c = specific-hint in hint-concrete (w .view .object) (c .0) u (c .2)
+      specific-concrete = let c = specific-hint in hint-concrete (w .object) (c .0) u (c .2)
 
       -- and assignable to every upper bound
       pub specific-assignable : (t : ArgType) → List·Memᴰ t upper → isAssignable w u t ≡ true

@@ -115,7 +115,7 @@ joinArrayOther object array (Array t) = unknownUnion array (Array t)
 joinArrayOther object array (Unknown cs) = unknownUnion array (Unknown cs)
 
 module _ (w : World) where
-  pub apart-left-array : (t u : ArgType) → isArray t ≡ true → isKnown u ≡ true → isArray u ≡ false → joinApart w t u ≡ joinArrayOther (w .view .object) t u
+  pub apart-left-array : (t u : ArgType) → isArray t ≡ true → isKnown u ≡ true → isArray u ≡ false → joinApart w t u ≡ joinArrayOther (w .object) t u
   unfolding joinApart isArray isKnown joinArrayOther joinArrayClass
   apart-left-array (Array t) (Primitive k) h a b = refl
   apart-left-array (Array t) (Object d) h a b = refl
@@ -125,11 +125,11 @@ module _ (w : World) where
   apart-left-array (Object c) u h a b = absurd (false≢true h)
   apart-left-array (Unknown cs) u h a b = absurd (false≢true h)
 
-  pub apart-right-array : (t u : ArgType) → isArray u ≡ true → isKnown t ≡ true → isArray t ≡ false → joinApart w t u ≡ joinArrayOther (w .view .object) u t
+  pub apart-right-array : (t u : ArgType) → isArray u ≡ true → isKnown t ≡ true → isArray t ≡ false → joinApart w t u ≡ joinArrayOther (w .object) u t
   unfolding joinApart isArray isKnown joinArrayOther joinArrayClass
   apart-right-array (Primitive k) (Array u) h a b = union-swap (Primitive k) (Array u)
   apart-right-array (Object d) (Array u) h a b =
-      ap (cond (eqb d (w .view .object)) (Object (w .view .object))) (union-swap (Object d) (Array u))
+      ap (cond (eqb d (w .object)) (Object (w .object))) (union-swap (Object d) (Array u))
   apart-right-array (Array t) (Array u) h a b = absurd (true≢false b)
   apart-right-array (Unknown ds) (Array u) h a b = absurd (false≢true a)
   apart-right-array t (Primitive j) h a b = absurd (false≢true h)
@@ -138,14 +138,14 @@ module _ (w : World) where
 
   -- ---- two arrays
 
-  pub arrays-left : (t u : ArgType) → isPrimitive t ≡ true → joinApart w (Array t) (Array u) ≡ Object (w .view .object)
+  pub arrays-left : (t u : ArgType) → isPrimitive t ≡ true → joinApart w (Array t) (Array u) ≡ Object (w .object)
   unfolding joinApart isPrimitive joinElements
   arrays-left (Primitive k) u h = refl
   arrays-left (Object c) u h = absurd (false≢true h)
   arrays-left (Array t) u h = absurd (false≢true h)
   arrays-left (Unknown cs) u h = absurd (false≢true h)
 
-  pub arrays-right : (t u : ArgType) → isPrimitive u ≡ true → joinApart w (Array t) (Array u) ≡ Object (w .view .object)
+  pub arrays-right : (t u : ArgType) → isPrimitive u ≡ true → joinApart w (Array t) (Array u) ≡ Object (w .object)
   unfolding joinApart isPrimitive joinElements
   arrays-right (Primitive k) (Primitive j) h = refl
   arrays-right (Object c) (Primitive j) h = refl
@@ -174,7 +174,7 @@ module _ (w : World) where
   -- the whole question one dimension lower
   pub arrays-both : (t u : ArgType) → isPrimitive t ≡ false → isPrimitive u ≡ false → joinApart w (Array t) (Array u) ≡ Array (join w t u)
   unfolding joinApart join
-  arrays-both t u h g = elements-both (w .view .object) t u (join w t u) h g
+  arrays-both t u h g = elements-both (w .object) t u (join w t u) h g
 
   -- ---- two known types that are no arrays
 
@@ -182,7 +182,7 @@ module _ (w : World) where
   unfolding joinApart
   apart-primitives left right = refl
 
-  pub apart-classes : (left right : ℕ) → joinApart w (Object left) (Object right) ≡ classOr (w .view .object) (supertype (w .view) left right)
+  pub apart-classes : (left right : ℕ) → joinApart w (Object left) (Object right) ≡ classOr (w .object) (w .supertype left right)
   unfolding joinApart
   apart-classes left right = refl
 

@@ -3,7 +3,8 @@
 use mathlib.Core.Bool.{Bool, true, false, cond, not, _&&_, _||_}
 use mathlib.Core.List.{List, [], _∷_}
 use mathlib.Core.Option.{Option, some, none}
-use Prim.Native.Nat.{ℕ, zero, suc}
+use Prim.Native.Nat.{ℕ, zero, suc, _<_}
+use mathlib.Core.Path.{_≡_}
 use lib.Dec.{eqb}
 use Rattle.ty.specs.declared.Order.{Order}
 use Rattle.ty.specs.declared.Order.the-variants.{Less, Equal, Greater}
@@ -12,13 +13,23 @@ use Rattle.ty.specs.Types.{Boolean, Byte, Short, Char, Int, Long, Float, Double
 use Rattle.ty.specs.Answers.{unknownType}
 use Rattle.view.specs.declared.Relation.{Relation}
 use Rattle.view.specs.declared.Relation.the-variants.{Yes, No, Unknown as Incomplete}
-use Rattle.view.specs.View.{View, relation, supertype}
 
--- the class table's view, and the numbers of java/lang/Cloneable and java/io/Serializable where the names have them
+-- what the rules ask of the classes: how many names there are, which is java/lang/Object, how one class stands to another, the least common
+-- supertype of two, and the numbers of java/lang/Cloneable and java/io/Serializable where the names have them
 pub record World : Type 0 where
-  pub view : View
+  pub names : ℕ
+  pub object : ℕ
+  pub relation : ℕ → ℕ → Relation
+  pub supertype : ℕ → ℕ → Option ℕ
   pub cloneable : Option ℕ
   pub serializable : Option ℕ
+
+-- and what the laws ask: a class is Yes for itself and for Object, and a supertype is a class, Yes for both
+pub record Lawful (w : World) : Type 0 where
+  pub object-in : w .object < w .names
+  pub self : (c : ℕ) → w .relation c c ≡ Yes
+  pub top : (c : ℕ) → w .relation c (w .object) ≡ Yes
+  pub above : (c d e : ℕ) → c < w .names → d < w .names → w .supertype c d ≡ some e → (e < w .names) × (w .relation c e ≡ Yes) × (w .relation d e ≡ Yes)
 
 -- ---- small helpers
 
@@ -91,7 +102,7 @@ elementsAssignable (Unknown value) (Unknown expected) whole = whole
 
 -- what every array is assignable to
 unfoldable pub arrayParent : World → ℕ → Bool
-arrayParent w expected = eqb expected (w .view .object) || (isNumber expected (w .cloneable) || isNumber expected (w .serializable))
+arrayParent w expected = eqb expected (w .object) || (isNumber expected (w .cloneable) || isNumber expected (w .serializable))
 
 -- two types that are not equal
 unfoldable pub assignableApart : World → ArgType → ArgType → Bool
@@ -100,7 +111,7 @@ assignableApart w (Primitive value) (Object expected) = false
 assignableApart w (Primitive value) (Array expected) = false
 assignableApart w (Primitive value) (Unknown cs) = unknownAccepts cs (Primitive value)
 assignableApart w (Object value) (Primitive expected) = false
-assignableApart w (Object value) (Object expected) = notNo (relation (w .view) value expected)
+assignableApart w (Object value) (Object expected) = notNo (w .relation value expected)
 assignableApart w (Object value) (Array expected) = false
 assignableApart w (Object value) (Unknown cs) = unknownAccepts cs (Object value)
 assignableApart w (Array value) (Primitive expected) = false
@@ -203,7 +214,7 @@ joinElements object (Unknown left) (Unknown right) whole = Array whole
 
 -- an array and a class: Object where the class is Object
 unfoldable pub joinArrayClass : World → ArgType → ArgType → ℕ → ArgType
-joinArrayClass w left right class = cond (eqb class (w .view .object)) (Object (w .view .object)) (unknownUnion left right)
+joinArrayClass w left right class = cond (eqb class (w .object)) (Object (w .object)) (unknownUnion left right)
 
 -- two types that are not equal
 unfoldable pub joinApart : World → ArgType → ArgType → ArgType
@@ -212,12 +223,12 @@ joinApart w (Primitive left) (Object right) = unknownUnion (Primitive left) (Obj
 joinApart w (Primitive left) (Array right) = unknownUnion (Primitive left) (Array right)
 joinApart w (Primitive left) (Unknown cs) = joinKnown (Primitive left) cs
 joinApart w (Object left) (Primitive right) = unknownUnion (Object left) (Primitive right)
-joinApart w (Object left) (Object right) = classOr (w .view .object) (supertype (w .view) left right)
+joinApart w (Object left) (Object right) = classOr (w .object) (w .supertype left right)
 joinApart w (Object left) (Array right) = joinArrayClass w (Object left) (Array right) left
 joinApart w (Object left) (Unknown cs) = joinKnown (Object left) cs
 joinApart w (Array left) (Primitive right) = unknownUnion (Array left) (Primitive right)
 joinApart w (Array left) (Object right) = joinArrayClass w (Array left) (Object right) right
-joinApart w (Array left) (Array right) = joinElements (w .view .object) left right (cond (sameType left right) left (joinApart w left right))
+joinApart w (Array left) (Array right) = joinElements (w .object) left right (cond (sameType left right) left (joinApart w left right))
 joinApart w (Array left) (Unknown cs) = joinKnown (Array left) cs
 joinApart w (Unknown cs) (Primitive right) = joinKnown (Primitive right) cs
 joinApart w (Unknown cs) (Object right) = joinKnown (Object right) cs
@@ -258,7 +269,7 @@ candidate w upper (some t) rest = cond (assignableToAll w t upper) (lesser t res
 
 unfoldable pub leastHint : World → List ArgType → List ArgType → Option ArgType
 leastHint w upper [] = none
-leastHint w upper (t ∷ ts) = candidate w upper (concreteHint (w .view .object) t) (leastHint w upper ts)
+leastHint w upper (t ∷ ts) = candidate w upper (concreteHint (w .object) t) (leastHint w upper ts)
 
 unfoldable pub mostSpecificUpper : World → List ArgType → Option ArgType
 mostSpecificUpper w upper = leastHint w upper upper

@@ -15,25 +15,26 @@ use Rattle.view.specs.View.{supertype}
 use Rattle.view.specs.Reach.{Good}
 use Rattle.view.specs.Ancestors.{ancestor-below}
 use Rattle.view.specs.Supertype.{supertype-some, supertype-least}
-use Rattle.lattice.specs.Lattice.{World, sameType, unknownAccepts, unknownUnion, inBoth, orFull, joinKnown, classOr, joinElements, joinArrayClass, joinApart, join, joinFrom, joinAll, mostSpecificUpper}
+use Rattle.lattice.specs.Lattice.{World, Lawful, sameType, unknownAccepts, unknownUnion, inBoth, orFull, joinKnown, classOr, joinElements, joinArrayClass, joinApart, join, joinFrom, joinAll, mostSpecificUpper}
 use Rattle.lattice.specs.Hints.{hint-by, specific-hint}
 use Rattle.lattice.specs.References.{same-exactly}
 use Rattle.lattice.specs.Fits.{by-cond, primitive-by, inBoth-distinct, Fits, class-fits, union-fits, primitive-fits, known-fits, full-fits, elements-fit}
 
-module _ (w : World) (g : Good (w .view)) where
+module _ (w : World) (g : Lawful w) where
   abbrev names : ℕ
-  names = w .view .names
+  names = w .names
 
   array-class-fits : (t u : ArgType) (c : ℕ) → Fits names (joinArrayClass w t u c)
   unfolding joinArrayClass
-  array-class-fits t u c = by-cond (Fits names) (eqb c (w .view .object)) _ _ (class-fits names (w .view .object) (g .object-in)) (union-fits names t u)
+  array-class-fits t u c = by-cond (Fits names) (eqb c (w .object)) _ _ (class-fits names (w .object) (g .object-in)) (union-fits names t u)
 
-  classes-fit : (c d : ℕ) → c < names → d < names → Fits names (classOr (w .view .object) (supertype (w .view) c d))
+  classes-fit : (c d : ℕ) → c < names → d < names → Fits names (classOr (w .object) (w .supertype c d))
   unfolding legalAtBase
-  classes-fit c d l r =
-      let s = supertype-some (w .view) g c d l r in
-      ap (λ (o : Option ℕ). legalAtBase names (classOr (w .view .object) o)) (s .1)
-      ∙ lt-ltb (s .0) names (ancestor-below (w .view) g c (s .0) l (supertype-least (w .view) g c d l r (s .0) (s .1) .0 .0))
+  classes-fit c d l r = go (w .supertype c d) refl
+    where
+      go : (o : Option ℕ) → w .supertype c d ≡ o → legalAtBase names (classOr (w .object) o) ≡ true
+      go none e = lt-ltb (w .object) names (g .object-in)
+      go (some s) e = lt-ltb s names (g .above c d s l r e .0)
 
   apart-fits : (t u : ArgType) → sameType t u ≡ false → Fits names t → Fits names u → Fits names (joinApart w t u)
   unfolding joinApart legalAtBase sameType compare
@@ -49,7 +50,7 @@ module _ (w : World) (g : Good (w .view)) where
   apart-fits (Array t) (Primitive k) n h i = union-fits names (Array t) (Primitive k)
   apart-fits (Array t) (Object d) n h i = array-class-fits (Array t) (Object d) d
   apart-fits (Array t) (Array u) n h i =
-      elements-fit names (w .view .object) t u _ (g .object-in) (subst (λ (b : Bool). Fits names (cond b t (joinApart w t u))) (sym n) (apart-fits t u n h i))
+      elements-fit names (w .object) t u _ (g .object-in) (subst (λ (b : Bool). Fits names (cond b t (joinApart w t u))) (sym n) (apart-fits t u n h i))
   apart-fits (Array t) (Unknown ds) n h i = known-fits names (Array t) ds h
   apart-fits (Unknown cs) (Primitive k) n h i = known-fits names (Primitive k) cs i
   apart-fits (Unknown cs) (Object d) n h i = known-fits names (Object d) cs i
@@ -93,14 +94,14 @@ full-depth [] = omega arith
 full-depth (c ∷ cs) = omega arith
 
 module _ (w : World) where
-  class-depth : (o : Option ℕ) → depth (classOr (w .view .object) o) ≤ 0
+  class-depth : (o : Option ℕ) → depth (classOr (w .object) o) ≤ 0
   unfolding depth
   class-depth none = omega arith
   class-depth (some c) = omega arith
 
   array-class-depth : (t u : ArgType) (c : ℕ) → depth (joinArrayClass w t u c) ≤ 0
   unfolding joinArrayClass unknownUnion depth
-  array-class-depth t u c = by-cond (λ (v : ArgType). depth v ≤ 0) (eqb c (w .view .object)) (Object (w .view .object)) (unknownUnion t u) (omega arith) (omega arith)
+  array-class-depth t u c = by-cond (λ (v : ArgType). depth v ≤ 0) (eqb c (w .object)) (Object (w .object)) (unknownUnion t u) (omega arith) (omega arith)
 
   apart-depth : (t u : ArgType) → depth (joinApart w t u) ≤ max (depth t) (depth u)
   unfolding joinApart unknownUnion depth
@@ -110,14 +111,14 @@ module _ (w : World) where
   apart-depth (Primitive j) (Array u) = omega arith
   apart-depth (Primitive j) (Unknown ds) = known-depth (Primitive j) ds
   apart-depth (Object c) (Primitive k) = omega arith
-  apart-depth (Object c) (Object d) = class-depth (supertype (w .view) c d)
+  apart-depth (Object c) (Object d) = class-depth (w .supertype c d)
   apart-depth (Object c) (Array u) = let q = array-class-depth (Object c) (Array u) c in omega arith
   apart-depth (Object c) (Unknown ds) = known-depth (Object c) ds
   apart-depth (Array t) (Primitive k) = omega arith
   apart-depth (Array t) (Object d) = let q = array-class-depth (Array t) (Object d) d in omega arith
   apart-depth (Array t) (Array u) =
       let p = by-cond (λ (v : ArgType). depth v ≤ max (depth t) (depth u)) (sameType t u) t (joinApart w t u) (omega arith) (apart-depth t u) in
-      let q = elements-depth (w .view .object) t u (cond (sameType t u) t (joinApart w t u)) in
+      let q = elements-depth (w .object) t u (cond (sameType t u) t (joinApart w t u)) in
       omega arith
   apart-depth (Array t) (Unknown ds) = let q = known-depth (Array t) ds in omega arith
   apart-depth (Unknown cs) (Primitive k) = known-depth (Primitive k) cs
@@ -155,10 +156,10 @@ module _ (names : ℕ) (t : ArgType) where
   unfolding legalType
   legal-both l h = and-both (leb (depth t) 255) (legalAtBase names t) (le-leb (depth t) 255 l) h
 
-module _ (w : World) (g : Good (w .view)) where
-  pub join-legal : (t u : ArgType) → legalType (w .view .names) t ≡ true → legalType (w .view .names) u ≡ true → legalType (w .view .names) (join w t u) ≡ true
+module _ (w : World) (g : Lawful w) where
+  pub join-legal : (t u : ArgType) → legalType (w .names) t ≡ true → legalType (w .names) u ≡ true → legalType (w .names) (join w t u) ≡ true
   join-legal t u h i =
-      let n = w .view .names in
+      let n = w .names in
       let d = join-depth w t u in
       let p = legal-depth n t h in
       let q = legal-depth n u i in
@@ -166,31 +167,31 @@ module _ (w : World) (g : Good (w .view)) where
 
   -- ---- of a list: each member legal, so is the join
 
-  pub joinFrom-legal : (t : ArgType) (ts : List ArgType) → legalType (w .view .names) t ≡ true
-      → ((u : ArgType) → List·Memᴰ u ts → legalType (w .view .names) u ≡ true) → legalType (w .view .names) (joinFrom w t ts) ≡ true
+  pub joinFrom-legal : (t : ArgType) (ts : List ArgType) → legalType (w .names) t ≡ true
+      → ((u : ArgType) → List·Memᴰ u ts → legalType (w .names) u ≡ true) → legalType (w .names) (joinFrom w t ts) ≡ true
   unfolding joinFrom
   joinFrom-legal t [] h all = h
   joinFrom-legal t (u ∷ ts) h all = joinFrom-legal (join w t u) ts (join-legal t u h (all u (List·Memᴰ·head refl))) (λ v m. all v (List·Memᴰ·tail m))
 
   pub joinAll-legal : (ts : List ArgType) (v : ArgType) → joinAll w ts ≡ some v
-      → ((u : ArgType) → List·Memᴰ u ts → legalType (w .view .names) u ≡ true) → legalType (w .view .names) v ≡ true
+      → ((u : ArgType) → List·Memᴰ u ts → legalType (w .names) u ≡ true) → legalType (w .names) v ≡ true
   unfolding joinAll
   joinAll-legal [] v h all = absurd (let z : _≡_ {A = ℕ} 0 1 = cc in omega arith)
   joinAll-legal (t ∷ ts) v h all =
-      subst (λ (u : ArgType). legalType (w .view .names) u ≡ true) (let r : joinFrom w t ts ≡ v = cc in r)
+      subst (λ (u : ArgType). legalType (w .names) u ≡ true) (let r : joinFrom w t ts ≡ v = cc in r)
       (joinFrom-legal t ts (all t (List·Memᴰ·head refl)) (λ u m. all u (List·Memᴰ·tail m)))
 
   -- ---- hints
 
-  pub hint-legal : (t u : ArgType) → concreteHint (w .view .object) t ≡ some u → legalType (w .view .names) t ≡ true → legalType (w .view .names) u ≡ true
+  pub hint-legal : (t u : ArgType) → concreteHint (w .object) t ≡ some u → legalType (w .names) t ≡ true → legalType (w .names) u ≡ true
   unfolding depth legalAtBase
   hint-legal =
-      let n = w .view .names in
-      hint-by (λ (t u : ArgType). legalType n t ≡ true → legalType n u ≡ true) (w .view .object)
+      let n = w .names in
+      hint-by (λ (t u : ArgType). legalType n t ≡ true → legalType n u ≡ true) (w .object)
       (λ t c h. h)
-      (λ h. legal-both n (Object (w .view .object)) (omega arith) (lt-ltb (w .view .object) n (g .object-in)))
+      (λ h. legal-both n (Object (w .object)) (omega arith) (lt-ltb (w .object) n (g .object-in)))
       (λ c k h. legal-both n (Primitive c) (omega arith) (le-leb c 10 (distinct-first c [] (legal-base n (Unknown (c ∷ [])) h))))
 
   pub specific-legal : (upper : List ArgType) (u : ArgType) → mostSpecificUpper w upper ≡ some u
-      → ((t : ArgType) → List·Memᴰ t upper → legalType (w .view .names) t ≡ true) → legalType (w .view .names) u ≡ true
+      → ((t : ArgType) → List·Memᴰ t upper → legalType (w .names) t ≡ true) → legalType (w .names) u ≡ true
   specific-legal upper u h all = let c = specific-hint w upper u h in hint-legal (c .0) u (c .2) (all (c .0) (c .1))

@@ -11,7 +11,7 @@ use borrow.Author.Tests.{eq-eqb, ne-eqb}
 use Rattle.sets.specs.Sets.{bit, at, member, insert, members}
 use Rattle.ty.specs.Types.{ArgType, Primitive, Object, Array, Unknown, elem, compareNumbers, compareLists, compare, categories}
 use Rattle.ty.specs.Types.{Void, Boolean, ObjectCategory, ArrayCategory}
-use Rattle.view.specs.View.{insertAll, withParents, grow, level, reached, reach, ancestor, supertype}
+use Rattle.view.specs.View.{insertAll, withParents, grow, level, reached, reach, ancestor, relation, supertype, View}
 use Rattle.lattice.specs.Lattice.{World, sameType, hasAll, unknownAccepts, ascending, unknownUnion, assignableApart, isAssignable, narrow, underDouble, joinPrimitive, inBoth, joinKnown, joinArrayClass, joinApart, join}
 
 abbrev void : ArgType
@@ -54,28 +54,34 @@ module _ (w : World) where
   -- ---- an array and a class: Object with Object, and with every other class, so with Cloneable, Unknown[Object, Array]
 
   module _ (t : ArgType) where
-    pub array-with-object : (join w (Array t) (Object (w .view .object)) ≡ Object (w .view .object)) × (join w (Object (w .view .object)) (Array t) ≡ Object (w .view .object))
+    pub array-with-object : (join w (Array t) (Object (w .object)) ≡ Object (w .object)) × (join w (Object (w .object)) (Array t) ≡ Object (w .object))
     unfolding compare sameType joinArrayClass joinApart join
-    array-with-object = let e = eq-eqb (w .view .object) (w .view .object) refl in (rw e, rw e)
+    array-with-object = let e = eq-eqb (w .object) (w .object) refl in (rw e, rw e)
 
-    pub array-with-class : (c : ℕ) → (c ≡ w .view .object → ⊥)
+    pub array-with-class : (c : ℕ) → (c ≡ w .object → ⊥)
         → (join w (Array t) (Object c) ≡ Unknown (ObjectCategory ∷ ArrayCategory ∷ [])) × (join w (Object c) (Array t) ≡ Unknown (ObjectCategory ∷ ArrayCategory ∷ []))
     unfolding elem compare categories sameType ascending unknownUnion joinArrayClass joinApart join
-    array-with-class c n = let e = ne-eqb c (w .view .object) n in (rw e, rw e)
+    array-with-class c n = let e = ne-eqb c (w .object) n in (rw e, rw e)
 
 -- ---- two classes that are each an ancestor of the other: the one named second
 
+abbrev other : ℕ → List ℕ
+other zero = 1 ∷ []
+other (suc zero) = 0 ∷ []
+other (suc (suc c)) = []
+
+abbrev turning : View
+turning = record { names = 3; object = 2; recorded = λ c. ltb c 3; parents = other; declared = λ c. false; interface = λ c. false; final = λ c. false }
+
 abbrev pub circle : World
 circle = record {
-  view = record { names = 3; object = 2; recorded = λ c. ltb c 3; parents = other; declared = λ c. false; interface = λ c. false; final = λ c. false };
+  names = 3;
+  object = 2;
+  relation = relation turning;
+  supertype = supertype turning;
   cloneable = none;
   serializable = none;
 }
-  where
-    other : ℕ → List ℕ
-    other zero = 1 ∷ []
-    other (suc zero) = 0 ∷ []
-    other (suc (suc c)) = []
 
 pub circle-orders : (join circle (Object 0) (Object 1) ≡ Object 1) × (join circle (Object 1) (Object 0) ≡ Object 0)
 unfolding bit at member insert members insertAll withParents grow level reached reach ancestor supertype compareNumbers compare sameType joinApart join

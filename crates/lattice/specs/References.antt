@@ -13,10 +13,8 @@ use Rattle.ty.specs.Types.{ArgType, Primitive, Object, Array, Unknown, compare,
 use Rattle.ty.specs.Order.{compare-same, compare-equal}
 use Rattle.view.specs.declared.Relation.{Relation}
 use Rattle.view.specs.declared.Relation.the-variants.{Yes, No, Unknown as Incomplete}
-use Rattle.view.specs.View.{relation}
 use Rattle.view.specs.Ancestors.{ancestor-self}
-use Rattle.view.specs.Relations.{relation-yes}
-use Rattle.lattice.specs.Lattice.{World, isEqual, sameType, isNumber, notNo, elementsAssignable, arrayParent, assignableApart, isAssignable, producerBoundCompatible}
+use Rattle.lattice.specs.Lattice.{World, Lawful, isEqual, sameType, isNumber, notNo, elementsAssignable, arrayParent, assignableApart, isAssignable, producerBoundCompatible}
 
 -- ---- equality of types
 
@@ -59,22 +57,23 @@ module _ (w : World) where
 
   -- ---- two classes: by the relation
 
-  pub assignable-classes : (c d : ℕ) → isAssignable w (Object c) (Object d) ≡ notNo (relation (w .view) c d)
+  pub assignable-classes : Lawful w → (c d : ℕ) → isAssignable w (Object c) (Object d) ≡ notNo (w .relation c d)
   unfolding isAssignable assignableApart
-  assignable-classes c d = or-second (sameType (Object c) (Object d)) (notNo (relation (w .view) c d)) same
+  assignable-classes g c d = or-second (sameType (Object c) (Object d)) (notNo (w .relation c d)) same
     where
-      same : sameType (Object c) (Object d) ≡ true → notNo (relation (w .view) c d) ≡ true
+      same : sameType (Object c) (Object d) ≡ true → notNo (w .relation c d) ≡ true
       same h =
           let e = same-exactly (Object c) (Object d) .0 h in
           let q : c ≡ d = cc in
-          ap (λ (x : ℕ). notNo (relation (w .view) c x)) (sym q) ∙ ap notNo (relation-yes (w .view) c c .1 (ancestor-self (w .view) c))
+          ap (λ (x : ℕ). notNo (w .relation c x)) (sym q) ∙ ap notNo (g .self c)
 
   -- ONLY No refuses: what the table leaves open passes
-  pub refused-exactly : (c d : ℕ) → (isAssignable w (Object c) (Object d) ≡ false) ↔ (relation (w .view) c d ≡ No)
-  refused-exactly c d = (λ h. only-no (relation (w .view) c d) (sym (assignable-classes c d) ∙ h), λ e. assignable-classes c d ∙ ap notNo e)
+  pub refused-exactly : Lawful w → (c d : ℕ) → (isAssignable w (Object c) (Object d) ≡ false) ↔ (w .relation c d ≡ No)
+  refused-exactly g c d = (λ h. only-no (w .relation c d) (sym (assignable-classes g c d) ∙ h), λ e. assignable-classes g c d ∙ ap notNo e)
 
-  pub open-passes : (c d : ℕ) → relation (w .view) c d ≡ Incomplete → isAssignable w (Object c) (Object d) ≡ true
-  open-passes c d e = assignable-classes c d ∙ ap notNo e
+  pub open-passes : (c d : ℕ) → w .relation c d ≡ Incomplete → isAssignable w (Object c) (Object d) ≡ true
+  unfolding isAssignable assignableApart
+  open-passes c d e = ap (λ (r : Relation). sameType (Object c) (Object d) || notNo r) e ∙ or-true (sameType (Object c) (Object d))
 
   -- ---- a reference and a primitive: never, either way
 
@@ -96,17 +95,17 @@ module _ (w : World) where
   class-array c t = refl
 
   module _ (t : ArgType) where
-    pub array-object : isAssignable w (Array t) (Object (w .view .object)) ≡ true
+    pub array-object : isAssignable w (Array t) (Object (w .object)) ≡ true
     unfolding arrayParent
-    array-object = array-class t (w .view .object) ∙ rw (eq-eqb (w .view .object) (w .view .object) refl)
+    array-object = array-class t (w .object) ∙ rw (eq-eqb (w .object) (w .object) refl)
 
     pub array-cloneable : (c : ℕ) → w .cloneable ≡ some c → isAssignable w (Array t) (Object c) ≡ true
     unfolding arrayParent
-    array-cloneable c e = array-class t c ∙ rw (e, eq-eqb c c refl, or-true (eqb c (w .view .object)))
+    array-cloneable c e = array-class t c ∙ rw (e, eq-eqb c c refl, or-true (eqb c (w .object)))
 
     pub array-serializable : (c : ℕ) → w .serializable ≡ some c → isAssignable w (Array t) (Object c) ≡ true
     unfolding arrayParent
-    array-serializable c e = array-class t c ∙ rw (e, eq-eqb c c refl, or-true (isNumber c (w .cloneable)), or-true (eqb c (w .view .object)))
+    array-serializable c e = array-class t c ∙ rw (e, eq-eqb c c refl, or-true (isNumber c (w .cloneable)), or-true (eqb c (w .object)))
 
   -- ---- two arrays: the whole question one dimension lower, and never to widen a primitive
 

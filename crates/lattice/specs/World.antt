@@ -7,16 +7,33 @@ use Prim.Native.Nat.{ℕ, _-_, _^_, _<_}
 use native.Mathlib.Omega.{arith}
 use lib.Dec.{eqb}
 use Rattle.hierarchy.specs.Table.{viewOf}
+use Rattle.view.specs.View.{View, relation, supertype}
+use Rattle.view.specs.Reach.{Good}
+use Rattle.view.specs.Ancestors.{ancestor-self, ancestor-object, ancestor-below}
+use Rattle.view.specs.Relations.{relation-yes}
+use Rattle.view.specs.Supertype.{supertype-least}
 use Rattle.lattice.specs.declared.Numbers.{Numbers}
-use Rattle.lattice.specs.Lattice.{World, isNumber}
+use Rattle.lattice.specs.Lattice.{World, Lawful, isNumber}
 
 -- a number, where it is not all ones
 unfoldable pub present : ℕ → Option ℕ
 present n = cond (eqb n (2 ^ 64 - 1)) none (some n)
 
-abbrev pub worldOf : List ℕ → List ℕ → Numbers → World
-worldOf pairs marks n = record {
-  view = viewOf pairs marks (n .classes);
-  cloneable = present (n .cloneable);
-  serializable = present (n .serializable);
+-- of a view
+abbrev pub worldWith : View → Option ℕ → Option ℕ → World
+worldWith v cloneable serializable =
+    record { names = v .names; object = v .object; relation = relation v; supertype = supertype v; cloneable = cloneable; serializable = serializable }
+
+-- and it is lawful
+pub with-lawful : (v : View) (cloneable serializable : Option ℕ) → Good v → Lawful (worldWith v cloneable serializable)
+with-lawful v cloneable serializable g = record {
+  object-in = g .object-in;
+  self = λ c. relation-yes v c c .1 (ancestor-self v c);
+  top = λ c. relation-yes v c (v .object) .1 (ancestor-object v c);
+  above = λ c d e l r q.
+      let w = supertype-least v g c d l r e q .0 in
+      (ancestor-below v g c e l (w .0), relation-yes v c e .1 (w .0), relation-yes v d e .1 (w .1));
 }
+
+abbrev pub worldOf : List ℕ → List ℕ → Numbers → World
+worldOf pairs marks n = worldWith (viewOf pairs marks (n .classes)) (present (n .cloneable)) (present (n .serializable))

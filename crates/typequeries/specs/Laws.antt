@@ -15,7 +15,7 @@ use Rattle.names.specs.First.{both, first-hit, first-miss}
 use Rattle.view.specs.View.{View}
 use Rattle.lattice.specs.declared.Numbers.{Numbers}
 use Rattle.lattice.specs.Lattice.{World, join, isAssignable}
-use Rattle.lattice.specs.World.{present, worldOf}
+use Rattle.lattice.specs.World.{present, worldWith, worldOf}
 use Rattle.joins.specs.Joins.{parentWorld, Joinable}
 use Rattle.joins.specs.NoMarks.{join-marks}
 use Rattle.rows.specs.declared.Tables.{Tables}
@@ -101,13 +101,13 @@ types-ran g words = go (even g)
 
 -- ---- the slices hold the world
 
-worldWith : View → Tables → World
-worldWith v t = record { view = v; cloneable = present (t .cloneable); serializable = present (t .serializable) }
+worldBy : View → Tables → World
+worldBy v t = worldWith v (present (t .cloneable)) (present (t .serializable))
 
 pub world-filled : (g : Given) (pairs pairs′ marks′ : List ℕ) (o : Outcome) → Fills (table g) pairs pairs′ marks′ o → worldOf pairs′ marks′ (numbersOf (o .tables)) ≡ worldIn g
-unfolding worldIn worldWith
+unfolding worldIn worldBy
 world-filled g pairs pairs′ marks′ o f =
-    ap₂ worldWith (view-filled g pairs pairs′ marks′ o f) (ap (λ (u : Outcome). u .tables) (f .outcome-is))
+    ap₂ worldBy (view-filled g pairs pairs′ marks′ o f) (ap (λ (u : Outcome). u .tables) (f .outcome-is))
 
 -- AN OPENED TABLE IS READY where nothing is refused
 module _ (g : Given) (left right : ℕ) (pairs pairs′ marks′ : List ℕ) (o : Outcome) (f : Fills (checkedTable g) pairs pairs′ marks′ o) (r : Opened)

@@ -11,7 +11,7 @@ use Rattle.names.specs.First as checks
 use Rattle.names.specs.First.{Check, check}
 use Rattle.lattice.specs.declared.Numbers.{Numbers}
 use Rattle.lattice.specs.Lattice.{World, join, isAssignable}
-use Rattle.lattice.specs.World.{present, worldOf}
+use Rattle.lattice.specs.World.{present, worldWith, worldOf}
 use Rattle.joins.specs.Joins.{Joinable}
 use Rattle.rows.specs.declared.Tables.{Tables}
 use Rattle.queries.specs.Queries.{Given, even, table, classesOf, viewIn}
@@ -26,11 +26,7 @@ numbersOf t = record { classes = classesOf t; cloneable = t .cloneable; serializ
 
 -- the view, and the numbers of Cloneable and Serializable where the names have them
 unfoldable pub worldIn : Given → World
-worldIn g = record {
-  view = viewIn g;
-  cloneable = present (table g .state .tables .cloneable);
-  serializable = present (table g .state .tables .serializable);
-}
+worldIn g = worldWith (viewIn g) (present (table g .state .tables .cloneable)) (present (table g .state .tables .serializable))
 
 -- ---- refusals
 
