@@ -7,39 +7,15 @@ use native.Mathlib.Omega.{arith}
 use native.Mathlib.Decide.{ℕ-discrete}
 use lib.Dec.{eqb, ltb}
 use borrow.Author.Tests.{ne-eqb, lt-ltb, le-ltb, ltb-true, ltb-false}
-use Rattle.ty.specs.Types.{elem}
+use Rattle.order.specs.Lists.{elem}
+use Rattle.order.specs.Tests.{same, same-eq, testBelow, tested-below}
 use Rattle.lattice.specs.Lattice.{primitiveAssignable}
 
 unfoldable pub byOrder : ℕ → ℕ → Bool
 byOrder value expected = cond (eqb expected 4) false (cond (ltb 8 expected) false (cond (ltb value 2) false (ltb value expected)))
 
-same : Bool → Bool → Bool
-same true b = b
-same false true = false
-same false false = true
-
-same-eq : (a b : Bool) → same a b ≡ true → a ≡ b
-unfolding same
-same-eq true b h = sym h
-same-eq false true h = absurd (true≢false (sym h))
-same-eq false false h = refl
-
-allBelow : ℕ → (ℕ → Bool) → Bool
-allBelow zero p = true
-allBelow (suc n) p = p n && allBelow n p
-
-below : (n : ℕ) (p : ℕ → Bool) (k : ℕ) → k < n → allBelow n p ≡ true → p k ≡ true
-unfolding allBelow
-below zero p k l h = absurd (omega arith)
-below (suc n) p k l h = go (ℕ-discrete k n) (below n p k) (p n) refl h
-  where
-    go : Dec (k ≡ n) → (k < n → allBelow n p ≡ true → p k ≡ true) → (t : Bool) → p n ≡ t → (t && allBelow n p) ≡ true → p k ≡ true
-    go (yes e) ih true q r = ap p e ∙ q
-    go (no e) ih true q r = ih (omega arith) r
-    go d ih false q r = absurd (true≢false (sym r))
-
-tested : allBelow 9 (λ v. allBelow 9 (λ e. same (primitiveAssignable v e) (byOrder v e))) ≡ true
-unfolding allBelow same primitiveAssignable byOrder elem
+tested : testBelow 9 (λ v. testBelow 9 (λ e. same (primitiveAssignable v e) (byOrder v e))) ≡ true
+unfolding testBelow same primitiveAssignable byOrder elem
 tested = refl
 
 cond-false : (b : Bool) → cond b false false ≡ false
@@ -68,5 +44,5 @@ module _ (value expected : ℕ) where
           let e = ltb-false 8 expected p in
           let v = ltb-false 8 value q in
           same-eq (primitiveAssignable value expected) (byOrder value expected)
-          (below 9 (λ k. same (primitiveAssignable value k) (byOrder value k)) expected (omega arith)
-          (below 9 (λ j. allBelow 9 (λ k. same (primitiveAssignable j k) (byOrder j k))) value (omega arith) tested))
+          (tested-below 9 (λ k. same (primitiveAssignable value k) (byOrder value k)) expected (omega arith)
+          (tested-below 9 (λ j. testBelow 9 (λ k. same (primitiveAssignable j k) (byOrder j k))) value (omega arith) tested))

@@ -6,13 +6,14 @@ use Prim.Native.Nat.{ℕ, zero, suc, _-_, _^_, _≤_, _<_}
 use native.Mathlib.Omega.{arith}
 use lib.Dec.{eqb, leb}
 use borrow.Author.Tests.{eq-eqb, ne-eqb, eqb-true, leb-true, leb-false, ltb-true}
+use Rattle.order.specs.Compare.{isEqual}
+use Rattle.order.specs.Laws.{numbers-by}
 use Rattle.ty.specs.Types.{ArgType, Primitive, Object, Array, Unknown, compare, categories, isKnown, isPrimitive, isObject, isArray}
 use Rattle.ty.specs.Words.{Legal, tagOf, loadOf, typeOf, baseOf}
-use Rattle.ty.specs.Order.{numbers-by}
 use Rattle.ty.specs.Shape.{type-array, type-flat, legal-element}
 use Rattle.ty.specs.Steps.{array-test, check-object}
 use Rattle.view.specs.View.{relation}
-use Rattle.lattice.specs.Lattice.{World, isEqual, sameType, isNumber, notNo, unknownAccepts, primitiveAssignable, elementsAssignable, arrayParent, assignableApart, isAssignable}
+use Rattle.lattice.specs.Lattice.{World, sameType, isNumber, notNo, unknownAccepts, primitiveAssignable, elementsAssignable, arrayParent, assignableApart, isAssignable}
 use Rattle.lattice.specs.World.{present}
 use Rattle.lattice.specs.Same.{same-refl, same-words}
 

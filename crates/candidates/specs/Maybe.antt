@@ -10,7 +10,7 @@ use lib.ListN.{length, getD}
 use borrow.Author.Tests.{le-leb, lt-ltb}
 use Rattle.ty.specs.declared.MaybeType.{MaybeType}
 use Rattle.ty.specs.declared.MaybeType.the-variants.{Is, Nothing}
-use Rattle.ty.specs.declared.Order.the-variants.{Less, Equal, Greater}
+use Rattle.order.specs.declared.Order.the-variants.{Less, Equal, Greater}
 use Rattle.ty.specs.Types.{ArgType, Primitive, Object, Array, Unknown, depth, compare, isConcrete, concreteHint, hintOfList}
 use Rattle.ty.specs.Words.{Legal, typeOf, legalType, legalAtBase}
 use Rattle.ty.specs.Distinct.{distinct-first}

@@ -3,8 +3,8 @@
 use assignable::is_assignable;
 use assignable::unknown_accepts;
 use lattice::Numbers;
+use order::Order;
 use ty::MaybeType;
-use ty::Order;
 use ty::TypeWord;
 ghost use mathlib.Core.Path.{_≡_};
 ghost use mathlib.Core.Bool.{true, false, _&&_};

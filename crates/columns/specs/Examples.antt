@@ -3,11 +3,12 @@ use mathlib.Core.Path.{_≡_, refl}
 use mathlib.Core.List.{List, [], _∷_}
 use Prim.Native.Nat.{ℕ, _-_, _^_}
 use lib.ListN.{replicate}
-use Rattle.ty.specs.Types.{compareNumbers, compareLists}
+use Rattle.order.specs.Lists.{elem}
+use Rattle.order.specs.Compare.{compareNumbers, compareLists}
 use Rattle.utf8.specs.Utf8.{table, within, matches, firstMatch, sequence, scan, validPrefix, wellFormed}
 use Rattle.sets.specs.Sets.{insert, remove, clear}
-use Rattle.sorted.specs.Sorted.{elem, insertSorted, put}
-use Rattle.names.specs.First.{first}
+use Rattle.sorted.specs.Sorted.{insertSorted, put}
+use Rattle.checks.specs.Checks.{firstRefusal}
 use Rattle.names.specs.Names.{nameChecks, checkName}
 use Rattle.rows.specs.Rows.{objectName, cloneableName, serializableName, noTables, noted, withName, nameRow, goodFlags, allBelow, putAll, marked, recordMarks, recordChecks, recordRefusal, withRecord, recordRow, Ran}
 use Rattle.columns.specs.Columns.{inside, placedName, nameRows, placedRecord, recordRows, tableOf}
@@ -38,5 +39,5 @@ pub probe :
         marks = 7 ∷ replicate 63 0;
       };
     })
-unfolding inside placedName nameRows placedRecord recordRows tableOf objectName cloneableName serializableName noTables noted withName nameRow goodFlags allBelow putAll marked recordMarks recordChecks recordRefusal withRecord recordRow nameChecks checkName first compareLists compareNumbers table within matches firstMatch sequence scan validPrefix wellFormed insert remove clear elem insertSorted put
+unfolding inside placedName nameRows placedRecord recordRows tableOf objectName cloneableName serializableName noTables noted withName nameRow goodFlags allBelow putAll marked recordMarks recordChecks recordRefusal withRecord recordRow nameChecks checkName firstRefusal compareLists compareNumbers table within matches firstMatch sequence scan validPrefix wellFormed insert remove clear elem insertSorted put
 probe = (refl, refl)

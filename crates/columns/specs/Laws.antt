@@ -9,13 +9,13 @@ use lib.Dec.{eqb, leb}
 use lib.ListN.{length, take, drop, getD, drop-of-length-le}
 use lib.Seq.{drop-cons}
 use borrow.Author.Tests.{ne-eqb, leb-true}
-use Rattle.names.specs.First.{both}
+use Rattle.order.specs.Truth.{both}
 use Rattle.names.specs.Names.{nameOf, checkName}
 use Rattle.rows.specs.declared.Tables.{Tables}
 use Rattle.rows.specs.declared.Outcome.{Outcome}
 use Rattle.rows.specs.Rows.{noTables, withName, nameRow, State, stateOf, recordRefusal, withRecord, recordRow, Ran, recordRan, filled, Fills}
 use Rattle.rows.specs.Keys.{all-longer, filled-same, filled-again, length-filled}
-use Rattle.rows.specs.Laws.{Good, good-start, good-name, good-record, fills-state}
+use Rattle.rows.specs.Laws.{Sound, good-start, good-name, good-record, fills-state}
 use Rattle.columns.specs.Columns.{inside, placedName, nameRows, placedRecord, recordRows, tableOf}
 
 pub inside-is : (size at len : ℕ) → inside size at len ≡ true → (at ≤ size) × (len ≤ size - at)
@@ -96,13 +96,13 @@ names-pairs bytes ats lens last t =
     names-keep (λ (u : Tables). u .pairs ≡ t .pairs) (λ l n u e. name-pairs l n u ∙ e) bytes ats lens last t refl
 
 -- THE NAMES LEAVE A GOOD STATE
-pub names-good : (bytes ats lens marks : List ℕ) → length marks ≡ 64 → Good (record { tables = nameRows bytes ats lens [] noTables .tables; keys = []; marks = marks })
+pub names-good : (bytes ats lens marks : List ℕ) → length marks ≡ 64 → Sound (record { tables = nameRows bytes ats lens [] noTables .tables; keys = []; marks = marks })
 names-good bytes ats lens marks w =
-    names-keep (λ (t : Tables). Good (record { tables = t; keys = []; marks = marks }))
+    names-keep (λ (t : Tables). Sound (record { tables = t; keys = []; marks = marks }))
     (λ l n t g. good-name l n (record { tables = t; keys = []; marks = marks }) g) bytes ats lens [] noTables (good-start marks w)
 
 -- whatever stands in the slice of pairs
-pub names-leave : (bytes ats lens pairs marks : List ℕ) → length marks ≡ 64 → Good (stateOf pairs marks (nameRows bytes ats lens [] noTables .tables))
+pub names-leave : (bytes ats lens pairs marks : List ℕ) → length marks ≡ 64 → Sound (stateOf pairs marks (nameRows bytes ats lens [] noTables .tables))
 unfolding noTables
 names-leave bytes ats lens pairs marks w = rw (names-pairs bytes ats lens [] noTables) (names-good bytes ats lens marks w)
 
@@ -128,8 +128,8 @@ module _ (parents : List ℕ) (flags class at len : ℕ) (s : State) where
       go true = new
       go false = old
 
-  pub placed-good : Good s → Good (placedRecord parents flags class at len s .state)
-  placed-good g = record-either Good g (good-record s flags class (take len (drop at parents)) g)
+  pub placed-good : Sound s → Sound (placedRecord parents flags class at len s .state)
+  placed-good g = record-either Sound g (good-record s flags class (take len (drop at parents)) g)
 
 -- no key goes
 row-longer : (s : State) (flags class : ℕ) (parents : List ℕ) → length (s .keys) ≤ length (recordRow s flags class parents .keys)
@@ -160,7 +160,7 @@ module _ (parents fs cs ats ls : List ℕ) (s : State) (i : ℕ) where
     unfolding recordRows
     records-stop n = rw (drop-cons fs i 0 hf, drop-cons cs i 0 hc, drop-cons ats i 0 ha, drop-cons ls i 0 hl, ← e, ne-eqb k 0 n)
 
-pub records-good : (parents fs cs ats ls : List ℕ) (s : State) → Good s → Good (recordRows parents fs cs ats ls s .state)
+pub records-good : (parents fs cs ats ls : List ℕ) (s : State) → Sound s → Sound (recordRows parents fs cs ats ls s .state)
 unfolding recordRows
 records-good parents [] cs ats ls s g = g
 records-good parents (f ∷ fs) [] ats ls s g = g
@@ -173,13 +173,13 @@ records-good parents (f ∷ fs) (c ∷ cs) (a ∷ ats) (l ∷ ls) s g =
     rest : Ran
     rest = recordRows parents fs cs ats ls (placedRecord parents f c a l s .state)
 
-    go : (b : Bool) → Good (placedRecord parents f c a l s .state) → Good (rest .state) → Good (cond b rest (placedRecord parents f c a l s) .state)
+    go : (b : Bool) → Sound (placedRecord parents f c a l s .state) → Sound (rest .state) → Sound (cond b rest (placedRecord parents f c a l s) .state)
     go true one all = all
     go false one all = one
 
 -- EVERY TABLE IS GOOD, refused or not: its keys are sorted and at most 4,096, of classes that it names
 pub table-good : (bytes ats lens parents fs cs starts sizes marks : List ℕ) → length marks ≡ 64
-    → Good (tableOf (nameRows bytes ats lens [] noTables) parents fs cs starts sizes marks .state)
+    → Sound (tableOf (nameRows bytes ats lens [] noTables) parents fs cs starts sizes marks .state)
 unfolding tableOf
 table-good bytes ats lens parents fs cs starts sizes marks w =
     go (eqb (nameRows bytes ats lens [] noTables .refusal) 0)
@@ -188,7 +188,7 @@ table-good bytes ats lens parents fs cs starts sizes marks w =
     s = record { tables = nameRows bytes ats lens [] noTables .tables; keys = []; marks = marks }
 
     go : (b : Bool)
-        → Good (cond {A = Ran} b (recordRows parents fs cs starts sizes s) (record { refusal = nameRows bytes ats lens [] noTables .refusal; state = s }) .state)
+        → Sound (cond {A = Ran} b (recordRows parents fs cs starts sizes s) (record { refusal = nameRows bytes ats lens [] noTables .refusal; state = s }) .state)
     go true = records-good parents fs cs starts sizes s (names-good bytes ats lens marks w)
     go false = names-good bytes ats lens marks w
 
@@ -209,13 +209,13 @@ fills-again after keys pairs₀ pairs pairs′ marks′ r e h f = record {
 -- a record in the slices, after others that stand in front of pairs₀
 pub record Turned (after : Ran) (pairs₀ pairs pairs′ marks′ : List ℕ) (r : Outcome) : Type 0 where
   pub state-is : stateOf pairs′ marks′ (r .tables) ≡ after .state
-  pub good : Good (stateOf pairs′ marks′ (r .tables))
+  pub good : Sound (stateOf pairs′ marks′ (r .tables))
   pub as-long : length pairs′ ≡ length pairs
   pub front : pairs′ ≡ filled (take (r .tables .pairs) pairs′) pairs₀
   pub fills : Fills after pairs₀ pairs′ marks′ r
 
 pub turned : (parents : List ℕ) (flags class at len : ℕ) (pairs₀ pairs marks : List ℕ) (t : Tables) (pairs′ marks′ : List ℕ) (r : Outcome)
-    → Good (stateOf pairs marks t) → length pairs ≡ 4096 → pairs ≡ filled (take (t .pairs) pairs) pairs₀
+    → Sound (stateOf pairs marks t) → length pairs ≡ 4096 → pairs ≡ filled (take (t .pairs) pairs) pairs₀
     → Fills (placedRecord parents flags class at len (stateOf pairs marks t)) pairs pairs′ marks′ r
     → Turned (placedRecord parents flags class at len (stateOf pairs marks t)) pairs₀ pairs pairs′ marks′ r
 turned parents flags class at len pairs₀ pairs marks t pairs′ marks′ r g l e f =
@@ -225,7 +225,7 @@ turned parents flags class at len pairs₀ pairs marks t pairs′ marks′ r g l
     let is = fills-state after pairs pairs′ marks′ r f (ok .counted) in
     record {
       state-is = is;
-      good = subst Good (sym is) ok;
+      good = subst Sound (sym is) ok;
       as-long = ap length (f .pairs-are) ∙ length-filled (after .state .keys) pairs (omega (arith, ok .room));
       front = again .pairs-are ∙ ap (λ (s : State). filled (s .keys) pairs₀) (sym is);
       fills = again;

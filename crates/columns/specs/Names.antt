@@ -9,7 +9,7 @@ use lib.Dec.{eqb, leb}
 use lib.ListN.{length, drop, length-drop}
 use lib.Seq.{length-take-le}
 use borrow.Author.Tests.{eq-eqb, ne-eqb, lt-ltb, le-leb, leb-true, leb-false, eqb-true, eqb-false}
-use Rattle.names.specs.First.{first, orElse, else-none, else-some}
+use Rattle.checks.specs.Checks.{firstRefusal, orElse, else-none, else-some}
 use Rattle.names.specs.Names.{placeGood, nameOf, nameAt, nameChecks, checkName, checkRow, checkRows, checkNames}
 use Rattle.names.specs.Table.{Inside, place-inside, row-misplaced, row-placed, Checked, checked, number-of-name}
 use Rattle.rows.specs.declared.Tables.{Tables}
@@ -35,7 +35,7 @@ name-refusal last name t = refl
 module _ (bytes last : List ℕ) (at len : ℕ) (t : Tables) where
   -- what is refused although it is inside has a bad length
   bad-length : inside (length bytes) at len ≡ true → placeGood (length bytes) at len ≡ false → checkName last (nameOf bytes at len) (t .names) (t .bytes) ≡ 3
-  unfolding checkName nameChecks first placeGood inside
+  unfolding checkName nameChecks firstRefusal placeGood inside
   bad-length i p = go (leb 1 len) refl (leb len 255) refl p
     where
       n : length (nameOf bytes at len) ≡ len

@@ -14,7 +14,7 @@ use Rattle.descriptor.specs.declared.Base.{Base}
 use Rattle.descriptor.specs.declared.Base.the-variants.{Simple, Class}
 use Rattle.descriptor.specs.declared.Read.{Read}
 use Rattle.descriptor.specs.declared.Read.the-variants.{Found, Refused}
-use Rattle.descriptor.specs.Read.{pickR, letterOf, indexOf, nameOf, readName, choose, readType, finish, strictName, strictly}
+use Rattle.descriptor.specs.Read.{pickR, letterOf, indexOf, nameRead, readName, choose, readType, finish, strictName, strictly}
 use Rattle.descriptor.specs.Steps.{read-end, read-at, Placed}
 
 -- the class name of n bytes at p, in a type that begins at `at` and ends before `next`
@@ -85,7 +85,7 @@ module _ (s : List ℕ) where
 
   module _ (at dims : ℕ) (h : at < length s) (l : dims ≤ 255) where
     name-tells : Tells s at dims (readName (drop (at + 1) s) at dims)
-    unfolding readName nameOf wellFormed
+    unfolding readName nameRead wellFormed
     name-tells =
         let bs = drop (at + 1) s in
         let n = indexOf 59 bs in

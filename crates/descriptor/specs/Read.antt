@@ -38,13 +38,13 @@ indexOf x (b ∷ bs) = step (eqb b x) (indexOf x bs)
     step false n = suc n
 
 -- the name after the 'L' at `at`, of n bytes whose first v are the longest well-formed prefix
-unfoldable pub nameOf : List ℕ → ℕ → ℕ → ℕ → ℕ → Read
-nameOf bs at dims n v =
+unfoldable pub nameRead : List ℕ → ℕ → ℕ → ℕ → ℕ → Read
+nameRead bs at dims n v =
     pickR (leb (length bs) n) (Refused 11 (at + 1 + length bs) 0)
     (pickR (eqb n 0) (Refused 14 at 0) (pickR (ltb v n) (Refused 12 (at + 1 + v) (getD bs v 0)) (Found dims (Class (at + 1) n) (at + 1 + n + 1))))
 
 unfoldable pub readName : List ℕ → ℕ → ℕ → Read
-readName bs at dims = nameOf bs at dims (indexOf 59 bs) (validPrefix (take (indexOf 59 bs) bs))
+readName bs at dims = nameRead bs at dims (indexOf 59 bs) (validPrefix (take (indexOf 59 bs) bs))
 
 -- ---- a type
 

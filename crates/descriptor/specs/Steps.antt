@@ -14,7 +14,7 @@ use Rattle.descriptor.specs.declared.Base.{Base}
 use Rattle.descriptor.specs.declared.Base.the-variants.{Simple, Class}
 use Rattle.descriptor.specs.declared.Read.{Read}
 use Rattle.descriptor.specs.declared.Read.the-variants.{Found, Refused}
-use Rattle.descriptor.specs.Read.{pickR, letterOf, indexOf, nameOf, readName, choose, readType, partsFrom, strictName, strictly}
+use Rattle.descriptor.specs.Read.{pickR, letterOf, indexOf, nameRead, readName, choose, readType, partsFrom, strictName, strictly}
 
 -- ---- the first ';'
 
@@ -64,7 +64,7 @@ module _ (s : List ℕ) (at dims e : ℕ) (h : at < length s) (f : e ≡ at + 1 
   name-inside = let l = length-drop (at + 1) s in let i = index-le 59 (drop (at + 1) s) in omega arith
 
   pub name-none : e ≡ length s → Refused 11 e 0 ≡ readName (drop (at + 1) s) at dims
-  unfolding readName nameOf
+  unfolding readName nameRead
   name-none g =
       let l = length-drop (at + 1) s in
       rw (le-leb (length (drop (at + 1) s)) (indexOf 59 (drop (at + 1) s)) (omega arith))
@@ -78,7 +78,7 @@ module _ (s : List ℕ) (at dims e : ℕ) (h : at < length s) (f : e ≡ at + 1 
         lt-leb (length (drop (at + 1) s)) (indexOf 59 (drop (at + 1) s)) (omega arith)
 
     pub name-empty : e ≡ at + 1 → Refused 14 at 0 ≡ readName (drop (at + 1) s) at dims
-    unfolding readName nameOf
+    unfolding readName nameRead
     name-empty z = rw (found, eq-eqb (indexOf 59 (drop (at + 1) s)) 0 (omega arith))
 
     module _ (z : e ≡ at + 1 → ⊥) (v : ℕ) (w : v ≡ at + 1 + validPrefix (take (e - (at + 1)) (drop (at + 1) s))) where
@@ -92,14 +92,14 @@ module _ (s : List ℕ) (at dims e : ℕ) (h : at < length s) (f : e ≡ at + 1 
       valid = w ∙ ap (λ (n : ℕ). at + 1 + validPrefix (take n (drop (at + 1) s))) size
 
       pub name-bad : v < e → Refused 12 v (getD s v 0) ≡ readName (drop (at + 1) s) at dims
-      unfolding readName nameOf
+      unfolding readName nameRead
       name-bad b =
           let q = valid in
           rw (found, some, lt-ltb (validPrefix (take (indexOf 59 (drop (at + 1) s)) (drop (at + 1) s))) (indexOf 59 (drop (at + 1) s)) (omega arith))
           (ap₂ (Refused 12) q (ap (λ (o : ℕ). getD s o 0) q ∙ sym (getD-drop (at + 1) s (validPrefix (take (indexOf 59 (drop (at + 1) s)) (drop (at + 1) s))) 0)))
 
       pub name-good : e ≤ v → Found dims (Class (at + 1) (e - (at + 1))) (e + 1) ≡ readName (drop (at + 1) s) at dims
-      unfolding readName nameOf
+      unfolding readName nameRead
       name-good b =
           let q = valid in
           rw (found, some, le-ltb (validPrefix (take (indexOf 59 (drop (at + 1) s)) (drop (at + 1) s))) (indexOf 59 (drop (at + 1) s)) (omega arith))

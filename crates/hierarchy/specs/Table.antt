@@ -10,8 +10,9 @@ use lib.Dec.{ltb}
 use borrow.Author.Tests.{lt-ltb, ltb-true}
 use lib.ListN.{length, take, drop, getD, length-take, length-drop}
 use lib.Seq.{getD-take, getD-drop}
+use Rattle.order.specs.Lists.{elem}
 use Rattle.sets.specs.Sets.{bit, at, member}
-use Rattle.sorted.specs.Sorted.{runOf, Sorted, place, elem}
+use Rattle.sorted.specs.Sorted.{runOf, Sorted, place}
 use Rattle.sorted.specs.Laws.{elem-get}
 use Rattle.sorted.specs.Places.{run-only, run-all, has-elem, has-get}
 use Rattle.hierarchy.specs.declared.Classes.{Classes}

@@ -28,10 +28,10 @@ base-other S = omega arith
 base-other Z = omega arith
 
 -- a descriptor begins with a byte that is no  V  and no  )
-pub first : {Name : List ℕ → Type 0} {xs : List ℕ} {t : JavaType} → FieldType Name xs t → (b : ℕ) × (bs : List ℕ) × (xs ≡ b ∷ bs) × (b ≢ 86) × (b ≢ 41)
-first (base {b} l) = (b, [], refl, base-other l .0, base-other l .3)
-first (object {name} n) = (76, name ++ 59 ∷ [], refl, omega arith, omega arith)
-first (array {bs} f) = (91, bs, refl, omega arith, omega arith)
+pub first-byte : {Name : List ℕ → Type 0} {xs : List ℕ} {t : JavaType} → FieldType Name xs t → (b : ℕ) × (bs : List ℕ) × (xs ≡ b ∷ bs) × (b ≢ 86) × (b ≢ 41)
+first-byte (base {b} l) = (b, [], refl, base-other l .0, base-other l .3)
+first-byte (object {name} n) = (76, name ++ 59 ∷ [], refl, omega arith, omega arith)
+first-byte (array {bs} f) = (91, bs, refl, omega arith, omega arith)
 
 -- ---- one type
 
@@ -77,8 +77,8 @@ one-prefix ended (array l) (array m) r q e =
 -- EQUAL RETURN DESCRIPTORS ARE OF ONE TYPE
 pub one-return : {Name : List ℕ → Type 0} → Ended Name → {xs ys : List ℕ} {t u : JavaType} → ReturnDescriptor Name xs t → ReturnDescriptor Name ys u → xs ≡ ys → t ≡ u
 one-return ended (field l) (field m) e = one-prefix ended l m [] [] (ap (λ (x : List ℕ). x ++ []) e) .0
-one-return ended (field l) void e = let f = first l in unlike (sym (f .2) ∙ e) (f .3)
-one-return ended void (field m) e = let f = first m in unlike (sym (f .2) ∙ sym e) (f .3)
+one-return ended (field l) void e = let f = first-byte l in unlike (sym (f .2) ∙ e) (f .3)
+one-return ended void (field m) e = let f = first-byte m in unlike (sym (f .2) ∙ sym e) (f .3)
 one-return ended void void e = refl
 
 -- what stands after the same front is the same
@@ -87,7 +87,7 @@ after xs ys r q same e = sym (drop-append-seam xs r) ∙ ap (drop (length xs)) e
 
 -- a parameter does not begin with the ')'
 not-close : {Name : List ℕ → Type 0} {xs : List ℕ} {t : JavaType} → FieldType Name xs t → (r q : List ℕ) → xs ++ r ≡ 41 ∷ q → ⊥
-not-close l r q e = let f = first l in unlike (ap (λ (x : List ℕ). x ++ r) (sym (f .2)) ∙ e) (f .4)
+not-close l r q e = let f = first-byte l in unlike (ap (λ (x : List ℕ). x ++ r) (sym (f .2)) ∙ e) (f .4)
 
 one-list : {Name : List ℕ → Type 0} → Ended Name → {xs ys : List ℕ} {ps qs : List Parameter} → Parameters Name xs ps → Parameters Name ys qs → (r q : List ℕ)
     → xs ++ 41 ∷ r ≡ ys ++ 41 ∷ q → (ps ≡ qs) × (r ≡ q)

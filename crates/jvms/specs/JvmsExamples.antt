@@ -4,7 +4,7 @@ use mathlib.Core.List.{List, [], _∷_}
 use Prim.Native.Nat.{ℕ}
 use Rattle.ty.specs.Types.{Void, Int}
 use Rattle.utf8.specs.Utf8.{table, within, matches, firstMatch, sequence, scan, validPrefix}
-use Rattle.descriptor.specs.Read.{letterOf, indexOf, nameOf, readName, readType, finish, partsFrom, strictName, strictly}
+use Rattle.descriptor.specs.Read.{letterOf, indexOf, nameRead, readName, readType, finish, partsFrom, strictName, strictly}
 use Rattle.descriptor.specs.Method.{readParams, returns, afterParams, readMethod, strictParams, strictMethod, readMethodStrict}
 use Rattle.jvms.specs.Jvms.{JavaType, Primitive, Object, Array, ClassName, I, FieldType.base, FieldType.array}
 use Rattle.jvms.specs.Jvms.{ReturnDescriptor, ReturnDescriptor.field, MethodDescriptor}
@@ -24,5 +24,5 @@ pub derives-method : MethodDescriptor ClassName (40 ∷ 73 ∷ 76 ∷ 97 ∷ 59 
   parameters = record { bytes = 73 ∷ []; type = Primitive Int } ∷ record { bytes = 76 ∷ 97 ∷ 59 ∷ []; type = Object (97 ∷ []) } ∷ [];
   result = Primitive Void;
 })
-unfolding letterOf indexOf nameOf readName readType finish partsFrom strictName strictly readParams returns afterParams readMethod strictParams strictMethod readMethodStrict validPrefix scan sequence firstMatch table matches within typeAt typeRead parametersAt methodRead
+unfolding letterOf indexOf nameRead readName readType finish partsFrom strictName strictly readParams returns afterParams readMethod strictParams strictMethod readMethodStrict validPrefix scan sequence firstMatch table matches within typeAt typeRead parametersAt methodRead
 derives-method = strict-method _ _ .0 refl .0

@@ -18,7 +18,7 @@ use Rattle.descriptor.specs.Method.{Params, Listed, Stopped, Method, Whole, Bro
 use Rattle.jvms.specs.Jvms.{JavaType, dimensions, AnyName, FieldType, Parameter, Parameters, Parameters.none, Parameters.more}
 use Rattle.jvms.specs.Meaning.{typeAt, typeRead, upTo, parametersAt, placed, starts, ends}
 use Rattle.jvms.specs.Prefix.{prefix, Stop, sound}
-use Rattle.jvms.specs.Derive.{first, strictType, AllStrict}
+use Rattle.jvms.specs.Derive.{first-byte, strictType, AllStrict}
 use Rattle.jvms.specs.Ends.{stands, strict-keeps, strict-drops}
 
 -- every parameter has at most 255 dimensions
@@ -48,7 +48,7 @@ ends-at (more {bs} {rest} f l) at = rw (ends-at l (at + length bs), length-appen
 pub few : {Name : List ℕ → Type 0} {xs : List ℕ} {ps : List Parameter} → Parameters Name xs ps → length ps ≤ length xs
 few none = omega arith
 few (more {bs} {rest} f l) =
-    let h = first f in
+    let h = first-byte f in
     let n = ap length (h .2) in
     rw length-append (omega (arith, few l))
 
@@ -76,7 +76,7 @@ list-found none (suc turns) s rest at count e more-turns room low =
 list-found (more f l) zero s rest at count e more-turns room low = absurd (let z : ⊥ = omega arith in z)
 list-found (more {bs} {rest = ys} {t} {ps} f l) (suc turns) s rest at count e more-turns room low =
     let split : drop at s ≡ bs ++ (ys ++ 41 ∷ rest) = e ∙ append-assoc bs ys (41 ∷ rest) in
-    let begin = first f in
+    let begin = first-byte f in
     let here = inside s (begin .0) (begin .1 ++ (ys ++ 41 ∷ rest)) at (split ∙ ap (λ (x : List ℕ). x ++ (ys ++ 41 ∷ rest)) (begin .2)) in
     let lower : Low ps = λ p m. low p (List·Memᴰ·tail m) in
     let others = list-found l turns s rest (at + length bs) (count + 1) (step-on s bs (ys ++ 41 ∷ rest) at split) (omega arith) (omega arith) lower in

@@ -15,7 +15,7 @@ use Rattle.descriptor.specs.declared.Base.{Base}
 use Rattle.descriptor.specs.declared.Base.the-variants.{Simple, Class}
 use Rattle.descriptor.specs.declared.Read.{Read}
 use Rattle.descriptor.specs.declared.Read.the-variants.{Found, Refused}
-use Rattle.descriptor.specs.Read.{pickR, letterOf, indexOf, nameOf, readName, choose, readType}
+use Rattle.descriptor.specs.Read.{pickR, letterOf, indexOf, nameRead, readName, choose, readType}
 use Rattle.jvms.specs.Jvms.{JavaType, Primitive, Object, Array, dimensions, AnyName, BaseType, B, C, D, F, I, BaseType.J, S, Z}
 use Rattle.jvms.specs.Jvms.{FieldType, FieldType.base, FieldType.object, FieldType.array, ReturnDescriptor, ReturnDescriptor.field, ReturnDescriptor.void}
 use Rattle.jvms.specs.Names.{index-seam, Cut, index-cut}
@@ -42,7 +42,7 @@ unfolding wellFormed
 well-formed-length name w = eqb-true (validPrefix name) (length name) (wellFormed-decides name .1 w)
 
 name-stops : (name rest : List ℕ) (at d : ℕ) → AnyName name → readName (name ++ 59 ∷ rest) at d ≡ Found d (Class (at + 1) (length name)) (at + 1 + length name + 1)
-unfolding readName nameOf
+unfolding readName nameRead
 name-stops name rest at d a =
     let n = index-seam 59 name rest (a .without 59 (List·Memᴰ·head refl)) in
     let long : length name < length (name ++ 59 ∷ rest) = simp length-append (omega arith) in
@@ -157,7 +157,7 @@ name-of bs c some good = record {
 
 sound-name : (v : Bool) (bs : List ℕ) (at d dims : ℕ) (b : Base) (next : ℕ) → d ≤ 255
     → readName bs at d ≡ Found dims b next → Stop v (76 ∷ bs) at d dims b next
-unfolding readName nameOf dimensions placed
+unfolding readName nameRead dimensions placed
 sound-name v bs at d dims b next h e =
     let n = indexOf 59 bs in
     let p = validPrefix (take n bs) in
@@ -233,7 +233,7 @@ moved-pick k true a b = refl
 moved-pick k false a b = refl
 
 shift-name : (bs : List ℕ) (k at d : ℕ) → readName bs (k + at) d ≡ moved k (readName bs at d)
-unfolding readName nameOf moved
+unfolding readName nameRead moved
 shift-name bs k at d = simp (moved-pick, ← add-assoc)
 
 -- BYTES THAT STAND k FURTHER ON ARE READ THE SAME, WITH PLACES AND REFUSALS k FURTHER ON

@@ -3,9 +3,10 @@ use mathlib.Core.Path.{_≡_, refl}
 use mathlib.Core.List.{List, [], _∷_, map}
 use Prim.Native.Nat.{ℕ}
 use lib.ListN.{replicate}
-use Rattle.ty.specs.declared.Order.{Order}
-use Rattle.ty.specs.declared.Order.the-variants.{Less}
-use Rattle.ty.specs.Types.{ArgType, Primitive, Object, Array, Unknown, Void, Boolean, Int, arrays, compare, compareNumbers, compareLists}
+use Rattle.order.specs.Compare.{compareNumbers, compareLists}
+use Rattle.order.specs.declared.Order.{Order}
+use Rattle.order.specs.declared.Order.the-variants.{Less}
+use Rattle.ty.specs.Types.{ArgType, Primitive, Object, Array, Unknown, Void, Boolean, Int, arrays, compare}
 use Rattle.ty.specs.Words.{pack, unpack}
 use Rattle.keys.specs.Rank.{deeper, digitsOf, rank, trim, membersOf, knownBase, unrank, key, keyComponent, keyKind, keyType}
 

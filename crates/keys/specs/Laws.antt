@@ -6,10 +6,11 @@ use Prim.Native.Nat.{ℕ, suc, _+_, _-_, _*_, _/_, _%_, _^_, _≤_, _<_}
 use native.Mathlib.Omega.{arith}
 use lib.Dec.{leb}
 use borrow.Author.Tests.{leb-true, ltb-true, lt-ltb, le-ltb}
-use Rattle.ty.specs.Types.{ArgType, Primitive, Object, Array, Unknown, depth, arrays, compareNumbers, compare, then}
+use Rattle.order.specs.Truth.{and-left, and-right}
+use Rattle.order.specs.Laws.{numbers-less, numbers-greater}
+use Rattle.order.specs.Compare.{compareNumbers, then}
+use Rattle.ty.specs.Types.{ArgType, Primitive, Object, Array, Unknown, depth, arrays, compare}
 use Rattle.ty.specs.Words.{legalAtBase, legalType}
-use Rattle.ty.specs.Order.{numbers-less, numbers-greater}
-use Rattle.ty.specs.Distinct.{and-left, and-right}
 use Rattle.keys.specs.Rank.{deeper, digitsOf, rank, membersOf, knownBase, unrank, key, keyComponent, keyKind, keyType}
 use Rattle.keys.specs.Numbers.{numbers-alike, numbers-shift, numbers-parts}
 use Rattle.keys.specs.Members.{digits-small, digits-order, members-digits}

@@ -7,10 +7,10 @@ use native.Mathlib.Nat.{zero-add, suc-mul}
 use native.Mathlib.Omega.{arith}
 use lib.ListN.{length, replicate, length-append, length-map, length-replicate}
 use lib.Pow.{pow-pos}
-use Rattle.ty.specs.Types.{compareNumbers, compareLists, then}
+use Rattle.order.specs.Laws.{numbers-less, numbers-same, numbers-greater}
+use Rattle.order.specs.Compare.{compareNumbers, compareLists, then}
 use Rattle.ty.specs.Words.{pack, unpack, distinct}
 use Rattle.ty.specs.Digits.{Digits, pack-lt, unpack-pack, pack-zeros, digits-zeros}
-use Rattle.ty.specs.Order.{numbers-less, numbers-same, numbers-greater}
 use Rattle.ty.specs.Distinct.{distinct-first, distinct-rest, distinct-length}
 use Rattle.keys.specs.Rank.{digitsOf, trim, membersOf}
 use Rattle.keys.specs.Numbers.{numbers-suc, numbers-parts}

@@ -4,10 +4,10 @@ use mathlib.Core.Path.{_≡_, sym, ap, _∙_}
 use Prim.Native.Nat.{ℕ, suc, _+_, _*_, _<_}
 use native.Mathlib.Omega.{arith}
 use lib.Arith.{digits-lt}
-use Rattle.ty.specs.declared.Order.{Order}
-use Rattle.ty.specs.declared.Order.the-variants.{Equal}
-use Rattle.ty.specs.Types.{compareNumbers, then}
-use Rattle.ty.specs.Order.{numbers-less, numbers-same, numbers-greater, numbers-by}
+use Rattle.order.specs.Laws.{numbers-less, numbers-same, numbers-greater, numbers-by}
+use Rattle.order.specs.Compare.{compareNumbers, then}
+use Rattle.order.specs.declared.Order.{Order}
+use Rattle.order.specs.declared.Order.the-variants.{Equal}
 
 pub numbers-equal : (a b : ℕ) → a ≡ b → compareNumbers a b ≡ Equal
 numbers-equal a b h = ap (compareNumbers a) (sym h) ∙ numbers-same a

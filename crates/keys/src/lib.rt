@@ -1,5 +1,5 @@
 // Types by rank, a number in the order of types, and the 64-bit keys of bounds: component, kind and type in one number.
-use ty::Order;
+use order::Order;
 use ty::TypeWord;
 use ty::digit;
 ghost use mathlib.Core.Path.{_≡_};

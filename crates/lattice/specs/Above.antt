@@ -8,11 +8,13 @@ use Prim.Native.Nat.{ℕ, _≤_, _<_}
 use native.Mathlib.Omega.{arith}
 use lib.Dec.{eqb}
 use borrow.Author.Tests.{eq-eqb, eqb-true, ltb-true, leb-true}
-use Rattle.ty.specs.Types.{ArgType, Primitive, Object, Array, Unknown, elem, compareNumbers, compare, categories, isKnown, isPrimitive, isConcrete, ObjectCategory, ArrayCategory}
+use Rattle.order.specs.Compare.{compareNumbers}
+use Rattle.order.specs.Lists.{elem}
+use Rattle.ty.specs.Types.{ArgType, Primitive, Object, Array, Unknown, compare, categories, isKnown, isPrimitive, isConcrete, ObjectCategory, ArrayCategory}
 use Rattle.ty.specs.Words.{legalAtBase}
 use Rattle.view.specs.declared.Relation.the-variants.{Yes}
-use Rattle.lattice.specs.Lattice.{World, Lawful, notNo, sameType, unknownAccepts, ascending, unknownUnion, primitiveAssignable, assignableApart, isAssignable, narrow, underDouble, joinPrimitive, inBoth, orFull, joinKnown, classOr, joinElements, joinArrayClass, joinApart, join}
-use Rattle.lattice.specs.Jls.{allBelow, below}
+use Rattle.lattice.specs.Lattice.{World, Lawful, notNo, sameType, unknownAccepts, inEither, unknownUnion, primitiveAssignable, assignableApart, isAssignable, narrow, underDouble, joinPrimitive, inBoth, orFull, joinKnown, classOr, joinElements, joinArrayClass, joinApart, join}
+use Rattle.order.specs.Tests.{testBelow, tested-below}
 use Rattle.lattice.specs.References.{same-exactly, assignable-self, assignable-classes, array-object, assignable-arrays}
 use Rattle.lattice.specs.Fits.{by-cond, ascending-elem}
 
@@ -23,15 +25,15 @@ module _ (w : World) where
 
   -- ---- two primitives: one computed test over the eleven categories each way
 
-  tested : allBelow 11 (λ j. allBelow 11 (λ k. isAssignable w (Primitive j) (joinPrimitive j k) && isAssignable w (Primitive k) (joinPrimitive j k))) ≡ true
-  unfolding allBelow elem compareNumbers compare sameType unknownAccepts primitiveAssignable assignableApart isAssignable narrow underDouble joinPrimitive
+  tested : testBelow 11 (λ j. testBelow 11 (λ k. isAssignable w (Primitive j) (joinPrimitive j k) && isAssignable w (Primitive k) (joinPrimitive j k))) ≡ true
+  unfolding testBelow elem compareNumbers compare sameType unknownAccepts primitiveAssignable assignableApart isAssignable narrow underDouble joinPrimitive
   tested = refl
 
   primitives-above : (j k : ℕ) → j ≤ 10 → k ≤ 10 → Above (Primitive j) (Primitive k) (joinPrimitive j k)
   primitives-above j k l m =
       and-eq-true-iff (isAssignable w (Primitive j) (joinPrimitive j k)) (isAssignable w (Primitive k) (joinPrimitive j k)) .0
-      (below 11 (λ b. isAssignable w (Primitive j) (joinPrimitive j b) && isAssignable w (Primitive b) (joinPrimitive j b)) k (omega arith)
-      (below 11 (λ a. allBelow 11 (λ b. isAssignable w (Primitive a) (joinPrimitive a b) && isAssignable w (Primitive b) (joinPrimitive a b))) j (omega arith) tested))
+      (tested-below 11 (λ b. isAssignable w (Primitive j) (joinPrimitive j b) && isAssignable w (Primitive b) (joinPrimitive j b)) k (omega arith)
+      (tested-below 11 (λ a. testBelow 11 (λ b. isAssignable w (Primitive a) (joinPrimitive a b) && isAssignable w (Primitive b) (joinPrimitive a b))) j (omega arith) tested))
 
   -- ---- an Unknown that has a known type's category
 
@@ -59,7 +61,7 @@ module _ (w : World) where
   )
     where
       both : List ℕ
-      both = ascending (categories t) (categories u) 0 11
+      both = inEither (categories t) (categories u) 0 11
 
       has : (k : ℕ) → k ≤ 10 → elem k both ≡ (elem k (categories t) || elem k (categories u))
       has k l = ascending-elem (categories t) (categories u) 0 11 k (omega arith) (omega arith)

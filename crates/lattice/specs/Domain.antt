@@ -7,7 +7,8 @@ use mathlib.Core.Logic.{_⊎_, inl, inr, _↔_}
 use Prim.Native.Nat.{ℕ}
 use lib.Dec.{eqb}
 use borrow.Author.Tests.{eq-eqb}
-use Rattle.ty.specs.Types.{ArgType, Primitive, Object, Array, Unknown, or, elem, isReference}
+use Rattle.order.specs.Lists.{elem}
+use Rattle.ty.specs.Types.{ArgType, Primitive, Object, Array, Unknown, isReference}
 use Rattle.lattice.specs.Lattice.{sameType, hasAll, unknownAccepts, sameRegisterCategory, observedAccepts, anyAccepts, domainAccepts}
 use Rattle.lattice.specs.References.{same-self}
 
@@ -51,7 +52,7 @@ unfolding hasAll elem
 hasAll-more c cs [] h = refl
 hasAll-more c cs (d ∷ ds) h = go (elem d cs) (eqb c d) h (hasAll-more c cs ds)
   where
-    go : (a b : Bool) → (a && hasAll cs ds) ≡ true → (hasAll cs ds ≡ true → hasAll (c ∷ cs) ds ≡ true) → (or b a && hasAll (c ∷ cs) ds) ≡ true
+    go : (a b : Bool) → (a && hasAll cs ds) ≡ true → (hasAll cs ds ≡ true → hasAll (c ∷ cs) ds ≡ true) → ((b || a) && hasAll (c ∷ cs) ds) ≡ true
     go true true q ih = ih q
     go true false q ih = ih q
     go false b q ih = absurd (false≢true q)

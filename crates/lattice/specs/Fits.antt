@@ -8,11 +8,12 @@ use native.Mathlib.Omega.{arith}
 use lib.Dec.{eqb}
 use native.Mathlib.Decide.{ℕ-discrete}
 use borrow.Author.Tests.{eq-eqb, lt-ltb, le-leb, ne-eqb}
-use Rattle.ty.specs.Types.{ArgType, Primitive, Object, Array, Unknown, or, elem}
+use Rattle.order.specs.Lists.{elem}
+use Rattle.ty.specs.Types.{ArgType, Primitive, Object, Array, Unknown}
 use Rattle.ty.specs.Types.{Boolean, Int, Long, Float, Double}
 use Rattle.ty.specs.Words.{distinct, legalAtBase}
 use Rattle.ty.specs.Distinct.{distinct-first, distinct-fresh, distinct-rest}
-use Rattle.lattice.specs.Lattice.{unknownAccepts, ascending, unknownUnion, narrow, underDouble, joinPrimitive, inBoth, orFull, joinKnown, joinElements}
+use Rattle.lattice.specs.Lattice.{unknownAccepts, inEither, unknownUnion, narrow, underDouble, joinPrimitive, inBoth, orFull, joinKnown, joinElements}
 
 -- what holds of both holds of the one that is picked
 pub by-cond : (P : ArgType → Type 0) (b : Bool) (t u : ArgType) → P t → P u → P (cond b t u)
@@ -37,37 +38,37 @@ distinct-cons : (c : ℕ) (cs : List ℕ) → c ≤ 10 → elem c cs ≡ false �
 unfolding distinct
 distinct-cons c cs l e h = rw (le-leb c 10 l, e, h)
 
-ascending-above : (cs ds : List ℕ) (i n k : ℕ) → k < i → elem k (ascending cs ds i n) ≡ false
-unfolding ascending elem
+ascending-above : (cs ds : List ℕ) (i n k : ℕ) → k < i → elem k (inEither cs ds i n) ≡ false
+unfolding inEither elem
 ascending-above cs ds i zero k l = refl
 ascending-above cs ds i (suc n) k l = go (elem i cs || elem i ds) (ascending-above cs ds (suc i) n k (omega arith))
   where
-    go : (b : Bool) → elem k (ascending cs ds (suc i) n) ≡ false → elem k (cond b (i ∷ ascending cs ds (suc i) n) (ascending cs ds (suc i) n)) ≡ false
+    go : (b : Bool) → elem k (inEither cs ds (suc i) n) ≡ false → elem k (cond b (i ∷ inEither cs ds (suc i) n) (inEither cs ds (suc i) n)) ≡ false
     go true e = rw (ne-eqb i k (omega arith), e)
     go false e = e
 
 -- it has what either list has, in its range
-pub ascending-elem : (cs ds : List ℕ) (i n k : ℕ) → i ≤ k → k < i + n → elem k (ascending cs ds i n) ≡ (elem k cs || elem k ds)
-unfolding ascending elem
+pub ascending-elem : (cs ds : List ℕ) (i n k : ℕ) → i ≤ k → k < i + n → elem k (inEither cs ds i n) ≡ (elem k cs || elem k ds)
+unfolding inEither elem
 ascending-elem cs ds i zero k l h = absurd (omega arith)
 ascending-elem cs ds i (suc n) k l h = go (elem i cs || elem i ds) refl (ℕ-discrete i k) (λ m. ascending-elem cs ds (suc i) n k m (omega arith))
   where
-    go : (b : Bool) → (elem i cs || elem i ds) ≡ b → Dec (i ≡ k) → (suc i ≤ k → elem k (ascending cs ds (suc i) n) ≡ (elem k cs || elem k ds))
-        → elem k (cond b (i ∷ ascending cs ds (suc i) n) (ascending cs ds (suc i) n)) ≡ (elem k cs || elem k ds)
-    go true e (yes q) ih = ap (λ (x : Bool). or x (elem k (ascending cs ds (suc i) n))) (eq-eqb i k q) ∙ sym e ∙ ap (λ (x : ℕ). elem x cs || elem x ds) q
-    go true e (no q) ih = ap (λ (x : Bool). or x (elem k (ascending cs ds (suc i) n))) (ne-eqb i k q) ∙ ih (omega arith)
+    go : (b : Bool) → (elem i cs || elem i ds) ≡ b → Dec (i ≡ k) → (suc i ≤ k → elem k (inEither cs ds (suc i) n) ≡ (elem k cs || elem k ds))
+        → elem k (cond b (i ∷ inEither cs ds (suc i) n) (inEither cs ds (suc i) n)) ≡ (elem k cs || elem k ds)
+    go true e (yes q) ih = ap (λ (x : Bool). x || elem k (inEither cs ds (suc i) n)) (eq-eqb i k q) ∙ sym e ∙ ap (λ (x : ℕ). elem x cs || elem x ds) q
+    go true e (no q) ih = ap (λ (x : Bool). x || elem k (inEither cs ds (suc i) n)) (ne-eqb i k q) ∙ ih (omega arith)
     go false e (yes q) ih = ascending-above cs ds (suc i) n k (omega arith) ∙ sym e ∙ ap (λ (x : ℕ). elem x cs || elem x ds) q
     go false e (no q) ih = ih (omega arith)
 
-pub ascending-distinct : (cs ds : List ℕ) (i n : ℕ) → i + n ≤ 11 → distinct (ascending cs ds i n) ≡ true
-unfolding ascending distinct
+pub ascending-distinct : (cs ds : List ℕ) (i n : ℕ) → i + n ≤ 11 → distinct (inEither cs ds i n) ≡ true
+unfolding inEither distinct
 ascending-distinct cs ds i zero l = refl
 ascending-distinct cs ds i (suc n) l =
     go (elem i cs || elem i ds) (ascending-above cs ds (suc i) n i (omega arith)) (ascending-distinct cs ds (suc i) n (omega arith))
   where
-    go : (b : Bool) → elem i (ascending cs ds (suc i) n) ≡ false → distinct (ascending cs ds (suc i) n) ≡ true
-        → distinct (cond b (i ∷ ascending cs ds (suc i) n) (ascending cs ds (suc i) n)) ≡ true
-    go true e h = distinct-cons i (ascending cs ds (suc i) n) (omega arith) e h
+    go : (b : Bool) → elem i (inEither cs ds (suc i) n) ≡ false → distinct (inEither cs ds (suc i) n) ≡ true
+        → distinct (cond b (i ∷ inEither cs ds (suc i) n) (inEither cs ds (suc i) n)) ≡ true
+    go true e h = distinct-cons i (inEither cs ds (suc i) n) (omega arith) e h
     go false e h = h
 
 inBoth-fresh : (k : ℕ) (cs ds : List ℕ) → elem k cs ≡ false → elem k (inBoth cs ds) ≡ false
@@ -75,7 +76,7 @@ unfolding inBoth elem
 inBoth-fresh k [] ds h = refl
 inBoth-fresh k (c ∷ cs) ds h = go (eqb c k) (elem c ds) refl h (inBoth-fresh k cs ds)
   where
-    go : (a b : Bool) → eqb c k ≡ a → or a (elem k cs) ≡ false → (elem k cs ≡ false → elem k (inBoth cs ds) ≡ false) → elem k (cond b (c ∷ inBoth cs ds) (inBoth cs ds)) ≡ false
+    go : (a b : Bool) → eqb c k ≡ a → (a || elem k cs) ≡ false → (elem k cs ≡ false → elem k (inBoth cs ds) ≡ false) → elem k (cond b (c ∷ inBoth cs ds) (inBoth cs ds)) ≡ false
     go true b q f ih = absurd (true≢false f)
     go false true q f ih = rw (q, ih f)
     go false false q f ih = ih f

@@ -9,10 +9,12 @@ use Prim.Native.Nat.{ℕ}
 use native.Mathlib.Omega.{arith}
 use lib.Dec.{eqb}
 use borrow.Author.Tests.{eqb-true}
-use Rattle.ty.specs.declared.Order.{Order}
-use Rattle.ty.specs.declared.Order.the-variants.{Less, Equal, Greater}
+use Rattle.order.specs.Compare.{flip}
+use Rattle.order.specs.Laws.{less-not-greater, equal-not-greater}
+use Rattle.order.specs.declared.Order.{Order}
+use Rattle.order.specs.declared.Order.the-variants.{Less, Equal, Greater}
 use Rattle.ty.specs.Types.{ArgType, Primitive, Object, Array, Unknown, compare, isConcrete, hintOfList, concreteHint, ObjectCategory, ArrayCategory}
-use Rattle.ty.specs.Order.{compare-same, compare-trans, less-not-greater, equal-not-greater, flip, compare-swap, compare-equal}
+use Rattle.ty.specs.Order.{compare-same, compare-trans, compare-swap, compare-equal}
 use Rattle.lattice.specs.Lattice.{World, isAssignable, assignableToAll, lesser, candidate, leastHint, mostSpecificUpper}
 
 none-some : (u : ArgType) → _≡_ {A = Option ArgType} none (some u) → ⊥

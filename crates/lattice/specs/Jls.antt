@@ -3,11 +3,13 @@
 use mathlib.Core.Path.{_≡_, refl, sym, ap, _∙_}
 use mathlib.Core.Bool.{Bool, true, false, _&&_, _||_, false≢true}
 use mathlib.Core.List.{List, [], _∷_}
-use Prim.Native.Nat.{ℕ, zero, suc, _≤_, _<_}
+use Prim.Native.Nat.{ℕ, _≤_, _<_}
 use native.Mathlib.Decide.{ℕ-discrete}
 use native.Mathlib.Omega.{arith}
 use lib.Dec.{eqb}
-use Rattle.ty.specs.Types.{elem, Byte, Short, Char, Int, Long, Float, Double}
+use Rattle.order.specs.Lists.{elem}
+use Rattle.order.specs.Tests.{same, same-eq, testBelow, tested-below}
+use Rattle.ty.specs.Types.{Byte, Short, Char, Int, Long, Float, Double}
 use Rattle.lattice.specs.Lattice.{primitiveAssignable}
 
 -- "byte to short, int, long, float, or double", and so on: what each widens to
@@ -34,47 +36,13 @@ widens value expected = widensIn widenings value expected
 
 -- ---- one computed test over the eleven categories each way
 
-same : Bool → Bool → Bool
-same true true = true
-same true false = false
-same false true = false
-same false false = true
-
-same-eq : (a b : Bool) → same a b ≡ true → a ≡ b
-unfolding same
-same-eq true true h = refl
-same-eq true false h = absurd (false≢true h)
-same-eq false true h = absurd (false≢true h)
-same-eq false false h = refl
-
-unfoldable pub allBelow : ℕ → (ℕ → Bool) → Bool
-allBelow zero p = true
-allBelow (suc n) p = p n && allBelow n p
-
-both : (a b : Bool) → (a && b) ≡ true → (a ≡ true) × (b ≡ true)
-both true true h = (refl, refl)
-both true false h = absurd (false≢true h)
-both false b h = absurd (false≢true h)
-
-pub below : (n : ℕ) (p : ℕ → Bool) (k : ℕ) → k < n → allBelow n p ≡ true → p k ≡ true
-unfolding allBelow
-below zero p k l h = absurd (omega arith)
-below (suc n) p k l h = go (ℕ-discrete k n) (below n p k)
-  where
-    b : (p n ≡ true) × (allBelow n p ≡ true)
-    b = both (p n) (allBelow n p) h
-
-    go : Dec (k ≡ n) → (k < n → allBelow n p ≡ true → p k ≡ true) → p k ≡ true
-    go (yes e) ih = ap p e ∙ b .0
-    go (no e) ih = ih (omega arith) (b .1)
-
-tested : allBelow 11 (λ v. allBelow 11 (λ e. same (primitiveAssignable v e) (widens v e))) ≡ true
-unfolding allBelow same primitiveAssignable widens widensIn widenings elem
+tested : testBelow 11 (λ v. testBelow 11 (λ e. same (primitiveAssignable v e) (widens v e))) ≡ true
+unfolding testBelow same primitiveAssignable widens widensIn widenings elem
 tested = refl
 
 -- of the eleven categories, a value's is assignable to another exactly if JLS 5.1.2 widens it: never with Void, Boolean, Object, Array
 pub assignable-widens : (value expected : ℕ) → value < 11 → expected < 11 → primitiveAssignable value expected ≡ widens value expected
 assignable-widens value expected v e =
     same-eq (primitiveAssignable value expected) (widens value expected)
-    (below 11 (λ k. same (primitiveAssignable value k) (widens value k)) expected e
-    (below 11 (λ j. allBelow 11 (λ k. same (primitiveAssignable j k) (widens j k))) value v tested))
+    (tested-below 11 (λ k. same (primitiveAssignable value k) (widens value k)) expected e
+    (tested-below 11 (λ j. testBelow 11 (λ k. same (primitiveAssignable j k) (widens j k))) value v tested))

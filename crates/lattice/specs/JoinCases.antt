@@ -4,12 +4,14 @@ use mathlib.Core.Bool.{Bool, true, false, cond, _||_, true≢false, false≢true
 use mathlib.Core.List.{List, [], _∷_}
 use Prim.Native.Nat.{ℕ, zero, suc}
 use lib.Dec.{eqb}
-use Rattle.ty.specs.declared.Order.{Order}
-use Rattle.ty.specs.declared.Order.the-variants.{Less, Equal, Greater}
-use Rattle.ty.specs.Types.{ArgType, Primitive, Object, Array, Unknown, elem, compare, categories, isKnown, isPrimitive, isArray}
+use Rattle.order.specs.Compare.{isEqual}
+use Rattle.order.specs.Lists.{elem}
+use Rattle.order.specs.declared.Order.{Order}
+use Rattle.order.specs.declared.Order.the-variants.{Less, Equal, Greater}
+use Rattle.ty.specs.Types.{ArgType, Primitive, Object, Array, Unknown, compare, categories, isKnown, isPrimitive, isArray}
 use Rattle.ty.specs.Order.{compare-same, compare-equal}
 use Rattle.view.specs.View.{supertype}
-use Rattle.lattice.specs.Lattice.{World, isEqual, sameType, unknownAccepts, ascending, unknownUnion, joinPrimitive, inBoth, orFull, joinKnown, classOr, joinElements, joinArrayClass, joinApart, join}
+use Rattle.lattice.specs.Lattice.{World, sameType, unknownAccepts, inEither, unknownUnion, joinPrimitive, inBoth, orFull, joinKnown, classOr, joinElements, joinArrayClass, joinApart, join}
 
 -- ---- equal, or not
 
@@ -38,8 +40,8 @@ or-swap true false = refl
 or-swap false true = refl
 or-swap false false = refl
 
-ascending-swap : (cs ds : List ℕ) (i n : ℕ) → ascending cs ds i n ≡ ascending ds cs i n
-unfolding ascending
+ascending-swap : (cs ds : List ℕ) (i n : ℕ) → inEither cs ds i n ≡ inEither ds cs i n
+unfolding inEither
 ascending-swap cs ds i zero = refl
 ascending-swap cs ds i (suc n) = ap₂ (λ (b : Bool) (l : List ℕ). cond b (i ∷ l) l) (or-swap (elem i cs) (elem i ds)) (ascending-swap cs ds (suc i) n)
 
@@ -50,20 +52,20 @@ union-swap t u = ap Unknown (ascending-swap (categories t) (categories u) 0 11)
 -- it reads the categories alone
 pub union-categories : (t u v : ArgType) → categories u ≡ categories v → unknownUnion t u ≡ unknownUnion t v
 unfolding unknownUnion
-union-categories t u v e = ap (λ (ds : List ℕ). Unknown (ascending (categories t) ds 0 11)) e
+union-categories t u v e = ap (λ (ds : List ℕ). Unknown (inEither (categories t) ds 0 11)) e
 
 -- ---- with an Unknown
 
-abbrev first : List ℕ → ℕ
-first [] = 0
-first (c ∷ cs) = c
+abbrev front : List ℕ → ℕ
+front [] = 0
+front (c ∷ cs) = c
 
 -- a known type has one category, which an Unknown accepts or does not
 pub accepts-category : (cs : List ℕ) (t : ArgType) (k : ℕ) → isKnown t ≡ true → categories t ≡ k ∷ [] → unknownAccepts cs t ≡ elem k cs
 unfolding unknownAccepts isKnown categories
-accepts-category cs (Primitive j) k h e = ap (λ (l : List ℕ). elem (first l) cs) e
-accepts-category cs (Object c) k h e = ap (λ (l : List ℕ). elem (first l) cs) e
-accepts-category cs (Array t) k h e = ap (λ (l : List ℕ). elem (first l) cs) e
+accepts-category cs (Primitive j) k h e = ap (λ (l : List ℕ). elem (front l) cs) e
+accepts-category cs (Object c) k h e = ap (λ (l : List ℕ). elem (front l) cs) e
+accepts-category cs (Array t) k h e = ap (λ (l : List ℕ). elem (front l) cs) e
 accepts-category cs (Unknown ds) k h e = absurd (false≢true h)
 
 pub known-accepted : (t : ArgType) (cs : List ℕ) → unknownAccepts cs t ≡ true → joinKnown t cs ≡ t

@@ -1,7 +1,7 @@
 -- The join of two primitives, by their categories, and a rule of a table of rows: it holds at every entry where one test, which
 -- computes, passes. Assumes nothing.
 use mathlib.Core.Path.{_≡_, refl, sym, ap, subst, _∙_}
-use mathlib.Core.Bool.{Bool, true, false, cond}
+use mathlib.Core.Bool.{Bool, true, false, cond, _&&_}
 use mathlib.Core.List.{List, [], _∷_}
 use Prim.Native.Nat.{ℕ, zero, suc, _+_, _<_}
 use native.Mathlib.Nat.{add-zero, zero-add, add-suc, suc-add, le-of-suc-le-suc, not-suc-le-zero}
@@ -30,15 +30,11 @@ cell-join w left right = sym (ap wordOf (join-categories w left right))
 
 -- ---- a table of rows of n, each entry as the rule g says
 
-abbrev pub both : Bool → Bool → Bool
-both true b = b
-both false b = false
-
-both-left : (a b : Bool) → T (both a b) → T a
+both-left : (a b : Bool) → T (a && b) → T a
 both-left true b t = tt
 both-left false b t = t
 
-both-right : (a b : Bool) → T (both a b) → T b
+both-right : (a b : Bool) → T (a && b) → T b
 both-right true b t = t
 both-right false b t = absurd t
 
@@ -46,7 +42,7 @@ module _ {A : Type 0} (f : ℕ → A → Bool) where
   -- the test f passes at each entry of the list and its place, counted from i
   abbrev pub every : ℕ → List A → Bool
   every i [] = true
-  every i (x ∷ xs) = both (f i x) (every (suc i) xs)
+  every i (x ∷ xs) = f i x && every (suc i) xs
 
   every-from : (xs : List A) (d : A) (i : ℕ) → T (every i xs) → (k : ℕ) → k < length xs → T (f (i + k) (getD xs k d))
   every-from [] d i t k h = absurd (not-suc-le-zero h)
@@ -60,7 +56,7 @@ module _ {A : Type 0} (f : ℕ → A → Bool) where
 
 module _ (n : ℕ) (g : ℕ → ℕ → ℕ) where
   abbrev pub row : ℕ → List ℕ → Bool
-  row i xs = both (eqb (length xs) n) (every (λ j x. eqb x (g i j)) 0 xs)
+  row i xs = eqb (length xs) n && every (λ j x. eqb x (g i j)) 0 xs
 
   -- FROM THE TEST TO THE RULE
   pub rule : (t : List (List ℕ)) (d : List ℕ) → T (every row 0 t) → (l r : ℕ) → l < length t → r < n → getD (getD t l d) r 0 ≡ g l r

@@ -6,10 +6,12 @@ use mathlib.Core.Option.{Option, some, none}
 use Prim.Native.Nat.{ℕ, zero, suc, _<_}
 use mathlib.Core.Path.{_≡_}
 use lib.Dec.{eqb}
-use Rattle.ty.specs.declared.Order.{Order}
-use Rattle.ty.specs.declared.Order.the-variants.{Less, Equal, Greater}
-use Rattle.ty.specs.Types.{ArgType, Primitive, Object, Array, Unknown, elem, compare, categories, isReference, isConcrete, concreteHint, wideCategory}
+use Rattle.order.specs.Lists.{elem}
+use Rattle.order.specs.declared.Order.{Order}
+use Rattle.order.specs.declared.Order.the-variants.{Less, Equal, Greater}
+use Rattle.ty.specs.Types.{ArgType, Primitive, Object, Array, Unknown, compare, categories, isReference, isConcrete, concreteHint, wideCategory}
 use Rattle.ty.specs.Types.{Boolean, Byte, Short, Char, Int, Long, Float, Double, ObjectCategory, ArrayCategory}
+use Rattle.order.specs.Compare.{isEqual}
 use Rattle.ty.specs.Answers.{unknownType}
 use Rattle.view.specs.declared.Relation.{Relation}
 use Rattle.view.specs.declared.Relation.the-variants.{Yes, No, Unknown as Incomplete}
@@ -32,11 +34,6 @@ pub record Lawful (w : World) : Type 0 where
   pub above : (c d e : ℕ) → c < w .names → d < w .names → w .supertype c d ≡ some e → (e < w .names) × (w .relation c e ≡ Yes) × (w .relation d e ≡ Yes)
 
 -- ---- small helpers
-
-abbrev pub isEqual : Order → Bool
-isEqual Less = false
-isEqual Equal = true
-isEqual Greater = false
 
 -- ==
 unfoldable pub sameType : ArgType → ArgType → Bool
@@ -65,12 +62,12 @@ unknownAccepts cs (Array t) = elem ArrayCategory cs
 unknownAccepts cs (Unknown ds) = hasAll cs ds
 
 -- the n numbers from i on that are in either list: a BTreeSet's order
-unfoldable pub ascending : List ℕ → List ℕ → ℕ → ℕ → List ℕ
-ascending cs ds i zero = []
-ascending cs ds i (suc n) = cond (elem i cs || elem i ds) (i ∷ ascending cs ds (suc i) n) (ascending cs ds (suc i) n)
+unfoldable pub inEither : List ℕ → List ℕ → ℕ → ℕ → List ℕ
+inEither cs ds i zero = []
+inEither cs ds i (suc n) = cond (elem i cs || elem i ds) (i ∷ inEither cs ds (suc i) n) (inEither cs ds (suc i) n)
 
 unfoldable pub unknownUnion : ArgType → ArgType → ArgType
-unknownUnion left right = Unknown (ascending (categories left) (categories right) 0 11)
+unknownUnion left right = Unknown (inEither (categories left) (categories right) 0 11)
 
 -- ---- is_assignable
 

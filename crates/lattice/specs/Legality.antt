@@ -8,9 +8,10 @@ use Prim.Native.Nat.{ℕ, suc, _≤_, _<_, max}
 use native.Mathlib.Omega.{arith}
 use lib.Dec.{eqb, leb}
 use borrow.Author.Tests.{ltb-true, lt-ltb, leb-true, le-leb}
+use Rattle.order.specs.Truth.{and-left, and-right, and-both}
 use Rattle.ty.specs.Types.{ArgType, Primitive, Object, Array, Unknown, depth, compare, concreteHint}
 use Rattle.ty.specs.Words.{legalAtBase, legalType}
-use Rattle.ty.specs.Distinct.{and-left, and-right, and-both, distinct-first}
+use Rattle.ty.specs.Distinct.{distinct-first}
 use Rattle.view.specs.View.{supertype}
 use Rattle.view.specs.Reach.{Good}
 use Rattle.view.specs.Ancestors.{ancestor-below}

@@ -1,7 +1,7 @@
 -- Lists of categories as sets of bits: a digit of the set is 1 exactly for a member, and a list has every member of another
 -- exactly if its set does not change when the other's is joined to it. Assumes nothing.
 use mathlib.Core.Path.{_≡_, refl, sym, ap, ap₂, _∙_}
-use mathlib.Core.Bool.{Bool, true, false, _&&_, true≢false}
+use mathlib.Core.Bool.{Bool, true, false, _&&_, _||_, true≢false}
 use mathlib.Core.List.{List, [], _∷_}
 use Prim.Native.Nat.{ℕ, _^_, _≤_, _<_, max}
 use native.Mathlib.Omega.{arith}
@@ -9,12 +9,14 @@ use lib.Bits.{bitOr, or-lt}
 use lib.Pow.{pow-lt}
 use lib.Dec.{eqb, leb}
 use borrow.Author.Tests.{eqb-true, eqb-false, eq-eqb, ne-eqb, leb-true}
+use Rattle.order.specs.Truth.{and-right}
+use Rattle.order.specs.Lists.{elem}
 use Rattle.sets.specs.Sets.{bit}
 use Rattle.sets.specs.Bits.{bit-lt, bit-zero, bit-or, bit-pow-same, bit-pow-other, bit-ext}
-use Rattle.ty.specs.Types.{ArgType, Primitive, Object, Array, Unknown, or, elem, categories, maskWith, depth}
+use Rattle.ty.specs.Types.{ArgType, Primitive, Object, Array, Unknown, categories, maskWith, depth}
 use Rattle.ty.specs.Words.{Legal, typeOf, legalAtBase, legalType}
 use Rattle.ty.specs.Digits.{Digits}
-use Rattle.ty.specs.Distinct.{and-right, distinct-digits}
+use Rattle.ty.specs.Distinct.{distinct-digits}
 use Rattle.ty.specs.Round.{legal-of-word}
 use Rattle.lattice.specs.Lattice.{hasAll, unknownAccepts}
 
@@ -38,7 +40,7 @@ unfolding maskWith elem
 bit-mask k m [] = omega arith
 bit-mask k m (c ∷ cs) = bit-mask k (bitOr m (2 ^ c)) cs ∙ go (eqb c k) refl
   where
-    go : (t : Bool) → eqb c k ≡ t → max (bit k (bitOr m (2 ^ c))) (one (elem k cs)) ≡ max (bit k m) (one (or t (elem k cs)))
+    go : (t : Bool) → eqb c k ≡ t → max (bit k (bitOr m (2 ^ c))) (one (elem k cs)) ≡ max (bit k m) (one (t || elem k cs))
     go true e =
         let b : bit k (2 ^ c) ≡ 1 = ap (λ (j : ℕ). bit j (2 ^ c)) (sym (eqb-true c k e)) ∙ bit-pow-same c in
         omega (arith, bit-or k m (2 ^ c), bit-lt k m, one-le (elem k cs))
@@ -67,7 +69,7 @@ all-members cs (d ∷ ds) h k e = go (eqb d k) refl e (all-members cs ds)
     both true false p = absurd (true≢false (sym p))
     both false b p = absurd (true≢false (sym p))
 
-    go : (t : Bool) → eqb d k ≡ t → or t (elem k ds) ≡ true
+    go : (t : Bool) → eqb d k ≡ t → (t || elem k ds) ≡ true
         → (hasAll cs ds ≡ true → (j : ℕ) → elem j ds ≡ true → elem j cs ≡ true) → elem k cs ≡ true
     go true q p ih = ap (λ (j : ℕ). elem j cs) (sym (eqb-true d k q)) ∙ both (elem d cs) (hasAll cs ds) h .0
     go false q p ih = ih (both (elem d cs) (hasAll cs ds) h .1) k p
@@ -77,10 +79,10 @@ unfolding hasAll elem
 members-all cs [] h = refl
 members-all cs (d ∷ ds) h =
     ap₂ (λ (a b : Bool). a && b)
-    (h d (ap (λ (t : Bool). or t (elem d ds)) (eq-eqb d d refl)))
+    (h d (ap (λ (t : Bool). t || elem d ds) (eq-eqb d d refl)))
     (members-all cs ds (λ k e. h k (later (eqb d k) (elem k ds) e)))
   where
-    later : (a b : Bool) → b ≡ true → or a b ≡ true
+    later : (a b : Bool) → b ≡ true → (a || b) ≡ true
     later true b e = refl
     later false b e = e
 

@@ -8,11 +8,13 @@ use Prim.Native.Nat.{ℕ, zero, suc}
 use native.Mathlib.Omega.{arith}
 use lib.Dec.{ltb}
 use borrow.Author.Tests.{eq-eqb, ne-eqb}
+use Rattle.order.specs.Compare.{compareNumbers, compareLists}
+use Rattle.order.specs.Lists.{elem}
 use Rattle.sets.specs.Sets.{bit, at, member, insert, members}
-use Rattle.ty.specs.Types.{ArgType, Primitive, Object, Array, Unknown, elem, compareNumbers, compareLists, compare, categories}
+use Rattle.ty.specs.Types.{ArgType, Primitive, Object, Array, Unknown, compare, categories}
 use Rattle.ty.specs.Types.{Void, Boolean, ObjectCategory, ArrayCategory}
 use Rattle.view.specs.View.{insertAll, withParents, grow, level, reached, reach, ancestor, relation, supertype, View}
-use Rattle.lattice.specs.Lattice.{World, sameType, hasAll, unknownAccepts, ascending, unknownUnion, assignableApart, isAssignable, narrow, underDouble, joinPrimitive, inBoth, joinKnown, joinArrayClass, joinApart, join}
+use Rattle.lattice.specs.Lattice.{World, sameType, hasAll, unknownAccepts, inEither, unknownUnion, assignableApart, isAssignable, narrow, underDouble, joinPrimitive, inBoth, joinKnown, joinArrayClass, joinApart, join}
 
 abbrev void : ArgType
 void = Primitive Void
@@ -60,7 +62,7 @@ module _ (w : World) where
 
     pub array-with-class : (c : ℕ) → (c ≡ w .object → ⊥)
         → (join w (Array t) (Object c) ≡ Unknown (ObjectCategory ∷ ArrayCategory ∷ [])) × (join w (Object c) (Array t) ≡ Unknown (ObjectCategory ∷ ArrayCategory ∷ []))
-    unfolding elem compare categories sameType ascending unknownUnion joinArrayClass joinApart join
+    unfolding elem compare categories sameType inEither unknownUnion joinArrayClass joinApart join
     array-with-class c n = let e = ne-eqb c (w .object) n in (rw e, rw e)
 
 -- ---- two classes that are each an ancestor of the other: the one named second

@@ -5,13 +5,14 @@ use mathlib.Core.Bool.{Bool, true, false, true≢false}
 use Prim.Native.Nat.{ℕ}
 use lib.Dec.{eqb}
 use borrow.Author.Tests.{eqb-true, eqb-false}
-use Rattle.ty.specs.declared.Order.{Order}
-use Rattle.ty.specs.declared.Order.the-variants.{Less, Equal, Greater}
+use Rattle.order.specs.Compare.{isEqual}
+use Rattle.order.specs.declared.Order.{Order}
+use Rattle.order.specs.declared.Order.the-variants.{Less, Equal, Greater}
 use Rattle.ty.specs.Types.{ArgType, compare}
 use Rattle.ty.specs.Words.{typeOf, wordOf, legalWord}
 use Rattle.ty.specs.Order.{compare-same, compare-equal}
 use Rattle.ty.specs.Round.{word-of-type}
-use Rattle.lattice.specs.Lattice.{isEqual, sameType}
+use Rattle.lattice.specs.Lattice.{sameType}
 
 pub same-refl : (t : ArgType) → sameType t t ≡ true
 unfolding sameType

@@ -10,11 +10,12 @@ use lib.Bits.{bitOr}
 use lib.Dec.{eqb}
 use lib.ListN.{length}
 use borrow.Author.Tests.{eq-eqb, ne-eqb}
+use Rattle.order.specs.Lists.{elem}
 use Rattle.sets.specs.Sets.{bit}
 use Rattle.sets.specs.Bits.{bit-lt, bit-zero, bit-or, bit-pow-same, bit-pow-other}
-use Rattle.ty.specs.Types.{or, elem, maskWith}
+use Rattle.ty.specs.Types.{maskWith}
 use Rattle.ty.specs.Digits.{Digits}
-use Rattle.lattice.specs.Lattice.{ascending, inBoth}
+use Rattle.lattice.specs.Lattice.{inEither, inBoth}
 
 -- whether the set has the category
 unfoldable pub has : ℕ → ℕ → Bool
@@ -52,7 +53,7 @@ has-one d c = go (ℕ-discrete d c)
     go (yes e) = ap (λ (x : ℕ). eqb (bit c (2 ^ x)) 1) e ∙ ap (λ (b : ℕ). eqb b 1) (bit-pow-same c) ∙ sym (eq-eqb d c e)
     go (no e) = ap (λ (b : ℕ). eqb b 1) (bit-pow-other c d (λ q. e (sym q))) ∙ sym (ne-eqb d c e)
 
-or-assoc : (a b c : Bool) → ((a || b) || c) ≡ (a || or b c)
+or-assoc : (a b c : Bool) → ((a || b) || c) ≡ (a || (b || c))
 or-assoc true b c = refl
 or-assoc false true c = refl
 or-assoc false false c = refl
@@ -86,8 +87,8 @@ unfoldable pub from : ℕ → ℕ → List ℕ
 from i zero = []
 from i (suc n) = i ∷ from (suc i) n
 
-pub kept-ascending : (cs ds : List ℕ) (i n : ℕ) → kept (bitOr (maskWith 0 cs) (maskWith 0 ds)) (from i n) ≡ ascending cs ds i n
-unfolding kept from ascending
+pub kept-ascending : (cs ds : List ℕ) (i n : ℕ) → kept (bitOr (maskWith 0 cs) (maskWith 0 ds)) (from i n) ≡ inEither cs ds i n
+unfolding kept from inEither
 kept-ascending cs ds i zero = refl
 kept-ascending cs ds i (suc n) =
     ap₂ (λ (b : Bool) (l : List ℕ). cond b (i ∷ l) l)

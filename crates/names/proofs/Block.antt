@@ -7,11 +7,10 @@ use native.Mathlib.Numerals.{add-one}
 use native.Mathlib.Omega.{arith}
 use lib.ListN.{length, getD, drop, take-append-drop}
 use lib.Seq.{slice, slice-empty, slice-cons}
-use Rattle.ty.specs.declared.Order.{Order}
-use Rattle.ty.specs.declared.Order.the-variants.{Less, Equal, Greater}
-use Rattle.ty.specs.Types.{compareLists, then}
-use Rattle.ty.specs.Order.{numbers-same, numbers-by, lists-equal}
-use Rattle.names.specs.Names.{isEqual}
+use Rattle.order.specs.Laws.{numbers-same, numbers-by, lists-equal}
+use Rattle.order.specs.Compare.{compareLists, then, isEqual}
+use Rattle.order.specs.declared.Order.{Order}
+use Rattle.order.specs.declared.Order.the-variants.{Less, Equal, Greater}
 
 -- whether two lists differ
 abbrev pub differ : List ℕ → List ℕ → Bool

@@ -10,9 +10,9 @@ use native.Mathlib.Omega.{arith}
 use lib.Dec.{ltb}
 use lib.ListN.{length}
 use borrow.Author.Tests.{ltb-true, ltb-false}
-use Rattle.ty.specs.declared.Order.the-variants.{Less, Equal, Greater}
-use Rattle.ty.specs.Types.{compareLists}
-use Rattle.ty.specs.Order.{flip, less-not-equal, equal-not-greater, lists-same, lists-equal, lists-swap, lists-trans}
+use Rattle.order.specs.Laws.{less-not-equal, equal-not-greater, lists-same, lists-equal, lists-swap, lists-trans}
+use Rattle.order.specs.Compare.{compareLists, flip}
+use Rattle.order.specs.declared.Order.the-variants.{Less, Equal, Greater}
 use Rattle.names.specs.Names.{nameAt, lookup}
 use Rattle.names.specs.Table.{Checked, below}
 use Rattle.names.specs.Lookup.{lookup-none, lookup-is}

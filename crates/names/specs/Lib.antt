@@ -1,5 +1,4 @@
 -- The definitions and laws of names and of chains of checks.
-pub mod First
 pub mod Names
 pub mod Table
 pub mod Lookup

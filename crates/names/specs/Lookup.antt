@@ -7,12 +7,12 @@ use mathlib.Core.Option.{Option, some, none}
 use Prim.Native.Nat.{ℕ, zero, suc, _<_}
 use native.Mathlib.Omega.{arith}
 use lib.ListN.{length}
-use Rattle.ty.specs.declared.Order.{Order}
-use Rattle.ty.specs.declared.Order.the-variants.{Less, Equal, Greater}
-use Rattle.ty.specs.Types.{compareLists}
-use Rattle.ty.specs.Order.{lists-same, lists-equal}
+use Rattle.order.specs.Laws.{lists-same, lists-equal}
+use Rattle.order.specs.Compare.{compareLists, isEqual}
+use Rattle.order.specs.declared.Order.{Order}
+use Rattle.order.specs.declared.Order.the-variants.{Less, Equal, Greater}
 use Rattle.names.specs.declared.LookedUp.{LookedUp}
-use Rattle.names.specs.Names.{nameOf, nameAt, isEqual, next, checkNames, lookup, found, lookUp}
+use Rattle.names.specs.Names.{nameOf, nameAt, next, checkNames, lookup, found, lookUp}
 use Rattle.names.specs.Table.{Checked, number-of-name}
 
 same-bytes : (a b : List ℕ) → a ≡ b → isEqual (compareLists a b) ≡ true

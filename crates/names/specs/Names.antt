@@ -6,12 +6,12 @@ use mathlib.Core.Option.{Option, some, none}
 use Prim.Native.Nat.{ℕ, zero, suc, _+_, _-_}
 use lib.Dec.{eqb, leb, ltb}
 use lib.ListN.{length, getD, take, drop}
-use Rattle.ty.specs.declared.Order.{Order}
-use Rattle.ty.specs.declared.Order.the-variants.{Less, Equal, Greater}
-use Rattle.ty.specs.Types.{compareLists}
+use Rattle.order.specs.declared.Order.{Order}
+use Rattle.order.specs.declared.Order.the-variants.{Less, Equal, Greater}
+use Rattle.order.specs.Compare.{isLess, isEqual, compareLists}
 use Rattle.utf8.specs.Utf8.{wellFormed}
 use Rattle.names.specs.declared.LookedUp.{LookedUp}
-use Rattle.names.specs.First.{Check, check, first, orElse}
+use Rattle.checks.specs.Checks.{Check, check, firstRefusal, orElse}
 
 -- ---- places
 
@@ -26,18 +26,6 @@ nameOf bytes at len = take len (drop at bytes)
 abbrev pub nameAt : List ℕ → List ℕ → List ℕ → ℕ → List ℕ
 nameAt bytes ats lens i = nameOf bytes (getD ats i 0) (getD lens i 0)
 
--- ---- the order of names is that of their bytes, left to right, a prefix first
-
-abbrev pub isLess : Order → Bool
-isLess Less = true
-isLess Equal = false
-isLess Greater = false
-
-abbrev pub isEqual : Order → Bool
-isEqual Less = false
-isEqual Equal = true
-isEqual Greater = false
-
 -- ---- the checks of a name
 
 -- what is refused of a name, in this order: LENGTH, UTF8, NAMEORDER, ROOM
@@ -51,14 +39,14 @@ nameChecks last name count total =
     ∷ []
 
 unfoldable pub checkName : List ℕ → List ℕ → ℕ → ℕ → ℕ
-checkName last name count total = first (nameChecks last name count total)
+checkName last name count total = firstRefusal (nameChecks last name count total)
 
 -- ---- the checks of a table
 
 -- one row: its place, then its name
 unfoldable pub checkRow : List ℕ → ℕ → ℕ → List ℕ → ℕ → ℕ → ℕ
 checkRow bytes at len last count total =
-    first (check (not (placeGood (length bytes) at len)) 3 ∷ nameChecks last (nameOf bytes at len) count total)
+    firstRefusal (check (not (placeGood (length bytes) at len)) 3 ∷ nameChecks last (nameOf bytes at len) count total)
 
 -- row by row
 unfoldable pub checkRows : List ℕ → List ℕ → List ℕ → List ℕ → ℕ → ℕ → ℕ

@@ -11,13 +11,14 @@ use lib.Dec.{eqb, leb, ltb}
 use lib.ListN.{length, getD, take, drop, length-drop}
 use lib.Seq.{length-take-le}
 use borrow.Author.Tests.{eq-eqb, ne-eqb, lt-ltb, le-ltb, le-leb, lt-leb, eqb-true, ltb-false, leb-true, leb-false, not-true, not-false}
-use Rattle.ty.specs.declared.Order.{Order}
-use Rattle.ty.specs.declared.Order.the-variants.{Less, Equal, Greater}
-use Rattle.ty.specs.Types.{compareNumbers, compareLists}
-use Rattle.ty.specs.Order.{flip, lists-same, lists-swap, lists-trans, numbers-by, equal-numbers}
+use Rattle.order.specs.Truth.{both}
+use Rattle.order.specs.Laws.{lists-same, lists-swap, lists-trans, numbers-by, equal-numbers}
+use Rattle.order.specs.Compare.{compareNumbers, compareLists, flip, isLess}
+use Rattle.order.specs.declared.Order.{Order}
+use Rattle.order.specs.declared.Order.the-variants.{Less, Equal, Greater}
 use Rattle.utf8.specs.Utf8.{wellFormed}
-use Rattle.names.specs.First.{check, first, quiet, free, both, else-zero, first-none}
-use Rattle.names.specs.Names.{placeGood, nameOf, nameAt, isLess, nameChecks, checkName, checkRow, checkRows, checkNames}
+use Rattle.checks.specs.Checks.{check, firstRefusal, quiet, free, else-zero, first-none}
+use Rattle.names.specs.Names.{placeGood, nameOf, nameAt, nameChecks, checkName, checkRow, checkRows, checkNames}
 
 -- ---- a place
 
@@ -57,12 +58,12 @@ part-is bytes at len = ap (λ (n : ℕ). take n (drop at bytes)) (let e : at + l
 
 module _ (bytes : List ℕ) (at len : ℕ) (last : List ℕ) (count total : ℕ) where
   pub row-misplaced : placeGood (length bytes) at len ≡ false → checkRow bytes at len last count total ≡ 3
-  unfolding checkRow first
+  unfolding checkRow firstRefusal
   row-misplaced h = rw h
 
   -- past the place, a row is refused as its name is
   pub row-placed : placeGood (length bytes) at len ≡ true → checkRow bytes at len last count total ≡ checkName last (nameOf bytes at len) count total
-  unfolding checkRow checkName first
+  unfolding checkRow checkName firstRefusal
   row-placed h = rw h
 
 is-less : (o : Order) → isLess o ≡ true → o ≡ Less
@@ -121,7 +122,7 @@ not-low last name (suc n) a = rw (lt-ltb 0 (suc n) (omega arith), a (omega arith
 
 pub row-accepted : (bytes : List ℕ) (at len : ℕ) (last : List ℕ) (count total : ℕ)
     → GoodRow bytes at len last count total → checkRow bytes at len last count total ≡ 0
-unfolding checkRow nameChecks first
+unfolding checkRow nameChecks firstRefusal
 row-accepted bytes at len last count total g =
     let i = g .inside in
     let name = nameOf bytes at len in

@@ -1,5 +1,5 @@
 // Names of classes as places in a byte slice: their order, their checks, and the number of a name.
-use ty::Order;
+use order::Order;
 use utf8::is_well_formed;
 ghost use mathlib.Core.Path.{_≡_};
 ghost use mathlib.Core.Bool.{not, _&&_, _||_};
@@ -7,8 +7,8 @@ ghost use Prim.Native.Nat.{_+_, _-_, _≤_, min};
 ghost use lib.Dec.{leb, ltb};
 ghost use lib.ListN.{length, drop};
 ghost use lib.Seq.{slice};
-ghost use Rattle.ty.specs.Types.{compareNumbers, compareLists};
-ghost use Rattle.names.specs.Names.{placeGood, nameOf, isLess, isEqual, checkName, checkRow, checkNames, found, lookup, lookUp};
+ghost use Rattle.order.specs.Compare.{compareNumbers, compareLists, isLess, isEqual};
+ghost use Rattle.names.specs.Names.{placeGood, nameOf, checkName, checkRow, checkNames, found, lookup, lookUp};
 
 // The class number of a name, or a refusal.
 pub struct LookedUp {

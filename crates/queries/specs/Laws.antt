@@ -8,10 +8,11 @@ use lib.Dec.{eqb, ltb}
 use lib.ListN.{length, take, drop, replicate, length-replicate}
 use lib.Seq.{take-all}
 use borrow.Author.Tests.{eq-eqb, ne-eqb, lt-ltb, le-ltb, eqb-true, eqb-false, ltb-true, not-true, not-false}
-use Rattle.ty.specs.Types.{compareLists}
-use Rattle.names.specs.First as checks
-use Rattle.names.specs.First.{Check, check, quiet, free, both, first-hit, first-miss, first-none}
-use Rattle.names.specs.Names.{isEqual, checkName}
+use Rattle.order.specs.Truth.{both}
+use Rattle.order.specs.Compare.{compareLists, isEqual}
+use Rattle.checks.specs.Checks as checks
+use Rattle.checks.specs.Checks.{Check, check, quiet, free, first-hit, first-miss, first-none}
+use Rattle.names.specs.Names.{checkName}
 use Rattle.view.specs.declared.Relation as declared
 use Rattle.view.specs.View.{View, relation, relationNumber, distance, numberOf, ancestors, supertype, cast}
 use Rattle.hierarchy.specs.declared.Classes.{Classes}
@@ -21,7 +22,7 @@ use Rattle.rows.specs.declared.Tables.{Tables}
 use Rattle.rows.specs.declared.Outcome.{Outcome}
 use Rattle.rows.specs.Rows.{objectName, noTables, noted, withName, nameRow, allBelow, State, recordRefusal, withRecord, recordRow, Ran, filled, Fills}
 use Rattle.rows.specs.Keys.{take-filled}
-use Rattle.rows.specs.Laws.{Good}
+use Rattle.rows.specs.Laws.{Sound}
 use Rattle.columns.specs.Columns.{nameRows, placedRecord, recordRows, tableOf}
 use Rattle.columns.specs.Laws.{names-keep, record-either, table-good}
 use Rattle.queries.specs.declared.Query.{Query}
@@ -68,7 +69,7 @@ module _ (g : Given) where
     unfolding even
     uneven-fills e o = rw (checked-uneven e) (record { outcome-is = o; pairs-are = refl; marks-are = m })
 
-  pub good-in : Good (table g .state)
+  pub good-in : Sound (table g .state)
   unfolding table
   good-in = table-good (g .names) (g .ats) (g .lens) (g .parents) (g .flags) (g .classes) (g .starts) (g .sizes) noMarks refl
 
@@ -134,27 +135,27 @@ object-known g = go (eqb (named .refusal) 0)
 -- ---- the checks
 
 module _ (refusal : ℕ) (t : Tables) (a b : ℕ) where
-  pub ran-refused : (refusal ≡ 0 → ⊥) → refusal ≡ checks.first (ranChecks refusal t (a ∷ b ∷ []))
-  unfolding ranChecks checks.first
+  pub ran-refused : (refusal ≡ 0 → ⊥) → refusal ≡ checks.firstRefusal (ranChecks refusal t (a ∷ b ∷ []))
+  unfolding ranChecks checks.firstRefusal
   ran-refused n = rw (ne-eqb refusal 0 n)
 
   module _ (z : refusal ≡ 0) where
-    pub ran-left : t .names ≤ a → 6 ≡ checks.first (ranChecks refusal t (a ∷ b ∷ []))
-    unfolding ranChecks checks.first allBelow
+    pub ran-left : t .names ≤ a → 6 ≡ checks.firstRefusal (ranChecks refusal t (a ∷ b ∷ []))
+    unfolding ranChecks checks.firstRefusal allBelow
     ran-left h = rw (z, le-ltb a (t .names) h)
 
     module _ (l : a < t .names) where
-      pub ran-right : t .names ≤ b → 6 ≡ checks.first (ranChecks refusal t (a ∷ b ∷ []))
-      unfolding ranChecks checks.first allBelow
+      pub ran-right : t .names ≤ b → 6 ≡ checks.firstRefusal (ranChecks refusal t (a ∷ b ∷ []))
+      unfolding ranChecks checks.firstRefusal allBelow
       ran-right h = rw (z, lt-ltb a (t .names) l, le-ltb b (t .names) h)
 
       module _ (r : b < t .names) where
-        pub ran-object : t .object ≡ 2 ^ 64 - 1 → 9 ≡ checks.first (ranChecks refusal t (a ∷ b ∷ []))
-        unfolding ranChecks checks.first allBelow
+        pub ran-object : t .object ≡ 2 ^ 64 - 1 → 9 ≡ checks.firstRefusal (ranChecks refusal t (a ∷ b ∷ []))
+        unfolding ranChecks checks.firstRefusal allBelow
         ran-object e = rw (z, lt-ltb a (t .names) l, lt-ltb b (t .names) r, eq-eqb (t .object) (2 ^ 64 - 1) e)
 
-        pub ran-none : (t .object ≡ 2 ^ 64 - 1 → ⊥) → 0 ≡ checks.first (ranChecks refusal t (a ∷ b ∷ []))
-        unfolding ranChecks checks.first allBelow
+        pub ran-none : (t .object ≡ 2 ^ 64 - 1 → ⊥) → 0 ≡ checks.firstRefusal (ranChecks refusal t (a ∷ b ∷ []))
+        unfolding ranChecks checks.firstRefusal allBelow
         ran-none n = rw (z, lt-ltb a (t .names) l, lt-ltb b (t .names) r, ne-eqb (t .object) (2 ^ 64 - 1) n)
 
   -- what nothing refused says
@@ -164,8 +165,8 @@ module _ (refusal : ℕ) (t : Tables) (a b : ℕ) where
     pub right-in : b < t .names
     pub object-there : t .object ≡ 2 ^ 64 - 1 → ⊥
 
-  pub passed : checks.first (ranChecks refusal t (a ∷ b ∷ [])) ≡ 0 → Passed
-  unfolding ranChecks checks.first allBelow
+  pub passed : checks.firstRefusal (ranChecks refusal t (a ∷ b ∷ [])) ≡ 0 → Passed
+  unfolding ranChecks checks.firstRefusal allBelow
   passed h = go (eqb refusal 0) refl (ltb a (t .names)) refl (ltb b (t .names)) refl (eqb (t .object) (2 ^ 64 - 1)) refl h
     where
       go : (w : Bool) → eqb refusal 0 ≡ w → (x : Bool) → ltb a (t .names) ≡ x → (y : Bool) → ltb b (t .names) ≡ y → (v : Bool) → eqb (t .object) (2 ^ 64 - 1) ≡ v
@@ -182,26 +183,26 @@ module _ (refusal : ℕ) (t : Tables) (a b : ℕ) where
       }
 
 -- one number is checked as twice the same
-pub ran-once : (refusal : ℕ) (t : Tables) (x : ℕ) → checks.first (ranChecks refusal t (x ∷ x ∷ [])) ≡ checks.first (ranChecks refusal t (x ∷ []))
+pub ran-once : (refusal : ℕ) (t : Tables) (x : ℕ) → checks.firstRefusal (ranChecks refusal t (x ∷ x ∷ [])) ≡ checks.firstRefusal (ranChecks refusal t (x ∷ []))
 unfolding ranChecks allBelow
 ran-once refusal t x = go (ltb x (t .names))
   where
-    go : (b : Bool) → checks.first (check (not (eqb refusal 0)) refusal ∷ check (not (b && (b && true))) 6 ∷ check (eqb (t .object) (2 ^ 64 - 1)) 9 ∷ [])
-        ≡ checks.first (check (not (eqb refusal 0)) refusal ∷ check (not (b && true)) 6 ∷ check (eqb (t .object) (2 ^ 64 - 1)) 9 ∷ [])
+    go : (b : Bool) → checks.firstRefusal (check (not (eqb refusal 0)) refusal ∷ check (not (b && (b && true))) 6 ∷ check (eqb (t .object) (2 ^ 64 - 1)) 9 ∷ [])
+        ≡ checks.firstRefusal (check (not (eqb refusal 0)) refusal ∷ check (not (b && true)) 6 ∷ check (eqb (t .object) (2 ^ 64 - 1)) 9 ∷ [])
     go true = refl
     go false = refl
 
-pub query-once : (g : Given) (x : ℕ) → checks.first (queryChecks g (x ∷ x ∷ [])) ≡ checks.first (queryChecks g (x ∷ []))
-unfolding queryChecks checks.first
+pub query-once : (g : Given) (x : ℕ) → checks.firstRefusal (queryChecks g (x ∷ x ∷ [])) ≡ checks.firstRefusal (queryChecks g (x ∷ []))
+unfolding queryChecks checks.firstRefusal
 query-once g x = ap (λ (k : ℕ). cond (not (even g)) 3 k) (ran-once (table g .refusal) (table g .state .tables) x)
 
 -- THE CHECKS AFTER THE ROWS, with the test of the columns among them
-pub query-ran : (g : Given) (numbers : List ℕ) → checks.first (ranChecks (checkedTable g .refusal) (checkedTable g .state .tables) numbers) ≡ checks.first (queryChecks g numbers)
-unfolding queryChecks checks.first checkedTable ranChecks
+pub query-ran : (g : Given) (numbers : List ℕ) → checks.firstRefusal (ranChecks (checkedTable g .refusal) (checkedTable g .state .tables) numbers) ≡ checks.firstRefusal (queryChecks g numbers)
+unfolding queryChecks checks.firstRefusal checkedTable ranChecks
 query-ran g numbers = go (even g)
   where
-    go : (b : Bool) → checks.first (ranChecks (cond {A = Ran} b (table g) (record { refusal = 3; state = record { tables = noTables; keys = []; marks = noMarks } }) .refusal) (cond {A = Ran} b (table g) (record { refusal = 3; state = record { tables = noTables; keys = []; marks = noMarks } }) .state .tables) numbers)
-        ≡ cond (not b) 3 (checks.first (ranChecks (table g .refusal) (table g .state .tables) numbers))
+    go : (b : Bool) → checks.firstRefusal (ranChecks (cond {A = Ran} b (table g) (record { refusal = 3; state = record { tables = noTables; keys = []; marks = noMarks } }) .refusal) (cond {A = Ran} b (table g) (record { refusal = 3; state = record { tables = noTables; keys = []; marks = noMarks } }) .state .tables) numbers)
+        ≡ cond (not b) 3 (checks.firstRefusal (ranChecks (table g .refusal) (table g .state .tables) numbers))
     go true = refl
     go false = refl
 
@@ -219,7 +220,7 @@ view-filled g pairs pairs′ marks′ o f =
 
 -- AN OPENED TABLE IS READY where nothing is refused
 module _ (g : Given) (a b : ℕ) (pairs pairs′ marks′ : List ℕ) (o : Outcome) (f : Fills (checkedTable g) pairs pairs′ marks′ o) (r : Opened)
-    (e : r .refusal ≡ checks.first (ranChecks (o .refusal) (o .tables) (a ∷ b ∷ []))) (k : r .classes ≡ classesOf (o .tables)) where
+    (e : r .refusal ≡ checks.firstRefusal (ranChecks (o .refusal) (o .tables) (a ∷ b ∷ []))) (k : r .classes ≡ classesOf (o .tables)) where
   is-even : o .refusal ≡ 0 → even g ≡ true
   is-even z = go (even g) refl
     where
@@ -244,7 +245,7 @@ module _ (g : Given) (a b : ℕ) (pairs pairs′ marks′ : List ℕ) (o : Outco
 
   pub opens : Opens g a b pairs′ marks′ r
   opens = record {
-    refusal-is = e ∙ ap (λ (u : Outcome). checks.first (ranChecks (u .refusal) (u .tables) (a ∷ b ∷ []))) (f .outcome-is) ∙ query-ran g (a ∷ b ∷ []);
+    refusal-is = e ∙ ap (λ (u : Outcome). checks.firstRefusal (ranChecks (u .refusal) (u .tables) (a ∷ b ∷ []))) (f .outcome-is) ∙ query-ran g (a ∷ b ∷ []);
     ready = ready;
   }
 
@@ -313,7 +314,7 @@ module _ (g : Given) (numbers work : List ℕ) where
         record { result = e ∙ gathered-none 22 (queryRefusal g numbers (length work)) words short-refusal (λ z. omega arith); memory = short-work }
 
   module _ (h : 8192 ≤ length work) (work′ : List ℕ) (z : work′ ≡ replicate (length work) 0) where
-    long-refusal : checks.first (queryChecks g numbers) ≡ queryRefusal g numbers (length work)
+    long-refusal : checks.firstRefusal (queryChecks g numbers) ≡ queryRefusal g numbers (length work)
     unfolding queryRefusal
     long-refusal = sym (first-miss (ltb (length work) 8192) 22 (queryChecks g numbers) (le-ltb (length work) 8192 h))
 
@@ -322,10 +323,10 @@ module _ (g : Given) (numbers work : List ℕ) where
     long-work = rw (le-ltb (length work) 8192 h) z
 
     -- ANOTHER IS ZERO AT EXIT, whatever is answered
-    pub asked-long : (value : ℕ) (r : Answer) → r ≡ answered (checks.first (queryChecks g numbers)) value
+    pub asked-long : (value : ℕ) (r : Answer) → r ≡ answered (checks.firstRefusal (queryChecks g numbers)) value
         → Asked (queryRefusal g numbers (length work)) value work work′ r
     asked-long value r e = record { result = e ∙ ap (λ (k : ℕ). answered k value) long-refusal; memory = long-work }
 
-    pub gathers-long : (words : List ℕ) (r : Ancestors) → r ≡ gathered (checks.first (queryChecks g numbers)) words
+    pub gathers-long : (words : List ℕ) (r : Ancestors) → r ≡ gathered (checks.firstRefusal (queryChecks g numbers)) words
         → Gathers (queryRefusal g numbers (length work)) words work work′ r
     gathers-long words r e = record { result = e ∙ ap (λ (k : ℕ). gathered k words) long-refusal; memory = long-work }

@@ -7,8 +7,8 @@ use Prim.Native.Nat.{ℕ, _-_, _^_, _≤_, _<_}
 use lib.Dec.{eqb, ltb}
 use lib.ListN.{length, replicate}
 use Rattle.sets.specs.Sets.{at, members, first}
-use Rattle.names.specs.First as checks
-use Rattle.names.specs.First.{Check, check}
+use Rattle.checks.specs.Checks as checks
+use Rattle.checks.specs.Checks.{Check, check}
 use Rattle.view.specs.View.{View, relation, relationNumber, distance, numberOf, supertype, cast}
 use Rattle.hierarchy.specs.declared.Classes.{Classes}
 use Rattle.hierarchy.specs.Table.{viewOf}
@@ -84,7 +84,7 @@ queryChecks g numbers = check (not (even g)) 3 ∷ ranChecks (table g .refusal) 
 
 -- before all, a work of `room` words that is too short
 unfoldable pub queryRefusal : Given → List ℕ → ℕ → ℕ
-queryRefusal g numbers room = checks.first (check (ltb room 8192) 22 ∷ queryChecks g numbers)
+queryRefusal g numbers room = checks.firstRefusal (check (ltb room 8192) 22 ∷ queryChecks g numbers)
 
 -- ---- answers; a refused one is its number, and zero in every other field
 
@@ -132,5 +132,5 @@ pub record Ready (g : Given) (a b : ℕ) (pairs marks : List ℕ) (t : Classes) 
 
 -- the refusal, and where there is none the slices are ready
 pub record Opens (g : Given) (a b : ℕ) (pairs marks : List ℕ) (r : Opened) : Type 0 where
-  pub refusal-is : r .refusal ≡ checks.first (queryChecks g (a ∷ b ∷ []))
+  pub refusal-is : r .refusal ≡ checks.firstRefusal (queryChecks g (a ∷ b ∷ []))
   pub ready : r .refusal ≡ 0 → Ready g a b pairs marks (r .classes)

@@ -8,11 +8,11 @@ use native.Mathlib.Omega.{arith}
 use lib.Dec.{eqb, leb, ltb}
 use lib.ListN.{length, take, drop, replicate}
 use borrow.Author.Tests.{lt-ltb, le-ltb, ltb-true, ltb-false, ne-eqb}
-use Rattle.ty.specs.Types.{compareLists}
+use Rattle.order.specs.Compare.{compareLists, isLess}
 use Rattle.utf8.specs.Utf8.{wellFormed}
-use Rattle.names.specs.First as checks
-use Rattle.names.specs.First.{quiet, free, first-is}
-use Rattle.names.specs.Names.{nameOf, isLess, nameChecks, checkName}
+use Rattle.checks.specs.Checks as checks
+use Rattle.checks.specs.Checks.{quiet, free, first-is}
+use Rattle.names.specs.Names.{nameOf, nameChecks, checkName}
 use Rattle.rows.specs.declared.Tables.{Tables}
 use Rattle.rows.specs.declared.Outcome.{Outcome}
 use Rattle.rows.specs.Rows.{noTables, nameRow, goodFlags, allBelow, putAll, State, recordChecks, recordRefusal, Ran, recordRan}
@@ -22,7 +22,7 @@ use Rattle.queries.specs.Queries.{Given, noMarks, table, ranChecks, quer
 -- ---- one row
 
 name-22 : (last name : List ℕ) (count total : ℕ) → checkName last name count total ≡ 22 → ⊥
-unfolding checkName nameChecks checks.first
+unfolding checkName nameChecks checks.firstRefusal
 name-22 last name count total =
     go (eqb (length name) 0 || ltb 255 (length name)) (not (wellFormed name)) (ltb 0 count && not (isLess (compareLists last name))) (leb 1024 count || ltb 24576 (total + length name))
   where
@@ -34,7 +34,7 @@ name-22 last name count total =
     go false false false false e = omega arith
 
 record-22 : (names : ℕ) (keys : List ℕ) (flags class : ℕ) (parents : List ℕ) → recordRefusal names keys flags class parents ≡ 22 → ⊥
-unfolding recordRefusal recordChecks checks.first
+unfolding recordRefusal recordChecks checks.firstRefusal
 record-22 names keys flags class parents =
     go (ltb 254 (length parents)) (not (goodFlags flags && (ltb class names && allBelow names parents))) (ltb 4096 (length (putAll class parents keys)))
   where

@@ -10,7 +10,7 @@ ghost use mathlib.Core.Bool.{cond};
 ghost use mathlib.Core.List.{[], _∷_};
 ghost use Prim.Native.Nat.{_≤_, _<_};
 ghost use lib.ListN.{length, replicate};
-ghost use Rattle.names.specs.First as checks;
+ghost use Rattle.checks.specs.Checks as checks;
 ghost use Rattle.rows.specs.Rows.{noTables, Fills};
 ghost use Rattle.view.specs.View.{relationNumber, ancestors};
 ghost use Rattle.hierarchy.specs.Table.{viewOf};
@@ -128,7 +128,7 @@ pub fn build_table(
 
 // The refusal of a table, of two numbers over it, of the lack of java/lang/Object.
 fn check_numbers(o: Outcome, a: u64, b: u64) -> u64
-    ensures { λ r. ⌜ r ≡ checks.first (ranChecks (o .refusal) (o .tables) (a ∷ b ∷ [])) ⌝ }
+    ensures { λ r. ⌜ r ≡ checks.firstRefusal (ranChecks (o .refusal) (o .tables) (a ∷ b ∷ [])) ⌝ }
 {
     if o.refusal != 0 {
         return o.refusal;
@@ -153,7 +153,7 @@ struct Opened {
 }
 
 fn with_checks(o: Outcome, a: u64, b: u64) -> Opened
-    ensures { λ r. ⌜ (r .refusal ≡ checks.first (ranChecks (o .refusal) (o .tables) (a ∷ b ∷ []))) × (r .classes ≡ classesOf (o .tables)) ⌝ }
+    ensures { λ r. ⌜ (r .refusal ≡ checks.firstRefusal (ranChecks (o .refusal) (o .tables) (a ∷ b ∷ []))) × (r .classes ≡ classesOf (o .tables)) ⌝ }
 {
     let refusal = check_numbers(o, a, b);
     let t = o.tables;
@@ -251,7 +251,7 @@ fn ask_over(
     marks: &mut [u64],
 ) -> Answer
     requires { ⌜ (length (now pairs) ≡ 4096) × (now marks ≡ noMarks) ⌝ }
-    ensures { λ r. ⌜ r ≡ answered (checks.first (queryChecks (given (now (names .entry)) (now (ats .entry)) (now (lens .entry)) (now (flags .entry)) (now (classes .entry)) (now (starts .entry)) (now (sizes .entry)) (now (parents .entry))) (a ∷ b ∷ []))) (valueOf (viewIn (given (now (names .entry)) (now (ats .entry)) (now (lens .entry)) (now (flags .entry)) (now (classes .entry)) (now (starts .entry)) (now (sizes .entry)) (now (parents .entry)))) q a b) ⌝ }
+    ensures { λ r. ⌜ r ≡ answered (checks.firstRefusal (queryChecks (given (now (names .entry)) (now (ats .entry)) (now (lens .entry)) (now (flags .entry)) (now (classes .entry)) (now (starts .entry)) (now (sizes .entry)) (now (parents .entry))) (a ∷ b ∷ []))) (valueOf (viewIn (given (now (names .entry)) (now (ats .entry)) (now (lens .entry)) (now (flags .entry)) (now (classes .entry)) (now (starts .entry)) (now (sizes .entry)) (now (parents .entry)))) q a b) ⌝ }
 {
     let o = open_table(
         names,
@@ -293,7 +293,7 @@ fn ask_table(
     a: u64,
     b: u64,
 ) -> Answer
-    ensures { λ r. ⌜ r ≡ answered (checks.first (queryChecks (given (now (names .entry)) (now (ats .entry)) (now (lens .entry)) (now (flags .entry)) (now (classes .entry)) (now (starts .entry)) (now (sizes .entry)) (now (parents .entry))) (a ∷ b ∷ []))) (valueOf (viewIn (given (now (names .entry)) (now (ats .entry)) (now (lens .entry)) (now (flags .entry)) (now (classes .entry)) (now (starts .entry)) (now (sizes .entry)) (now (parents .entry)))) q a b) ⌝ }
+    ensures { λ r. ⌜ r ≡ answered (checks.firstRefusal (queryChecks (given (now (names .entry)) (now (ats .entry)) (now (lens .entry)) (now (flags .entry)) (now (classes .entry)) (now (starts .entry)) (now (sizes .entry)) (now (parents .entry))) (a ∷ b ∷ []))) (valueOf (viewIn (given (now (names .entry)) (now (ats .entry)) (now (lens .entry)) (now (flags .entry)) (now (classes .entry)) (now (starts .entry)) (now (sizes .entry)) (now (parents .entry)))) q a b) ⌝ }
 {
     let mut pairs = [0u64; 4096];
     let mut marks = [0u64; 64];
@@ -403,7 +403,7 @@ fn ancestors_over(
     marks: &mut [u64],
 ) -> Ancestors
     requires { ⌜ (length (now pairs) ≡ 4096) × (now marks ≡ noMarks) ⌝ }
-    ensures { λ r. ⌜ r ≡ gathered (checks.first (queryChecks (given (now (names .entry)) (now (ats .entry)) (now (lens .entry)) (now (flags .entry)) (now (classes .entry)) (now (starts .entry)) (now (sizes .entry)) (now (parents .entry))) (class ∷ []))) (ancestors (viewIn (given (now (names .entry)) (now (ats .entry)) (now (lens .entry)) (now (flags .entry)) (now (classes .entry)) (now (starts .entry)) (now (sizes .entry)) (now (parents .entry)))) class) ⌝ }
+    ensures { λ r. ⌜ r ≡ gathered (checks.firstRefusal (queryChecks (given (now (names .entry)) (now (ats .entry)) (now (lens .entry)) (now (flags .entry)) (now (classes .entry)) (now (starts .entry)) (now (sizes .entry)) (now (parents .entry))) (class ∷ []))) (ancestors (viewIn (given (now (names .entry)) (now (ats .entry)) (now (lens .entry)) (now (flags .entry)) (now (classes .entry)) (now (starts .entry)) (now (sizes .entry)) (now (parents .entry)))) class) ⌝ }
 {
     let o = open_table(
         names,
@@ -436,7 +436,7 @@ fn ancestors_in(
     parents: &[u64],
     class: u64,
 ) -> Ancestors
-    ensures { λ r. ⌜ r ≡ gathered (checks.first (queryChecks (given (now (names .entry)) (now (ats .entry)) (now (lens .entry)) (now (flags .entry)) (now (classes .entry)) (now (starts .entry)) (now (sizes .entry)) (now (parents .entry))) (class ∷ []))) (ancestors (viewIn (given (now (names .entry)) (now (ats .entry)) (now (lens .entry)) (now (flags .entry)) (now (classes .entry)) (now (starts .entry)) (now (sizes .entry)) (now (parents .entry)))) class) ⌝ }
+    ensures { λ r. ⌜ r ≡ gathered (checks.firstRefusal (queryChecks (given (now (names .entry)) (now (ats .entry)) (now (lens .entry)) (now (flags .entry)) (now (classes .entry)) (now (starts .entry)) (now (sizes .entry)) (now (parents .entry))) (class ∷ []))) (ancestors (viewIn (given (now (names .entry)) (now (ats .entry)) (now (lens .entry)) (now (flags .entry)) (now (classes .entry)) (now (starts .entry)) (now (sizes .entry)) (now (parents .entry)))) class) ⌝ }
 {
     let mut pairs = [0u64; 4096];
     let mut marks = [0u64; 64];

@@ -1,4 +1,5 @@
 // The functions on types. A word among the arguments is one over 1,024 names unless their number is given.
+use order::Order;
 use recorded::answers;
 use recorded::answers::MISSING;
 use recorded::answers::Verdict;
@@ -6,7 +7,6 @@ use recorded::lists;
 use ty::Arrayed;
 use ty::Decoded;
 use ty::MaybeType;
-use ty::Order;
 use ty::TypeWord;
 ghost use Rattle.ty.specs.Words.{Legal};
 

@@ -4,11 +4,12 @@ use mathlib.Core.Bool.{true, false}
 use mathlib.Core.List.{List, [], _∷_}
 use Prim.Native.Nat.{ℕ, _-_, _^_}
 use lib.ListN.{replicate}
-use Rattle.ty.specs.Types.{compareNumbers, compareLists}
+use Rattle.order.specs.Lists.{elem}
+use Rattle.order.specs.Compare.{compareNumbers, compareLists}
 use Rattle.utf8.specs.Utf8.{table, within, matches, firstMatch, sequence, scan, validPrefix, wellFormed}
 use Rattle.sets.specs.Sets.{bit, clear, at, member, insert, remove}
-use Rattle.sorted.specs.Sorted.{elem, insertSorted, put}
-use Rattle.names.specs.First.{first}
+use Rattle.sorted.specs.Sorted.{insertSorted, put}
+use Rattle.checks.specs.Checks.{firstRefusal}
 use Rattle.names.specs.Names.{nameChecks, checkName}
 use Rattle.rows.specs.declared.Tables.{Tables}
 use Rattle.rows.specs.Rows.{objectName, cloneableName, serializableName, noted, withName, nameRow, isMarked, goodFlags, allBelow, putAll, marked, recordMarks, recordChecks, recordRefusal}
@@ -22,7 +23,7 @@ pub names :
     (nameRow (97 ∷ []) objectName three ≡ record { refusal = 0; tables = record { names = 4; bytes = 40; object = 3; cloneable = 1; serializable = 2 ^ 64 - 1; pairs = 0 } })
     × (nameRow (97 ∷ []) (98 ∷ []) three ≡ record { refusal = 0; tables = record { names = 4; bytes = 25; object = 2 ^ 64 - 1; cloneable = 1; serializable = 2 ^ 64 - 1; pairs = 0 } })
     × (nameRow (98 ∷ []) (97 ∷ []) three ≡ record { refusal = 5; tables = three })
-unfolding objectName cloneableName serializableName noted withName nameRow nameChecks checkName first compareLists compareNumbers table within matches firstMatch sequence scan validPrefix wellFormed
+unfolding objectName cloneableName serializableName noted withName nameRow nameChecks checkName firstRefusal compareLists compareNumbers table within matches firstMatch sequence scan validPrefix wellFormed
 names = (refl, refl, refl)
 
 -- of four names, with the pair (1, 0): refused are 255 parents 3; flags 8, 2, 4 and 6, class 4 and parent 4 with 6; repeats count once
@@ -36,7 +37,7 @@ pub refusals :
     × (recordRefusal 4 (1024 ∷ []) 0 0 (3 ∷ 4 ∷ []) ≡ 6)
     × (recordRefusal 4 (1024 ∷ []) 7 0 (replicate 254 3) ≡ 0)
     × (putAll 1 (3 ∷ 0 ∷ 3 ∷ []) (1024 ∷ 2048 ∷ []) ≡ 1024 ∷ 1027 ∷ 2048 ∷ [])
-unfolding recordRefusal recordChecks first goodFlags allBelow putAll put elem insertSorted
+unfolding recordRefusal recordChecks firstRefusal goodFlags allBelow putAll put elem insertSorted
 refusals = (refl, refl, refl, refl, refl, refl, refl, refl, refl)
 
 -- the marks of class 65 after a record

@@ -7,14 +7,16 @@ use native.Mathlib.Omega.{arith}
 use lib.Dec.{eqb, leb, ltb}
 use lib.ListN.{length, getD}
 use borrow.Author.Tests.{ne-eqb, ltb-true, ltb-false, leb-false, eqb-true, not-true, not-false}
-use Rattle.ty.specs.declared.Order.{Order}
-use Rattle.ty.specs.declared.Order.the-variants.{Less, Equal, Greater}
-use Rattle.ty.specs.Types.{compareLists}
-use Rattle.ty.specs.Order.{lists-same, lists-equal}
+use Rattle.order.specs.Truth.{both}
+use Rattle.order.specs.Lists.{elem}
+use Rattle.order.specs.Laws.{lists-same, lists-equal}
+use Rattle.order.specs.Compare.{compareLists, isLess, isEqual}
+use Rattle.order.specs.declared.Order.{Order}
+use Rattle.order.specs.declared.Order.the-variants.{Less, Equal, Greater}
 use Rattle.utf8.specs.Utf8.{wellFormed}
-use Rattle.sorted.specs.Sorted.{Sorted, elem}
-use Rattle.names.specs.First.{check, quiet, free, both, first-is, first-none}
-use Rattle.names.specs.Names.{isLess, isEqual, nameChecks, checkName}
+use Rattle.sorted.specs.Sorted.{Sorted}
+use Rattle.checks.specs.Checks.{check, quiet, free, first-is, first-none}
+use Rattle.names.specs.Names.{nameChecks, checkName}
 use Rattle.rows.specs.declared.Tables.{Tables}
 use Rattle.rows.specs.declared.Outcome.{Outcome}
 use Rattle.rows.specs.Rows.{noTables, noted, State, stateOf, Ran, Fills, goodFlags, allBelow, key, putAll, recordChecks, recordRefusal, withName, nameRow, withRecord, recordRow, Below}
@@ -125,7 +127,7 @@ module _ (s : State) (flags class : ℕ) (parents : List ℕ) where
 
 -- ---- what every state is that rows have made
 
-pub record Good (s : State) : Type 0 where
+pub record Sound (s : State) : Type 0 where
   pub few : s .tables .names ≤ 1024
   pub short : s .tables .bytes ≤ 24576
   -- sorted, so without repeats
@@ -137,7 +139,7 @@ pub record Good (s : State) : Type 0 where
   pub wide : length (s .marks) ≡ 64
 
 -- IT IS SO AT THE START
-pub good-start : (marks : List ℕ) → length marks ≡ 64 → Good (record { tables = noTables; keys = []; marks = marks })
+pub good-start : (marks : List ℕ) → length marks ≡ 64 → Sound (record { tables = noTables; keys = []; marks = marks })
 unfolding noTables elem
 good-start marks w = record {
   few = omega arith;
@@ -150,13 +152,13 @@ good-start marks w = record {
 }
 
 -- AND STAYS SO after a name
-pub good-name : (last name : List ℕ) (s : State) → Good s
-    → Good (record { tables = nameRow last name (s .tables) .tables; keys = s .keys; marks = s .marks })
+pub good-name : (last name : List ℕ) (s : State) → Sound s
+    → Sound (record { tables = nameRow last name (s .tables) .tables; keys = s .keys; marks = s .marks })
 unfolding withName
 good-name last name s g = go (checkName last name (s .tables .names) (s .tables .bytes)) refl
   where
     go : (k : ℕ) → checkName last name (s .tables .names) (s .tables .bytes) ≡ k
-        → Good (record { tables = nameRow last name (s .tables) .tables; keys = s .keys; marks = s .marks })
+        → Sound (record { tables = nameRow last name (s .tables) .tables; keys = s .keys; marks = s .marks })
     go zero e =
         let r = name-room last name (s .tables .names) (s .tables .bytes) e in
         rw (name-taken last name (s .tables) e) (record {
@@ -182,7 +184,7 @@ keys-of c n (p ∷ ps) z h w b e = go (eqb (key c p) z) refl e (keys-of c n ps z
     go false q f ih = ih f
 
 -- AND after a record
-pub good-record : (s : State) (flags class : ℕ) (parents : List ℕ) → Good s → Good (recordRow s flags class parents)
+pub good-record : (s : State) (flags class : ℕ) (parents : List ℕ) → Sound s → Sound (recordRow s flags class parents)
 unfolding withRecord
 good-record s flags class parents g = go (recordRefusal (s .tables .names) (s .keys) flags class parents) refl
   where
@@ -194,7 +196,7 @@ good-record s flags class parents g = go (recordRefusal (s .tables .names) (s .k
     either r z true q f = keys-of class names parents z (r .class-in) (g .few) (r .parents-in) q
     either r z false q f = g .classes z f
 
-    go : (k : ℕ) → recordRefusal names (s .keys) flags class parents ≡ k → Good (recordRow s flags class parents)
+    go : (k : ℕ) → recordRefusal names (s .keys) flags class parents ≡ k → Sound (recordRow s flags class parents)
     go zero e =
         let r = record-good names (s .keys) flags class parents e in
         rw (record-taken s flags class parents e) (record {

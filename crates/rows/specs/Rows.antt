@@ -5,11 +5,11 @@ use mathlib.Core.List.{List, [], _∷_, _++_}
 use Prim.Native.Nat.{ℕ, _+_, _-_, _*_, _/_, _%_, _^_, _<_}
 use lib.Dec.{eqb, leb, ltb}
 use lib.ListN.{length, take, drop, getD}
-use Rattle.ty.specs.Types.{compareLists}
+use Rattle.order.specs.Compare.{compareLists, isEqual}
 use Rattle.sets.specs.Sets.{member, insert, remove}
 use Rattle.sorted.specs.Sorted.{has, put}
-use Rattle.names.specs.First.{Check, check, first}
-use Rattle.names.specs.Names.{isEqual, checkName}
+use Rattle.checks.specs.Checks.{Check, check, firstRefusal}
+use Rattle.names.specs.Names.{checkName}
 use Rattle.rows.specs.declared.Tables.{Tables}
 use Rattle.rows.specs.declared.Outcome.{Outcome}
 
@@ -112,7 +112,7 @@ recordChecks names keys flags class parents =
 
 -- the first of them that holds; 0 where none does
 unfoldable pub recordRefusal : ℕ → List ℕ → ℕ → ℕ → List ℕ → ℕ
-recordRefusal names keys flags class parents = first (recordChecks names keys flags class parents)
+recordRefusal names keys flags class parents = firstRefusal (recordChecks names keys flags class parents)
 
 -- the tables with n keys
 abbrev pub withPairs : Tables → ℕ → Tables

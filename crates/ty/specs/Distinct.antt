@@ -1,6 +1,6 @@
 -- Lists of categories without repeats: their digits in a payload, and that there are at most eleven. Assumes nothing.
 use mathlib.Core.Path.{_≡_, refl, sym, ap, ap₂, _∙_}
-use mathlib.Core.Bool.{Bool, true, false, not, true≢false}
+use mathlib.Core.Bool.{Bool, true, false, not, _&&_, _||_, true≢false}
 use mathlib.Core.List.{List, [], _∷_, _++_}
 use Prim.Native.Nat.{ℕ, zero, suc, _+_, _≤_, _<_}
 use native.Mathlib.Omega.{arith}
@@ -8,35 +8,15 @@ use lib.Dec.{eqb, leb}
 use lib.ListN.{length, take, drop, replicate}
 use lib.Seq.{take-append-seam, drop-append-seam}
 use borrow.Author.Tests.{eqb-true, eqb-false, leb-true, ne-eqb, not-true}
-use Rattle.ty.specs.Types.{and, or, elem}
+use Rattle.order.specs.Truth.{and-left, and-right, and-both, and-assoc}
+use Rattle.order.specs.Lists.{elem}
 use Rattle.ty.specs.Words.{goodDigits, distinct}
 use Rattle.ty.specs.Digits.{Digits}
-
--- ---- truth values
-
-pub and-left : (a b : Bool) → and a b ≡ true → a ≡ true
-and-left true b h = refl
-and-left false b h = h
-
-pub and-right : (a b : Bool) → and a b ≡ true → b ≡ true
-and-right true b h = h
-and-right false b h = absurd (true≢false (sym h))
-
-pub and-both : (a b : Bool) → a ≡ true → b ≡ true → and a b ≡ true
-and-both a b p q = ap₂ and p q
-
-pub and-assoc : (a b c : Bool) → and a (and b c) ≡ and (and a b) c
-and-assoc true b c = refl
-and-assoc false b c = refl
-
-pub or-false : (a : Bool) → or a false ≡ a
-or-false true = refl
-or-false false = refl
 
 -- ---- good digits are a list without repeats, and zeros
 
 -- goodDigits 0 asks for zeros alone
-pub digits-split : (n : ℕ) (ds : List ℕ) → goodDigits n ds ≡ and (distinct (take n ds)) (goodDigits 0 (drop n ds))
+pub digits-split : (n : ℕ) (ds : List ℕ) → goodDigits n ds ≡ (distinct (take n ds) && goodDigits 0 (drop n ds))
 unfolding goodDigits distinct
 digits-split zero [] = refl
 digits-split zero (d ∷ ds) = refl
@@ -44,9 +24,9 @@ digits-split (suc n) [] = refl
 digits-split (suc n) (d ∷ ds) =
     let fresh = not (elem d (take n ds)) in
     let rest = goodDigits 0 (drop n ds) in
-    ap (λ (t : Bool). and (leb d 10) (and fresh t)) (digits-split n ds)
-    ∙ ap (and (leb d 10)) (and-assoc fresh (distinct (take n ds)) rest)
-    ∙ and-assoc (leb d 10) (and fresh (distinct (take n ds))) rest
+    ap (λ (t : Bool). leb d 10 && (fresh && t)) (digits-split n ds)
+    ∙ ap (_&&_ (leb d 10)) (and-assoc fresh (distinct (take n ds)) rest)
+    ∙ and-assoc (leb d 10) (fresh && distinct (take n ds)) rest
 
 zeros-are : (ds : List ℕ) → goodDigits 0 ds ≡ true → ds ≡ replicate (length ds) 0
 unfolding goodDigits
@@ -71,7 +51,7 @@ good-zeros n ds h =
 pub good-padded : (cs : List ℕ) (k : ℕ) → distinct cs ≡ true → goodDigits (length cs) (cs ++ replicate k 0) ≡ true
 good-padded cs k h =
     digits-split (length cs) (cs ++ replicate k 0)
-    ∙ ap₂ (λ (xs ys : List ℕ). and (distinct xs) (goodDigits 0 ys)) (take-append-seam cs (replicate k 0)) (drop-append-seam cs (replicate k 0))
+    ∙ ap₂ (λ (xs ys : List ℕ). distinct xs && goodDigits 0 ys) (take-append-seam cs (replicate k 0)) (drop-append-seam cs (replicate k 0))
     ∙ and-both (distinct cs) (goodDigits 0 (replicate k 0)) h (zeros-good k)
 
 -- ---- what a list without repeats is made of
@@ -79,16 +59,16 @@ good-padded cs k h =
 module _ (c : ℕ) (cs : List ℕ) (h : distinct (c ∷ cs) ≡ true) where
   pub distinct-first : c ≤ 10
   unfolding distinct
-  distinct-first = leb-true c 10 (and-left (leb c 10) (and (not (elem c cs)) (distinct cs)) h)
+  distinct-first = leb-true c 10 (and-left (leb c 10) (not (elem c cs) && distinct cs) h)
 
   pub distinct-fresh : elem c cs ≡ false
   unfolding distinct
   distinct-fresh =
-      not-true (elem c cs) (and-left (not (elem c cs)) (distinct cs) (and-right (leb c 10) (and (not (elem c cs)) (distinct cs)) h))
+      not-true (elem c cs) (and-left (not (elem c cs)) (distinct cs) (and-right (leb c 10) (not (elem c cs) && distinct cs) h))
 
   pub distinct-rest : distinct cs ≡ true
   unfolding distinct
-  distinct-rest = and-right (not (elem c cs)) (distinct cs) (and-right (leb c 10) (and (not (elem c cs)) (distinct cs)) h)
+  distinct-rest = and-right (not (elem c cs)) (distinct cs) (and-right (leb c 10) (not (elem c cs) && distinct cs) h)
 
 pub distinct-digits : (cs : List ℕ) → distinct cs ≡ true → Digits cs
 distinct-digits [] h = tt
@@ -118,7 +98,7 @@ held-above : (n c : ℕ) (cs : List ℕ) → n ≤ c → held n (c ∷ cs) ≡ h
 unfolding held elem
 held-above zero c cs h = refl
 held-above (suc n) c cs h =
-    ap₂ (λ (t : Bool) (k : ℕ). one (or t (elem n cs)) + k) (ne-eqb c n (omega arith)) (held-above n c cs (omega arith))
+    ap₂ (λ (t : Bool) (k : ℕ). one (t || elem n cs) + k) (ne-eqb c n (omega arith)) (held-above n c cs (omega arith))
 
 -- a number that it does not have is one more
 held-more : (n c : ℕ) (cs : List ℕ) → c < n → elem c cs ≡ false → held n (c ∷ cs) ≡ suc (held n cs)
@@ -127,7 +107,7 @@ held-more zero c cs h e = absurd (omega arith)
 held-more (suc n) c cs h e = go (eqb c n) refl (λ (g : c < n). held-more n c cs g e)
   where
     go : (t : Bool) → eqb c n ≡ t → (c < n → held n (c ∷ cs) ≡ suc (held n cs))
-        → one (or t (elem n cs)) + held n (c ∷ cs) ≡ suc (one (elem n cs) + held n cs)
+        → one (t || elem n cs) + held n (c ∷ cs) ≡ suc (one (elem n cs) + held n cs)
     go true q r =
         let same = eqb-true c n q in
         let below = held-above n c cs (let k : n ≤ c = omega arith in k) in

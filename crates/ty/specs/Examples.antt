@@ -3,9 +3,11 @@ use mathlib.Core.Path.{_≡_, refl}
 use mathlib.Core.Bool.{true, false}
 use mathlib.Core.List.{List, [], _∷_}
 use Prim.Native.Nat.{ℕ}
-use Rattle.ty.specs.declared.Order.the-variants.{Less, Greater}
+use Rattle.order.specs.Compare.{compareNumbers, compareLists}
+use Rattle.order.specs.Lists.{elem}
+use Rattle.order.specs.declared.Order.the-variants.{Less, Greater}
 use Rattle.ty.specs.Types.{Primitive, Object, Array, Unknown, Void, Boolean, Byte, Short, Char, Int, Long, Float, Double}
-use Rattle.ty.specs.Types.{ObjectCategory, ArrayCategory, arrays, elem, compareNumbers, compareLists, compare}
+use Rattle.ty.specs.Types.{ObjectCategory, ArrayCategory, arrays, compare}
 use Rattle.ty.specs.Words.{unpack, pack, listOf, goodDigits, goodUnknown, baseOf, typeOf, wordOf, legalBase, legalWord}
 
 -- the categories of the full Unknown, in the order of ArgType::unknown()

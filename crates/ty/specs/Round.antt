@@ -1,7 +1,7 @@
 -- Words and types, there and back: a legal word is the word of its type, and a type within the limits is the type of its word.
 -- Assumes nothing.
 use mathlib.Core.Path.{_≡_, refl, sym, ap, ap₂, _∙_}
-use mathlib.Core.Bool.{true, false, true≢false}
+use mathlib.Core.Bool.{true, false, true≢false, or-false}
 use mathlib.Core.List.{List, [], _∷_, _++_}
 use Prim.Native.Nat.{ℕ, zero, suc, _+_, _-_, _*_, _/_, _%_, _^_, _≤_, _<_}
 use native.Mathlib.Nat.{zero-add}
@@ -10,11 +10,12 @@ use lib.Dec.{leb, ltb}
 use lib.ListN.{length, take, drop, replicate, length-append, length-replicate, take-append-drop}
 use lib.Seq.{take-append-seam, length-take-le}
 use borrow.Author.Tests.{leb-true, ltb-true, le-leb, lt-ltb, ne-eqb}
+use Rattle.order.specs.Truth.{and-left, and-right, and-both}
 use Rattle.ty.specs.Types.{ArgType, Primitive, Object, Array, Unknown, arrays, depth}
 use Rattle.ty.specs.Words.{dimsOf, tagOf, loadOf, unpack, pack, listOf, goodDigits, goodUnknown, baseOf, typeOf, wordOf}
 use Rattle.ty.specs.Words.{legalBase, legalWord, distinct, legalAtBase, legalType}
 use Rattle.ty.specs.Digits.{pack-unpack, pack-lt, unpack-pack, pack-zeros, digits-zeros}
-use Rattle.ty.specs.Distinct.{and-left, and-right, and-both, or-false, good-distinct, good-zeros, good-padded, distinct-digits, distinct-length}
+use Rattle.ty.specs.Distinct.{good-distinct, good-zeros, good-padded, distinct-digits, distinct-length}
 use Rattle.ty.specs.Shape.{type-deeper, word-deeper, type-flat, legal-deeper}
 
 -- ---- which loads are legal under each tag

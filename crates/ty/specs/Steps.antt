@@ -1,6 +1,6 @@
 -- What the functions on words go by: one law for each case that the code meets. Assumes nothing.
 use mathlib.Core.Path.{_≡_, refl, sym, ap, ap₂, _∙_}
-use mathlib.Core.Bool.{Bool, true, false, cond, not, true≢false}
+use mathlib.Core.Bool.{Bool, true, false, cond, not, _&&_, _||_, true≢false}
 use mathlib.Core.List.{List, [], _∷_}
 use mathlib.Core.Option.{Option, some, none}
 use Prim.Native.Nat.{ℕ, zero, suc, _+_, _-_, _*_, _/_, _%_, _^_, _≤_, _<_}
@@ -12,10 +12,11 @@ use lib.Pow.{shl-exact}
 use lib.ListN.{take}
 use lib.Seq.{take-nil}
 use borrow.Author.Tests.{eq-eqb, ne-eqb, lt-ltb, le-ltb, le-leb, lt-leb, leb-true, leb-false}
-use Rattle.ty.specs.Types.{ArgType, Primitive, Object, Array, Unknown, and, or, elem, isKnown, isPrimitive, isObject, isArray, isReference, wideCategory, allWide, isWide, isConcrete, categories, maskWith, hintOfList, concreteHint, arrays}
+use Rattle.order.specs.Truth.{and-assoc}
+use Rattle.order.specs.Lists.{elem}
+use Rattle.ty.specs.Types.{ArgType, Primitive, Object, Array, Unknown, isKnown, isPrimitive, isObject, isArray, isReference, wideCategory, allWide, isWide, isConcrete, categories, maskWith, hintOfList, concreteHint, arrays}
 use Rattle.ty.specs.Words.{dimsOf, tagOf, loadOf, unpack, listOf, goodDigits, goodUnknown, baseOf, typeOf, wordOf, legalBase, legalWord}
 use Rattle.ty.specs.Shape.{type-array, type-flat}
-use Rattle.ty.specs.Distinct.{and-assoc}
 use Rattle.ty.specs.Round.{word-known, legal-primitive, legal-object, legal-unknown, legal-none}
 
 -- ---- an Unknown's list, one digit after the other
@@ -50,7 +51,7 @@ rest-all load = ap (λ (m : ℕ). take m (unpack 11 load)) (let e : load / 2 ^ 4
 
 module _ (load n i : ℕ) where
   pub elem-step : (d : ℕ) → i < 11 → i < n
-      → elem d (restOf load n i) ≡ or (eqb (load / 2 ^ (4 * (10 - i)) % 16) d) (elem d (restOf load n (i + 1)))
+      → elem d (restOf load n i) ≡ (eqb (load / 2 ^ (4 * (10 - i)) % 16) d || elem d (restOf load n (i + 1)))
   unfolding elem
   elem-step d h k = ap (elem d) (rest-step load n i h k)
 
@@ -63,14 +64,14 @@ module _ (load n i : ℕ) where
   unfolding allWide
   wide-yes d e h k w =
       ap allWide (rest-step load n i h k)
-      ∙ ap (λ (x : Bool). and x (allWide (restOf load n (i + 1)))) (ap wideCategory (sym e) ∙ w)
+      ∙ ap (λ (x : Bool). x && allWide (restOf load n (i + 1))) (ap wideCategory (sym e) ∙ w)
 
   pub wide-no : (d : ℕ) → d ≡ load / 2 ^ (4 * (10 - i)) % 16 → i < 11 → i < n → wideCategory d ≡ false
       → allWide (restOf load n i) ≡ false
   unfolding allWide
   wide-no d e h k w =
       ap allWide (rest-step load n i h k)
-      ∙ ap (λ (x : Bool). and x (allWide (restOf load n (i + 1)))) (ap wideCategory (sym e) ∙ w)
+      ∙ ap (λ (x : Bool). x && allWide (restOf load n (i + 1))) (ap wideCategory (sym e) ∙ w)
 
   pub wide-none : n ≤ i → allWide (restOf load n i) ≡ true
   unfolding allWide
@@ -98,7 +99,7 @@ module _ (load n i : ℕ) where
 -- whether the digit i is as it must be: a category that does not come again, or 0 after the list
 unfoldable pub digitGood : ℕ → ℕ → ℕ → Bool
 digitGood load n i =
-    cond (leb n i) (eqb (load / 2 ^ (4 * (10 - i)) % 16) 0) (and (leb (load / 2 ^ (4 * (10 - i)) % 16) 10) (not (elem (load / 2 ^ (4 * (10 - i)) % 16) (restOf load n (i + 1)))))
+    cond (leb n i) (eqb (load / 2 ^ (4 * (10 - i)) % 16) 0) (leb (load / 2 ^ (4 * (10 - i)) % 16) 10 && not (elem (load / 2 ^ (4 * (10 - i)) % 16) (restOf load n (i + 1))))
 
 module _ (load n i : ℕ) where
   pub digit-past : n ≤ i → (d : ℕ) → d ≡ load / 2 ^ (4 * (10 - i)) % 16 → eqb d 0 ≡ digitGood load n i
@@ -114,7 +115,7 @@ module _ (load n i : ℕ) where
   digit-in h d e g = simp (lt-leb n i h, ← e, le-leb d 10 g)
 
   -- the test of the digit i, and then of those after it
-  pub good-step : i < 11 → n ≤ 11 → goodDigits (n - i) (unpack (11 - i) load) ≡ and (digitGood load n i) (goodDigits (n - (i + 1)) (unpack (11 - (i + 1)) load))
+  pub good-step : i < 11 → n ≤ 11 → goodDigits (n - i) (unpack (11 - i) load) ≡ (digitGood load n i && goodDigits (n - (i + 1)) (unpack (11 - (i + 1)) load))
   unfolding goodDigits digitGood
   good-step h k = go (leb n i) refl
     where
@@ -125,11 +126,11 @@ module _ (load n i : ℕ) where
       G = goodDigits (n - (i + 1)) (unpack (11 - (i + 1)) load)
 
       go : (b : Bool) → leb n i ≡ b
-          → goodDigits (n - i) (unpack (11 - i) load) ≡ and (cond b (eqb D 0) (and (leb D 10) (not (elem D (restOf load n (i + 1)))))) G
+          → goodDigits (n - i) (unpack (11 - i) load) ≡ (cond b (eqb D 0) (leb D 10 && not (elem D (restOf load n (i + 1)))) && G)
       go true e =
           let l = leb-true n i e in
           ap₂ (λ (m : ℕ) (ds : List ℕ). goodDigits m ds) (let q : n - i ≡ 0 = omega arith in q) (unpack-step load n i h)
-          ∙ ap (λ (m : ℕ). and (eqb D 0) (goodDigits m (unpack (11 - (i + 1)) load))) (let q : 0 ≡ n - (i + 1) = omega arith in q)
+          ∙ ap (λ (m : ℕ). eqb D 0 && goodDigits m (unpack (11 - (i + 1)) load)) (let q : 0 ≡ n - (i + 1) = omega arith in q)
       go false e =
           let l = leb-false n i e in
           ap₂ (λ (m : ℕ) (ds : List ℕ). goodDigits m ds) (let q : n - i ≡ suc (n - (i + 1)) = omega arith in q) (unpack-step load n i h)
@@ -141,11 +142,11 @@ module _ (load n i : ℕ) where
 
 pub unknown-long : (load : ℕ) → 11 < load / 2 ^ 44 → goodUnknown load ≡ false
 unfolding goodUnknown
-unknown-long load h = ap (λ (t : Bool). and t (goodDigits (load / 2 ^ 44) (unpack 11 load))) (lt-leb (load / 2 ^ 44) 11 h)
+unknown-long load h = ap (λ (t : Bool). t && goodDigits (load / 2 ^ 44) (unpack 11 load)) (lt-leb (load / 2 ^ 44) 11 h)
 
 pub unknown-short : (load : ℕ) → load / 2 ^ 44 ≤ 11 → goodUnknown load ≡ goodDigits (load / 2 ^ 44) (unpack 11 load)
 unfolding goodUnknown
-unknown-short load h = ap (λ (t : Bool). and t (goodDigits (load / 2 ^ 44) (unpack 11 load))) (le-leb (load / 2 ^ 44) 11 h)
+unknown-short load h = ap (λ (t : Bool). t && goodDigits (load / 2 ^ 44) (unpack 11 load)) (le-leb (load / 2 ^ 44) 11 h)
 
 -- ---- a word's type by its dimensions and its tag
 
@@ -248,15 +249,15 @@ unfolding typeOf
 concrete-base w = concrete-arrays (dimsOf w) (baseOf (tagOf w) (loadOf w))
 
 module _ (w : ℕ) where
-  concrete-primitive : tagOf w ≡ 0 → isConcrete (typeOf w) ≡ not (or (eqb (loadOf w) 9) (eqb (loadOf w) 10))
+  concrete-primitive : tagOf w ≡ 0 → isConcrete (typeOf w) ≡ not (eqb (loadOf w) 9 || eqb (loadOf w) 10)
   unfolding isConcrete baseOf
   concrete-primitive e = concrete-base w ∙ ap (λ (t : ℕ). isConcrete (baseOf t (loadOf w))) e
 
   pub concrete-object-category : tagOf w ≡ 0 → loadOf w ≡ 9 → false ≡ isConcrete (typeOf w)
-  concrete-object-category e f = sym (concrete-primitive e ∙ ap (λ (b : Bool). not (or b (eqb (loadOf w) 10))) (eq-eqb (loadOf w) 9 f))
+  concrete-object-category e f = sym (concrete-primitive e ∙ ap (λ (b : Bool). not (b || eqb (loadOf w) 10)) (eq-eqb (loadOf w) 9 f))
 
   pub concrete-other : tagOf w ≡ 0 → (loadOf w ≡ 9 → ⊥) → not (eqb (loadOf w) 10) ≡ isConcrete (typeOf w)
-  concrete-other e f = sym (concrete-primitive e ∙ ap (λ (b : Bool). not (or b (eqb (loadOf w) 10))) (ne-eqb (loadOf w) 9 f))
+  concrete-other e f = sym (concrete-primitive e ∙ ap (λ (b : Bool). not (b || eqb (loadOf w) 10)) (ne-eqb (loadOf w) 9 f))
 
   pub concrete-tag : (tagOf w ≡ 0 → ⊥) → eqb (tagOf w) 1 ≡ isConcrete (typeOf w)
   unfolding isConcrete baseOf

@@ -1,14 +1,15 @@
 -- The types of ty.rs and what is asked of one or two of them, in the names and the order of cases of the Rust.
 -- A category and a class are numbers: a category's number is its place in PrimitiveType, a class's its place among the names.
 -- Assumes nothing.
-use mathlib.Core.Bool.{Bool, true, false, cond, not}
+use mathlib.Core.Bool.{Bool, true, false, cond, not, _&&_, _||_}
 use mathlib.Core.List.{List, [], _∷_}
 use mathlib.Core.Option.{Option, some, none}
 use Prim.Native.Nat.{ℕ, zero, suc, _^_}
 use lib.Bits.{bitOr}
-use lib.Dec.{eqb, leb, ltb}
-use Rattle.ty.specs.declared.Order.{Order}
-use Rattle.ty.specs.declared.Order.the-variants.{Less, Equal, Greater}
+use lib.Dec.{eqb}
+use Rattle.order.specs.declared.Order.{Order}
+use Rattle.order.specs.declared.Order.the-variants.{Less, Equal, Greater}
+use Rattle.order.specs.Compare.{compareNumbers, compareLists}
 
 -- ---- PrimitiveType
 
@@ -65,20 +66,6 @@ unfoldable pub arrays : ℕ → ArgType → ArgType
 arrays zero t = t
 arrays (suc d) t = Array (arrays d t)
 
--- ---- small helpers on truth values and lists
-
-abbrev pub and : Bool → Bool → Bool
-and true b = b
-and false b = false
-
-abbrev pub or : Bool → Bool → Bool
-or true b = true
-or false b = b
-
-unfoldable pub elem : ℕ → List ℕ → Bool
-elem d [] = false
-elem d (x ∷ xs) = or (eqb x d) (elem d xs)
-
 -- ---- type queries
 
 unfoldable pub isKnown : ArgType → Bool
@@ -112,11 +99,11 @@ isReference (Array t) = true
 isReference (Unknown cs) = false
 
 unfoldable pub wideCategory : ℕ → Bool
-wideCategory k = or (eqb k Long) (eqb k Double)
+wideCategory k = eqb k Long || eqb k Double
 
 unfoldable pub allWide : List ℕ → Bool
 allWide [] = true
-allWide (c ∷ cs) = and (wideCategory c) (allWide cs)
+allWide (c ∷ cs) = wideCategory c && allWide cs
 
 unfoldable pub isWide : ArgType → Bool
 isWide (Primitive k) = wideCategory k
@@ -134,7 +121,7 @@ element (Unknown cs) = none
 -- ---- what lattice.rs asks of one type alone
 
 unfoldable pub isConcrete : ArgType → Bool
-isConcrete (Primitive k) = not (or (eqb k ObjectCategory) (eqb k ArrayCategory))
+isConcrete (Primitive k) = not (eqb k ObjectCategory || eqb k ArrayCategory)
 isConcrete (Object c) = true
 isConcrete (Array t) = isConcrete t
 isConcrete (Unknown cs) = false
@@ -165,22 +152,6 @@ concreteHint object (Unknown cs) = hintOfList object cs
 
 -- ---- the derived order: Primitive < Object < Array < Unknown, then what they hold
 
--- the second answer where the first says Equal
-abbrev pub then : Order → Order → Order
-then Less o = Less
-then Equal o = o
-then Greater o = Greater
-
-unfoldable pub compareNumbers : ℕ → ℕ → Order
-compareNumbers a b = cond (ltb a b) Less (cond (ltb b a) Greater Equal)
-
--- left to right, a shorter prefix first
-unfoldable pub compareLists : List ℕ → List ℕ → Order
-compareLists [] [] = Equal
-compareLists [] (y ∷ ys) = Less
-compareLists (x ∷ xs) [] = Greater
-compareLists (x ∷ xs) (y ∷ ys) = then (compareNumbers x y) (compareLists xs ys)
-
 unfoldable pub compare : ArgType → ArgType → Order
 compare (Primitive a) (Primitive b) = compareNumbers a b
 compare (Primitive a) (Object b) = Less
@@ -198,9 +169,3 @@ compare (Unknown xs) (Primitive b) = Greater
 compare (Unknown xs) (Object b) = Greater
 compare (Unknown xs) (Array u) = Greater
 compare (Unknown xs) (Unknown ys) = compareLists xs ys
-
--- the number of each answer
-unfoldable pub orderNumber : Order → ℕ
-orderNumber Less = 0
-orderNumber Equal = 1
-orderNumber Greater = 2

@@ -1,12 +1,13 @@
 -- The type word: two hex digits of dimensions, two of tag, twelve of payload. Which words are legal, what type a word
 -- stands for, and the word of a type. Assumes nothing.
 use mathlib.Core.Path.{_≡_}
-use mathlib.Core.Bool.{Bool, true, false, not, _&&_}
+use mathlib.Core.Bool.{Bool, true, false, not, _&&_, _||_}
 use mathlib.Core.List.{List, [], _∷_}
 use Prim.Native.Nat.{ℕ, zero, suc, _+_, _*_, _/_, _%_, _^_}
 use lib.Dec.{eqb, leb, ltb}
 use lib.ListN.{length, take}
-use Rattle.ty.specs.Types.{ArgType, Primitive, Object, Array, Unknown, arrays, depth, and, or, elem}
+use Rattle.order.specs.Lists.{elem}
+use Rattle.ty.specs.Types.{ArgType, Primitive, Object, Array, Unknown, arrays, depth}
 
 -- ---- the parts of a word
 
@@ -38,11 +39,11 @@ listOf load = take (load / 2 ^ 44) (unpack 11 load)
 -- n categories, none twice, and zeros after them
 unfoldable pub goodDigits : ℕ → List ℕ → Bool
 goodDigits n [] = true
-goodDigits zero (d ∷ ds) = and (eqb d 0) (goodDigits zero ds)
-goodDigits (suc n) (d ∷ ds) = and (leb d 10) (and (not (elem d (take n ds))) (goodDigits n ds))
+goodDigits zero (d ∷ ds) = eqb d 0 && goodDigits zero ds
+goodDigits (suc n) (d ∷ ds) = leb d 10 && (not (elem d (take n ds)) && goodDigits n ds)
 
 unfoldable pub goodUnknown : ℕ → Bool
-goodUnknown load = and (leb (load / 2 ^ 44) 11) (goodDigits (load / 2 ^ 44) (unpack 11 load))
+goodUnknown load = leb (load / 2 ^ 44) 11 && goodDigits (load / 2 ^ 44) (unpack 11 load)
 
 -- ---- words and types
 
@@ -65,7 +66,7 @@ wordOf (Unknown cs) = 2 * 2 ^ 48 + (length cs * 2 ^ 44 + pack 11 cs)
 -- whether a word is one of a type over that many names: refusal 7 is for the others
 unfoldable pub legalBase : ℕ → ℕ → ℕ → Bool
 legalBase names tag load =
-    or (and (eqb tag 0) (leb load 10)) (or (and (eqb tag 1) (ltb load names)) (and (eqb tag 2) (goodUnknown load)))
+    (eqb tag 0 && leb load 10) || ((eqb tag 1 && ltb load names) || (eqb tag 2 && goodUnknown load))
 
 unfoldable pub legalWord : ℕ → ℕ → Bool
 legalWord names w = legalBase names (tagOf w) (loadOf w)
@@ -78,7 +79,7 @@ allLegal names (w ∷ ws) = legalWord names w && allLegal names ws
 -- whether a type is within the limits: categories up to 10 and none twice in a list, classes that are names, 255 dimensions
 unfoldable pub distinct : List ℕ → Bool
 distinct [] = true
-distinct (c ∷ cs) = and (leb c 10) (and (not (elem c cs)) (distinct cs))
+distinct (c ∷ cs) = leb c 10 && (not (elem c cs) && distinct cs)
 
 unfoldable pub legalAtBase : ℕ → ArgType → Bool
 legalAtBase names (Primitive k) = leb k 10
@@ -87,7 +88,7 @@ legalAtBase names (Array t) = legalAtBase names t
 legalAtBase names (Unknown cs) = distinct cs
 
 unfoldable pub legalType : ℕ → ArgType → Bool
-legalType names t = and (leb (depth t) 255) (legalAtBase names t)
+legalType names t = leb (depth t) 255 && legalAtBase names t
 
 -- what the functions that lean on a word's form require: every caller has checked its words against at most 1,024 names
 abbrev pub Legal : ℕ → Type 0

@@ -2,17 +2,11 @@
 ghost use mathlib.Core.Path.{_≡_};
 ghost use Prim.Native.Nat.{_+_, _-_, _*_, _/_, _%_, _^_, _≤_, _<_};
 ghost use lib.ListN.{take};
-ghost use Rattle.ty.specs.Types.{isKnown, isPrimitive, isObject, isArray, isReference, wideCategory, allWide, isWide, elem, isConcrete, categories, concreteHint, hintOfList, maskWith};
+ghost use Rattle.order.specs.Lists.{elem};
+ghost use Rattle.ty.specs.Types.{isKnown, isPrimitive, isObject, isArray, isReference, wideCategory, allWide, isWide, isConcrete, categories, concreteHint, hintOfList, maskWith};
 ghost use Rattle.ty.specs.Words.{dimsOf, tagOf, loadOf, unpack, listOf, goodUnknown, typeOf, Legal};
 ghost use Rattle.ty.specs.Steps.{digitGood};
 ghost use Rattle.ty.specs.Answers.{intWord, longWord, floatWord, doubleWord, unknownWord, decodeWord, elementWord, arrayWord, maybeWord};
-
-// How two types stand to each other; see the crate keys for the function that tells.
-pub enum Order {
-    Less,
-    Equal,
-    Greater,
-}
 
 // A type: dimensions (8 bits), tag (8 bits; 0 primitive, 1 class, 2 Unknown), payload (48 bits).
 pub struct TypeWord {

@@ -8,10 +8,11 @@ use native.Mathlib.Omega.{arith}
 use lib.Dec.{eqb, ltb}
 use lib.ListN.{length, replicate}
 use borrow.Author.Tests.{eq-eqb, ne-eqb, lt-ltb, le-ltb, eqb-true, eqb-false}
+use Rattle.order.specs.Truth.{both}
 use Rattle.ty.specs.Words.{legalWord, typeOf, wordOf, Legal, allLegal}
 use Rattle.ty.specs.Round.{legal-more}
-use Rattle.names.specs.First as checks
-use Rattle.names.specs.First.{both, first-hit, first-miss}
+use Rattle.checks.specs.Checks as checks
+use Rattle.checks.specs.Checks.{first-hit, first-miss}
 use Rattle.view.specs.View.{View}
 use Rattle.lattice.specs.declared.Numbers.{Numbers}
 use Rattle.lattice.specs.Lattice.{World, join, isAssignable}
@@ -53,22 +54,22 @@ module _ (names left right : ℕ) where
 -- ---- the checks
 
 module _ (refusal : ℕ) (t : Tables) (left right : ℕ) where
-  pub words-refused : (refusal ≡ 0 → ⊥) → refusal ≡ checks.first (wordChecks refusal t (left ∷ right ∷ []))
-  unfolding wordChecks checks.first
+  pub words-refused : (refusal ≡ 0 → ⊥) → refusal ≡ checks.firstRefusal (wordChecks refusal t (left ∷ right ∷ []))
+  unfolding wordChecks checks.firstRefusal
   words-refused n = rw (ne-eqb refusal 0 n)
 
   module _ (z : refusal ≡ 0) where
-    pub words-illegal : allLegal (t .names) (left ∷ right ∷ []) ≡ false → 7 ≡ checks.first (wordChecks refusal t (left ∷ right ∷ []))
-    unfolding wordChecks checks.first
+    pub words-illegal : allLegal (t .names) (left ∷ right ∷ []) ≡ false → 7 ≡ checks.firstRefusal (wordChecks refusal t (left ∷ right ∷ []))
+    unfolding wordChecks checks.firstRefusal
     words-illegal h = rw (z, h)
 
     module _ (l : allLegal (t .names) (left ∷ right ∷ []) ≡ true) where
-      pub words-object : t .object ≡ 2 ^ 64 - 1 → 9 ≡ checks.first (wordChecks refusal t (left ∷ right ∷ []))
-      unfolding wordChecks checks.first
+      pub words-object : t .object ≡ 2 ^ 64 - 1 → 9 ≡ checks.firstRefusal (wordChecks refusal t (left ∷ right ∷ []))
+      unfolding wordChecks checks.firstRefusal
       words-object e = rw (z, l, eq-eqb (t .object) (2 ^ 64 - 1) e)
 
-      pub words-none : (t .object ≡ 2 ^ 64 - 1 → ⊥) → 0 ≡ checks.first (wordChecks refusal t (left ∷ right ∷ []))
-      unfolding wordChecks checks.first
+      pub words-none : (t .object ≡ 2 ^ 64 - 1 → ⊥) → 0 ≡ checks.firstRefusal (wordChecks refusal t (left ∷ right ∷ []))
+      unfolding wordChecks checks.firstRefusal
       words-none n = rw (z, l, ne-eqb (t .object) (2 ^ 64 - 1) n)
 
   -- what nothing refused says
@@ -77,8 +78,8 @@ module _ (refusal : ℕ) (t : Tables) (left right : ℕ) where
     pub legal : allLegal (t .names) (left ∷ right ∷ []) ≡ true
     pub object-there : t .object ≡ 2 ^ 64 - 1 → ⊥
 
-  pub passed : checks.first (wordChecks refusal t (left ∷ right ∷ [])) ≡ 0 → Passed
-  unfolding wordChecks checks.first
+  pub passed : checks.firstRefusal (wordChecks refusal t (left ∷ right ∷ [])) ≡ 0 → Passed
+  unfolding wordChecks checks.firstRefusal
   passed h = go (eqb refusal 0) refl (allLegal (t .names) (left ∷ right ∷ [])) refl (eqb (t .object) (2 ^ 64 - 1)) refl h
     where
       go : (w : Bool) → eqb refusal 0 ≡ w → (x : Bool) → allLegal (t .names) (left ∷ right ∷ []) ≡ x → (v : Bool) → eqb (t .object) (2 ^ 64 - 1) ≡ v
@@ -90,12 +91,12 @@ module _ (refusal : ℕ) (t : Tables) (left right : ℕ) where
           record { taken = eqb-true refusal 0 d; legal = e; object-there = eqb-false (t .object) (2 ^ 64 - 1) i }
 
 -- THE CHECKS AFTER THE ROWS, with the test of the columns among them
-pub types-ran : (g : Given) (words : List ℕ) → checks.first (wordChecks (checkedTable g .refusal) (checkedTable g .state .tables) words) ≡ checks.first (typeChecks g words)
-unfolding typeChecks checks.first checkedTable wordChecks
+pub types-ran : (g : Given) (words : List ℕ) → checks.firstRefusal (wordChecks (checkedTable g .refusal) (checkedTable g .state .tables) words) ≡ checks.firstRefusal (typeChecks g words)
+unfolding typeChecks checks.firstRefusal checkedTable wordChecks
 types-ran g words = go (even g)
   where
-    go : (b : Bool) → checks.first (wordChecks (cond {A = Ran} b (table g) (record { refusal = 3; state = record { tables = noTables; keys = []; marks = noMarks } }) .refusal) (cond {A = Ran} b (table g) (record { refusal = 3; state = record { tables = noTables; keys = []; marks = noMarks } }) .state .tables) words)
-        ≡ cond (not b) 3 (checks.first (wordChecks (table g .refusal) (table g .state .tables) words))
+    go : (b : Bool) → checks.firstRefusal (wordChecks (cond {A = Ran} b (table g) (record { refusal = 3; state = record { tables = noTables; keys = []; marks = noMarks } }) .refusal) (cond {A = Ran} b (table g) (record { refusal = 3; state = record { tables = noTables; keys = []; marks = noMarks } }) .state .tables) words)
+        ≡ cond (not b) 3 (checks.firstRefusal (wordChecks (table g .refusal) (table g .state .tables) words))
     go true = refl
     go false = refl
 
@@ -111,7 +112,7 @@ world-filled g pairs pairs′ marks′ o f =
 
 -- AN OPENED TABLE IS READY where nothing is refused
 module _ (g : Given) (left right : ℕ) (pairs pairs′ marks′ : List ℕ) (o : Outcome) (f : Fills (checkedTable g) pairs pairs′ marks′ o) (r : Opened)
-    (e : r .refusal ≡ checks.first (wordChecks (o .refusal) (o .tables) (left ∷ right ∷ []))) (k : r .numbers ≡ numbersOf (o .tables)) where
+    (e : r .refusal ≡ checks.firstRefusal (wordChecks (o .refusal) (o .tables) (left ∷ right ∷ []))) (k : r .numbers ≡ numbersOf (o .tables)) where
   is-even : o .refusal ≡ 0 → even g ≡ true
   is-even z = go (even g) refl
     where
@@ -136,7 +137,7 @@ module _ (g : Given) (left right : ℕ) (pairs pairs′ marks′ : List ℕ) (o 
 
   pub opens : Opens g left right pairs′ marks′ r
   opens = record {
-    refusal-is = e ∙ ap (λ (u : Outcome). checks.first (wordChecks (u .refusal) (u .tables) (left ∷ right ∷ []))) (f .outcome-is) ∙ types-ran g (left ∷ right ∷ []);
+    refusal-is = e ∙ ap (λ (u : Outcome). checks.firstRefusal (wordChecks (u .refusal) (u .tables) (left ∷ right ∷ []))) (f .outcome-is) ∙ types-ran g (left ∷ right ∷ []);
     ready = ready;
   }
 
@@ -181,7 +182,7 @@ module _ (g : Given) (words work : List ℕ) where
 
   -- ANOTHER IS ZERO AT EXIT, whatever is answered
   module _ (h : 8192 ≤ length work) (work′ : List ℕ) (z : work′ ≡ replicate (length work) 0) where
-    long-refusal : checks.first (typeChecks g words) ≡ typeQueryRefusal g words (length work)
+    long-refusal : checks.firstRefusal (typeChecks g words) ≡ typeQueryRefusal g words (length work)
     unfolding typeQueryRefusal
     long-refusal = sym (first-miss (ltb (length work) 8192) 22 (typeChecks g words) (le-ltb (length work) 8192 h))
 
@@ -189,6 +190,6 @@ module _ (g : Given) (words work : List ℕ) where
     unfolding workAfter
     long-work = rw (le-ltb (length work) 8192 h) z
 
-    pub asked-long : (value : ℕ) (r : Answer) → r ≡ answered (checks.first (typeChecks g words)) value
+    pub asked-long : (value : ℕ) (r : Answer) → r ≡ answered (checks.firstRefusal (typeChecks g words)) value
         → Asked (typeQueryRefusal g words (length work)) value work work′ r
     asked-long value r e = record { result = e ∙ ap (λ (k : ℕ). answered k value) long-refusal; memory = long-work }

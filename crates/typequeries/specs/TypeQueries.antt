@@ -7,8 +7,8 @@ use Prim.Native.Nat.{ℕ, _-_, _^_}
 use lib.Dec.{eqb, ltb}
 use lib.ListN.{length}
 use Rattle.ty.specs.Words.{legalWord, allLegal, typeOf, wordOf}
-use Rattle.names.specs.First as checks
-use Rattle.names.specs.First.{Check, check}
+use Rattle.checks.specs.Checks as checks
+use Rattle.checks.specs.Checks.{Check, check}
 use Rattle.lattice.specs.declared.Numbers.{Numbers}
 use Rattle.lattice.specs.Lattice.{World, join, isAssignable}
 use Rattle.lattice.specs.World.{present, worldWith, worldOf}
@@ -44,7 +44,7 @@ typeChecks g words = check (not (even g)) 3 ∷ wordChecks (table g .refusal) (t
 
 -- before all, a work of `room` words that is too short
 unfoldable pub typeQueryRefusal : Given → List ℕ → ℕ → ℕ
-typeQueryRefusal g words room = checks.first (check (ltb room 8192) 22 ∷ typeChecks g words)
+typeQueryRefusal g words room = checks.firstRefusal (check (ltb room 8192) 22 ∷ typeChecks g words)
 
 -- ---- answers
 
@@ -63,5 +63,5 @@ pub record Ready (g : Given) (left right : ℕ) (pairs marks : List ℕ) (n : Nu
 
 -- the refusal, and where there is none the slices are ready
 pub record Opens (g : Given) (left right : ℕ) (pairs marks : List ℕ) (r : Opened) : Type 0 where
-  pub refusal-is : r .refusal ≡ checks.first (typeChecks g (left ∷ right ∷ []))
+  pub refusal-is : r .refusal ≡ checks.firstRefusal (typeChecks g (left ∷ right ∷ []))
   pub ready : r .refusal ≡ 0 → Ready g left right pairs marks (r .numbers)

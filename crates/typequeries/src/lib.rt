@@ -14,7 +14,7 @@ ghost use mathlib.Core.Bool.{cond};
 ghost use mathlib.Core.List.{[], _∷_};
 ghost use lib.ListN.{length};
 ghost use Rattle.ty.specs.Words.{legalWord, allLegal};
-ghost use Rattle.names.specs.First as checks;
+ghost use Rattle.checks.specs.Checks as checks;
 ghost use Rattle.lattice.specs.World.{worldOf};
 ghost use Rattle.joins.specs.Joins.{Joinable};
 ghost use Rattle.queries.specs.Queries.{given, noMarks, answered, Asked};
@@ -52,7 +52,7 @@ fn are_types(left: u64, right: u64, names: u64) -> bool
 
 // The refusal of a table, of two words over it, of the lack of java/lang/Object.
 fn check_words(o: Outcome, left: u64, right: u64) -> u64
-    ensures { λ r. ⌜ r ≡ checks.first (wordChecks (o .refusal) (o .tables) (left ∷ right ∷ [])) ⌝ }
+    ensures { λ r. ⌜ r ≡ checks.firstRefusal (wordChecks (o .refusal) (o .tables) (left ∷ right ∷ [])) ⌝ }
 {
     if o.refusal != 0 {
         return o.refusal;
@@ -76,7 +76,7 @@ struct Opened {
 }
 
 fn with_checks(o: Outcome, left: u64, right: u64) -> Opened
-    ensures { λ r. ⌜ (r .refusal ≡ checks.first (wordChecks (o .refusal) (o .tables) (left ∷ right ∷ []))) × (r .numbers ≡ numbersOf (o .tables)) ⌝ }
+    ensures { λ r. ⌜ (r .refusal ≡ checks.firstRefusal (wordChecks (o .refusal) (o .tables) (left ∷ right ∷ []))) × (r .numbers ≡ numbersOf (o .tables)) ⌝ }
 {
     let refusal = check_words(o, left, right);
     let t = o.tables;
@@ -175,7 +175,7 @@ fn ask_over(
     marks: &mut [u64],
 ) -> Answer
     requires { ⌜ (length (now pairs) ≡ 4096) × (now marks ≡ noMarks) ⌝ }
-    ensures { λ r. ⌜ r ≡ answered (checks.first (typeChecks (given (now (names .entry)) (now (ats .entry)) (now (lens .entry)) (now (flags .entry)) (now (classes .entry)) (now (starts .entry)) (now (sizes .entry)) (now (parents .entry))) (left ∷ right ∷ []))) (typeValue (worldIn (given (now (names .entry)) (now (ats .entry)) (now (lens .entry)) (now (flags .entry)) (now (classes .entry)) (now (starts .entry)) (now (sizes .entry)) (now (parents .entry)))) q left right) ⌝ }
+    ensures { λ r. ⌜ r ≡ answered (checks.firstRefusal (typeChecks (given (now (names .entry)) (now (ats .entry)) (now (lens .entry)) (now (flags .entry)) (now (classes .entry)) (now (starts .entry)) (now (sizes .entry)) (now (parents .entry))) (left ∷ right ∷ []))) (typeValue (worldIn (given (now (names .entry)) (now (ats .entry)) (now (lens .entry)) (now (flags .entry)) (now (classes .entry)) (now (starts .entry)) (now (sizes .entry)) (now (parents .entry)))) q left right) ⌝ }
 {
     let o = open_table(
         names,
@@ -217,7 +217,7 @@ fn ask_table(
     left: u64,
     right: u64,
 ) -> Answer
-    ensures { λ r. ⌜ r ≡ answered (checks.first (typeChecks (given (now (names .entry)) (now (ats .entry)) (now (lens .entry)) (now (flags .entry)) (now (classes .entry)) (now (starts .entry)) (now (sizes .entry)) (now (parents .entry))) (left ∷ right ∷ []))) (typeValue (worldIn (given (now (names .entry)) (now (ats .entry)) (now (lens .entry)) (now (flags .entry)) (now (classes .entry)) (now (starts .entry)) (now (sizes .entry)) (now (parents .entry)))) q left right) ⌝ }
+    ensures { λ r. ⌜ r ≡ answered (checks.firstRefusal (typeChecks (given (now (names .entry)) (now (ats .entry)) (now (lens .entry)) (now (flags .entry)) (now (classes .entry)) (now (starts .entry)) (now (sizes .entry)) (now (parents .entry))) (left ∷ right ∷ []))) (typeValue (worldIn (given (now (names .entry)) (now (ats .entry)) (now (lens .entry)) (now (flags .entry)) (now (classes .entry)) (now (starts .entry)) (now (sizes .entry)) (now (parents .entry)))) q left right) ⌝ }
 {
     let mut pairs = [0u64; 4096];
     let mut marks = [0u64; 64];

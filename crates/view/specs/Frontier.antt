@@ -7,6 +7,7 @@ use Prim.Native.Nat.{ℕ, zero, suc, _+_, _-_, _≤_, _<_}
 use native.Mathlib.Decide.{decLt, ℕ-discrete}
 use native.Mathlib.Omega.{arith}
 use lib.ListN.{length}
+use Rattle.order.specs.Truth.{implied-both}
 use Rattle.sets.specs.Sets.{at, member, remove, subtract, keep, members, first}
 use Rattle.sets.specs.Bits.{first-below, first-found}
 use Rattle.sets.specs.Laws.{at-lt, at-past, at-ext, member-ext, at-member, at-none, member-at, at-remove-same, at-remove-other, members-only, members-all, at-subtract, length-subtract, lowest-none}
@@ -62,11 +63,6 @@ member-lt s c l m = go (decLt c 1024)
     go (yes h) = h
     go (no n) = absurd (let a = at-member s c m in let b = at-past s c (omega arith) in omega arith)
 
-both : (a b : Bool) → (a ≡ true → b ≡ true) → (b ≡ true → a ≡ true) → a ≡ b
-both true b f g = sym (f refl)
-both false true f g = g refl
-both false false f g = refl
-
 module _ (v : View) where
   -- the members of s that are not in the front have their parents in s
   abbrev pub Expanded : List ℕ → List ℕ → Type 0
@@ -76,7 +72,7 @@ module _ (v : View) where
   pub frontier : (s front : List ℕ) → Formed s → ((j : ℕ) → at front j ≤ at s j) → Expanded s front → withParents v s (members (at front) 0 1024) ≡ grow v s
   frontier s front f part e =
       member-ext (withParents v s new) (grow v s) (w .0 ∙ sym (g .0)) (w .1) (g .1)
-      (λ j h. both (member (withParents v s new) j) (member (grow v s) j) (up j (let l = w .0 in omega arith)) (down j (let l = w .0 in omega arith)))
+      (λ j h. implied-both (member (withParents v s new) j) (member (grow v s) j) (up j (let l = w .0 in omega arith)) (down j (let l = w .0 in omega arith)))
     where
       new : List ℕ
       new = members (at front) 0 1024

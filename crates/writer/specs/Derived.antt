@@ -8,9 +8,9 @@ use native.Mathlib.Omega.{arith}
 use lib.Dec.{leb}
 use lib.ListN.{length}
 use borrow.Author.Tests.{lt-ltb, le-leb, leb-true}
+use Rattle.order.specs.Truth.{and-left, and-right}
 use Rattle.ty.specs.Types.{ArgType, Primitive, Object, Array, depth}
 use Rattle.ty.specs.Words.{legalAtBase, legalType}
-use Rattle.ty.specs.Distinct.{and-left, and-right}
 use Rattle.names.specs.Names.{lookup}
 use Rattle.names.specs.Lookup.{lookup-told}
 use Rattle.jvms.specs.Jvms as jvms

@@ -3,12 +3,14 @@ use mathlib.Core.Path.{_≡_, refl}
 use mathlib.Core.List.{List, [], _∷_}
 use mathlib.Core.Option.{some, none, bind}
 use Prim.Native.Nat.{ℕ}
+use Rattle.order.specs.Compare.{compareNumbers, compareLists}
+use Rattle.order.specs.Lists.{elem}
 use Rattle.utf8.specs.Utf8.{table, within, matches, firstMatch, sequence, scan, validPrefix, wellFormed}
-use Rattle.ty.specs.Types.{arrays, elem, compareNumbers, compareLists}
+use Rattle.ty.specs.Types.{arrays}
 use Rattle.ty.specs.Words.{unpack, pack, listOf, goodDigits, goodUnknown, baseOf, typeOf, wordOf, legalBase, legalWord, allLegal}
-use Rattle.names.specs.First.{first}
+use Rattle.checks.specs.Checks.{firstRefusal}
 use Rattle.names.specs.Names.{placeGood, nameChecks, checkRow, checkRows, checkNames, lookup}
-use Rattle.descriptor.specs.Read.{letterOf, indexOf, nameOf, readName, readType, finish}
+use Rattle.descriptor.specs.Read.{letterOf, indexOf, nameRead, readName, readType, finish}
 use Rattle.descriptor.specs.Method.{readParams, returns, afterParams, readMethod}
 use Rattle.jvms.specs.Meaning.{typeAt, typeRead, parametersAt, methodRead}
 use Rattle.writer.specs.Print.{letterByte, print, printAll, printMethod, printWord, printMethodWords}
@@ -38,7 +40,7 @@ printed = (refl, refl, refl, refl, refl)
 pub methods : (printMethodWords bytes ats lens (5 ∷ 0x0001000000000001 ∷ []) 0 ≡ 40 ∷ 73 ∷ 76 ∷ 99 ∷ 59 ∷ 41 ∷ 86 ∷ [])
     × (toWords bytes ats lens (40 ∷ 73 ∷ 76 ∷ 99 ∷ 59 ∷ 41 ∷ 86 ∷ []) ≡ some (record { params = 5 ∷ 0x0001000000000001 ∷ []; result = 0 }))
     × (toWords bytes ats lens (40 ∷ 76 ∷ 100 ∷ 59 ∷ 41 ∷ 86 ∷ []) ≡ none)
-unfolding printMethodWords printMethod printAll print letterByte typeOf arrays baseOf listOf unpack toWords wordsOf readMethodAs toMethod toTypes toType methodRead parametersAt typeRead typeAt bind readMethod readParams returns afterParams finish readType readName nameOf indexOf letterOf validPrefix scan sequence firstMatch table matches within lookup compareLists compareNumbers wordOf pack
+unfolding printMethodWords printMethod printAll print letterByte typeOf arrays baseOf listOf unpack toWords wordsOf readMethodAs toMethod toTypes toType methodRead parametersAt typeRead typeAt bind readMethod readParams returns afterParams finish readType readName nameRead indexOf letterOf validPrefix scan sequence firstMatch table matches within lookup compareLists compareNumbers wordOf pack
 methods = (refl, refl, refl)
 
 -- columns of unequal length, a class that is no name, an output that is short by one, one that is just long enough
@@ -49,7 +51,7 @@ pub refusals : (typeRefusal bytes ats [] 5 9 ≡ 3)
     × (methodRefusal bytes ats lens (11 ∷ []) 0 0 ≡ 7)
     × (methodRefusal bytes ats lens (5 ∷ []) 0 3 ≡ 22)
     × (methodRefusal bytes ats lens (5 ∷ []) 0 4 ≡ 0)
-unfolding typeRefusal checkedTypeRefusal methodRefusal checkedMethodRefusal checkNames checkRows checkRow nameChecks placeGood first wellFormed validPrefix scan sequence firstMatch table matches within compareLists compareNumbers legalWord legalBase goodUnknown goodDigits unpack elem allLegal printMethodWords printMethod printAll printWord print letterByte typeOf arrays baseOf listOf
+unfolding typeRefusal checkedTypeRefusal methodRefusal checkedMethodRefusal checkNames checkRows checkRow nameChecks placeGood firstRefusal wellFormed validPrefix scan sequence firstMatch table matches within compareLists compareNumbers legalWord legalBase goodUnknown goodDigits unpack elem allLegal printMethodWords printMethod printAll printWord print letterByte typeOf arrays baseOf listOf
 refusals = (refl, refl, refl, refl, refl, refl, refl)
 
 -- what is left of an output of five bytes

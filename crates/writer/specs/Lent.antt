@@ -10,10 +10,12 @@ use lib.Dec.{eqb, leb, ltb}
 use lib.ListN.{length, getD, drop, replicate, length-map}
 use lib.Seq.{drop-cons}
 use borrow.Author.Tests.{eqb-true, eqb-false, leb-true, ltb-true, ltb-false, eq-eqb, lt-ltb, le-ltb, le-leb}
-use Rattle.ty.specs.Types.{arrays, elem}
+use Rattle.order.specs.Truth.{both}
+use Rattle.order.specs.Lists.{elem}
+use Rattle.ty.specs.Types.{arrays}
 use Rattle.ty.specs.Words.{dimsOf, tagOf, loadOf, baseOf, typeOf, legalBase, legalWord, allLegal}
 use Rattle.ty.specs.Round.{legal-primitive, legal-object, legal-unknown, legal-none}
-use Rattle.names.specs.First.{Check, check, first, both}
+use Rattle.checks.specs.Checks.{Check, check, firstRefusal}
 use Rattle.names.specs.Names.{nameAt, checkNames}
 use Rattle.names.specs.Table.{Checked, checked, accepted, sum, below}
 use Rattle.writer.specs.Print.{print, printAll, printWord, printWords, printMethodWords}
@@ -33,13 +35,13 @@ unfoldable pub picked : List ℕ → List ℕ → List ℕ
 picked column ks = map (λ k. getD column k 0) ks
 
 -- where a number stands among them
-unfoldable pub place : List ℕ → ℕ → ℕ
-place [] c = 0
-place (k ∷ ks) c = cond (eqb k c) 0 (suc (place ks c))
+unfoldable pub placeAmong : List ℕ → ℕ → ℕ
+placeAmong [] c = 0
+placeAmong (k ∷ ks) c = cond (eqb k c) 0 (suc (placeAmong ks c))
 
 -- a word's class by its place among those lent; a word without class, or with one that is not lent, as it is
 unfoldable pub renumbered : List ℕ → ℕ → ℕ
-renumbered ks w = cond (eqb (tagOf w) 1 && elem (loadOf w) ks) (w - loadOf w + place ks (loadOf w)) w
+renumbered ks w = cond (eqb (tagOf w) 1 && elem (loadOf w) ks) (w - loadOf w + placeAmong ks (loadOf w)) w
 
 -- if a word's class has a name, the name is lent
 abbrev pub Lent : ℕ → List ℕ → ℕ → Type 0
@@ -65,7 +67,7 @@ pub renumberings : (ascending 0 3 (0 ∷ 2 ∷ []) ≡ true)
     × (renumbered (0 ∷ 2 ∷ []) 0x0201000000000002 ≡ 0x0201000000000001)
     × (renumbered (0 ∷ 2 ∷ []) 0x0200000000000002 ≡ 0x0200000000000002)
     × (renumbered (0 ∷ 2 ∷ []) 0x0001000000000003 ≡ 0x0001000000000003)
-unfolding ascending renumbered place elem
+unfolding ascending renumbered placeAmong elem
 renumberings = (refl, refl, refl, refl, refl, refl, refl)
 
 -- `[[Lc;` over the names a, b, c, and over c alone
@@ -119,21 +121,21 @@ asc-length least names (k ∷ ks) m h =
     let r = asc-length (suc k) names ks b (asc-rest least names k ks h) in
     omega arith
 
-place-found : (ks : List ℕ) (c : ℕ) → elem c ks ≡ true → (place ks c < length ks) × (getD ks (place ks c) 0 ≡ c)
-unfolding place elem
+place-found : (ks : List ℕ) (c : ℕ) → elem c ks ≡ true → (placeAmong ks c < length ks) × (getD ks (placeAmong ks c) 0 ≡ c)
+unfolding placeAmong elem
 place-found [] c h = absurd (false≢true h)
 place-found (k ∷ ks) c h = go (eqb k c) refl h (place-found ks c)
   where
     go : (t : Bool) → eqb k c ≡ t → (t || elem c ks) ≡ true
-        → (elem c ks ≡ true → (place ks c < length ks) × (getD ks (place ks c) 0 ≡ c))
-        → (cond t 0 (suc (place ks c)) < suc (length ks)) × (getD (k ∷ ks) (cond t 0 (suc (place ks c))) 0 ≡ c)
+        → (elem c ks ≡ true → (placeAmong ks c < length ks) × (getD ks (placeAmong ks c) 0 ≡ c))
+        → (cond t 0 (suc (placeAmong ks c)) < suc (length ks)) × (getD (k ∷ ks) (cond t 0 (suc (placeAmong ks c))) 0 ≡ c)
     go true e g r = (omega arith, eqb-true k c e)
     go false e g r = let l = r g .0 in (omega arith, r g .1)
 
 -- what is among the numbers is a name's
 found-below : (names : ℕ) (ks : List ℕ) (c : ℕ) → ascending 0 names ks ≡ true → elem c ks ≡ true → c < names
 found-below names ks c a h =
-    let p = place-found ks c h in subst (λ (m : ℕ). m < names) (p .1) (asc-at 0 names ks a (place ks c) (p .0) .1)
+    let p = place-found ks c h in subst (λ (m : ℕ). m < names) (p .1) (asc-at 0 names ks a (placeAmong ks c) (p .0) .1)
 
 -- ---- the columns
 
@@ -204,12 +206,12 @@ module _ (bytes ats lens ks : List ℕ) (c : Checked bytes ats lens) (a : ascend
 module _ (ks : List ℕ) (w : ℕ) where
   -- a word by whether its class is lent
   by-class : (P : ℕ → Type 0)
-      → (tagOf w ≡ 1 → elem (loadOf w) ks ≡ true → P (w - loadOf w + place ks (loadOf w)))
+      → (tagOf w ≡ 1 → elem (loadOf w) ks ≡ true → P (w - loadOf w + placeAmong ks (loadOf w)))
       → ((tagOf w ≡ 1 → elem (loadOf w) ks ≡ false) → P w) → P (renumbered ks w)
   unfolding renumbered
   by-class P lent other = go (eqb (tagOf w) 1) (elem (loadOf w) ks) refl refl
     where
-      go : (t e : Bool) → eqb (tagOf w) 1 ≡ t → elem (loadOf w) ks ≡ e → P (cond (t && e) (w - loadOf w + place ks (loadOf w)) w)
+      go : (t e : Bool) → eqb (tagOf w) 1 ≡ t → elem (loadOf w) ks ≡ e → P (cond (t && e) (w - loadOf w + placeAmong ks (loadOf w)) w)
       go true true f g = lent (eqb-true (tagOf w) 1 f) g
       go true false f g = other (λ _. g)
       go false e f g = other (λ t. absurd (eqb-false (tagOf w) 1 f t))
@@ -262,20 +264,20 @@ module _ (bytes ats lens : List ℕ) (w : ℕ) where
 
 module _ (bytes ats lens ks : List ℕ) (c : Checked bytes ats lens) (a : ascending 0 (length ats) ks ≡ true) where
   -- where a class is lent, its place is a class's number
-  place-low : (k : ℕ) → elem k ks ≡ true → (place ks k < length ks) × (place ks k < 2 ^ 48)
+  place-low : (k : ℕ) → elem k ks ≡ true → (placeAmong ks k < length ks) × (placeAmong ks k < 2 ^ 48)
   place-low k e = let p = place-found ks k e .0 in let f = c .few in let l = few-lent bytes ats lens ks c a in (p, omega arith)
 
   -- a word of 64 bits stays one
   pub renumbered-fits : (w : ℕ) → w < 2 ^ 64 → renumbered ks w < 2 ^ 64
   renumbered-fits w l =
-      by-class ks w (λ (v : ℕ). v < 2 ^ 64) (λ t e. sum-fits w (place ks (loadOf w)) (place-low (loadOf w) e .1) l) (λ f. l)
+      by-class ks w (λ (v : ℕ). v < 2 ^ 64) (λ t e. sum-fits w (placeAmong ks (loadOf w)) (place-low (loadOf w) e .1) l) (λ f. l)
 
   -- A WORD IS A TYPE OVER THE PART EXACTLY IF IT IS ONE OVER THE TABLE
   pub legal-lent : (w : ℕ) → Lent (length ats) ks w → legalWord (length (picked ats ks)) (renumbered ks w) ≡ legalWord (length ats) w
   legal-lent w u =
       by-class ks w (λ (v : ℕ). legalWord (length (picked ats ks)) v ≡ legalWord (length ats) w)
       (λ t e.
-      let p = place ks (loadOf w) in
+      let p = placeAmong ks (loadOf w) in
       let q = place-low (loadOf w) e in
       let n = length-picked ats ks in
       let l = load-set w p (q .1) in
@@ -298,7 +300,7 @@ module _ (bytes ats lens ks : List ℕ) (c : Checked bytes ats lens) (a : ascend
   print-lent w u h =
       by-class ks w (λ (v : ℕ). printWord bytes (picked ats ks) (picked lens ks) v ≡ printWord bytes ats lens w)
       (λ t e.
-      let p = place ks (loadOf w) in
+      let p = placeAmong ks (loadOf w) in
       let q = place-low (loadOf w) e in
       print-object bytes (picked ats ks) (picked lens ks) (w - loadOf w + p) (tag-kept w p (q .1) ∙ t)
       ∙ ap₂ (λ (d k : ℕ). replicate d 91 ++ classBytes (nameAt bytes (picked ats ks) (picked lens ks) k)) (dims-kept w p (q .1)) (load-set w p (q .1))
@@ -333,19 +335,19 @@ module _ (bytes ats lens ks : List ℕ) (c : Checked bytes ats lens) (a : ascend
 
 -- 7 or 22, where what is printed of types is the same
 legal-first : (legal : Bool) (room : ℕ) (p q : List ℕ) → (legal ≡ true → p ≡ q)
-    → first (check (not legal) 7 ∷ check (ltb room (length p)) 22 ∷ []) ≡ first (check (not legal) 7 ∷ check (ltb room (length q)) 22 ∷ [])
-unfolding first
+    → firstRefusal (check (not legal) 7 ∷ check (ltb room (length p)) 22 ∷ []) ≡ firstRefusal (check (not legal) 7 ∷ check (ltb room (length q)) 22 ∷ [])
+unfolding firstRefusal
 legal-first true room p q h = rw (h refl)
 legal-first false room p q h = refl
 
 -- what was not refused
-not-seven : (legal : Bool) (rest : List Check) → first (check (not legal) 7 ∷ rest) ≡ 0 → legal ≡ true
-unfolding first
+not-seven : (legal : Bool) (rest : List Check) → firstRefusal (check (not legal) 7 ∷ rest) ≡ 0 → legal ≡ true
+unfolding firstRefusal
 not-seven true rest h = refl
 not-seven false rest h = absurd (omega arith)
 
-not-eight : (many : Bool) (rest : List Check) → first (check many 8 ∷ rest) ≡ 0 → first rest ≡ 0
-unfolding first
+not-eight : (many : Bool) (rest : List Check) → firstRefusal (check many 8 ∷ rest) ≡ 0 → firstRefusal rest ≡ 0
+unfolding firstRefusal
 not-eight true rest h = absurd (omega arith)
 not-eight false rest h = h
 
@@ -399,7 +401,7 @@ module _ (bytes ats lens ks : List ℕ) (h : checkNames bytes ats lens ≡ 0) (a
   module _ (ws : List ℕ) (w : ℕ) (us : AllLent (length ats) ks ws) (u : Lent (length ats) ks w) where
     method-refusal : (room : ℕ)
         → methodRefusal bytes (picked ats ks) (picked lens ks) (map (renumbered ks) ws) (renumbered ks w) room ≡ methodRefusal bytes ats lens ws w room
-    unfolding checkedMethodRefusal first
+    unfolding checkedMethodRefusal firstRefusal
     method-refusal room =
         method-named bytes (picked ats ks) (picked lens ks) 0 (sym part-accepted) (map (renumbered ks) ws) (renumbered ks w) room refl
         ∙ rw (length-map ws (renumbered ks), all-legal-lent bytes ats lens ks table a ws us, legal-lent bytes ats lens ks table a w u)
@@ -438,7 +440,7 @@ module _ (bytes ats lens : List ℕ) (h : checkNames bytes ats lens ≡ 0) (w : 
 
   -- its class is then 0
   one-renumbered : tagOf w ≡ 1 → renumbered (loadOf w ∷ []) w ≡ w - loadOf w
-  unfolding renumbered place
+  unfolding renumbered placeAmong
   one-renumbered t = rw (eq-eqb (tagOf w) 1 t, one-lent, eq-eqb (loadOf w) (loadOf w) refl) (omega arith)
 
   pub type-of-one : tagOf w ≡ 1 → loadOf w < length ats
@@ -451,7 +453,7 @@ module _ (bytes ats lens : List ℕ) (h : checkNames bytes ats lens ≡ 0) (w : 
   unfolding renumbered elem
   none-renumbered = go (eqb (tagOf w) 1)
     where
-      go : (t : Bool) → cond (t && false) (w - loadOf w + place [] (loadOf w)) w ≡ w
+      go : (t : Bool) → cond (t && false) (w - loadOf w + placeAmong [] (loadOf w)) w ≡ w
       go true = refl
       go false = refl
 

@@ -8,7 +8,7 @@ use lib.Dec.{ltb}
 use lib.ListN.{length, getD, drop}
 use Rattle.ty.specs.Types.{ArgType, Primitive, Object, Array, Unknown}
 use Rattle.ty.specs.Words.{typeOf, legalWord, allLegal}
-use Rattle.names.specs.First.{check, first, orElse}
+use Rattle.checks.specs.Checks.{check, firstRefusal, orElse}
 use Rattle.names.specs.Names.{nameAt, checkNames}
 use Rattle.writer.specs.declared.Written.{Written}
 
@@ -56,7 +56,7 @@ printMethodWords bytes ats lens params result = printMethod (nameAt bytes ats le
 -- of a type, once the names are checked; `room` is the length of the output
 unfoldable pub checkedTypeRefusal : List ℕ → List ℕ → List ℕ → ℕ → ℕ → ℕ
 checkedTypeRefusal bytes ats lens w room =
-    first (check (not (legalWord (length ats) w)) 7 ∷ check (ltb room (length (printWord bytes ats lens w))) 22 ∷ [])
+    firstRefusal (check (not (legalWord (length ats) w)) 7 ∷ check (ltb room (length (printWord bytes ats lens w))) 22 ∷ [])
 
 -- the names' refusal before them
 unfoldable pub typeRefusal : List ℕ → List ℕ → List ℕ → ℕ → ℕ → ℕ
@@ -65,7 +65,7 @@ typeRefusal bytes ats lens w room = orElse (checkNames bytes ats lens) (checkedT
 -- the same of a method
 unfoldable pub checkedMethodRefusal : List ℕ → List ℕ → List ℕ → List ℕ → ℕ → ℕ → ℕ
 checkedMethodRefusal bytes ats lens params result room =
-    first (
+    firstRefusal (
     check (ltb 255 (length params)) 8
     ∷ check (not (allLegal (length ats) params && legalWord (length ats) result)) 7
     ∷ check (ltb room (length (printMethodWords bytes ats lens params result))) 22

@@ -8,10 +8,11 @@ use native.Mathlib.Omega.{arith}
 use lib.Dec.{eqb, ltb}
 use lib.ListN.{length}
 use borrow.Author.Tests.{ltb-true, eq-eqb, not-true}
+use Rattle.order.specs.Truth.{both}
+use Rattle.order.specs.Lists.{elem}
 use Rattle.utf8.specs.Laws.{wellFormed-decides}
-use Rattle.ty.specs.Types.{ArgType, Primitive, Object, Array, Unknown, depth, or, elem}
+use Rattle.ty.specs.Types.{ArgType, Primitive, Object, Array, Unknown, depth}
 use Rattle.ty.specs.Words.{legalAtBase, legalType}
-use Rattle.names.specs.First.{both}
 use Rattle.names.specs.Names.{nameAt, lookup}
 use Rattle.names.specs.Table.{Checked, name-sized}
 use Rattle.names.specs.Lookup.{lookup-is}
@@ -72,7 +73,7 @@ unfolding elem
 member-elem x (y ∷ ys) (List·Memᴰ·head e) = rw (eq-eqb y x (sym e))
 member-elem x (y ∷ ys) (List·Memᴰ·tail m) = rw (member-elem x ys m) (or-true (eqb y x))
   where
-    or-true : (b : Bool) → or b true ≡ true
+    or-true : (b : Bool) → (b || true) ≡ true
     or-true true = refl
     or-true false = refl
 member-elem x [] m = absurd (List·Memᴰ·not-nil m)

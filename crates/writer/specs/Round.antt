@@ -6,10 +6,10 @@ use mathlib.Core.Option.{Option, some, Option·map, bind, bind-eq-some-iff, map-
 use Prim.Native.Nat.{ℕ, suc, _+_, _^_, _≤_, _<_}
 use native.Mathlib.Omega.{arith}
 use lib.ListN.{length, getD, drop, length-append}
+use Rattle.order.specs.Truth.{both}
 use Rattle.ty.specs.Types.{ArgType, Primitive, Object, Array, Unknown, depth}
 use Rattle.ty.specs.Words.{typeOf, wordOf, legalWord, legalType, allLegal}
 use Rattle.ty.specs.Round.{word-type, legal-of-word, word-of-type}
-use Rattle.names.specs.First.{both}
 use Rattle.names.specs.Names.{nameAt, checkNames, lookup}
 use Rattle.names.specs.Table.{Checked, checked}
 use Rattle.names.specs.Lookup.{lookup-told}

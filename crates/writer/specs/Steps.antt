@@ -10,10 +10,11 @@ use native.Mathlib.Omega.{arith}
 use lib.ListN.{length, getD, drop, replicate, length-append, length-replicate, drop-of-length-le}
 use lib.Seq.{drop-cons}
 use borrow.Author.Tests.{ltb-true, leb-true, lt-ltb, le-ltb, not-true, not-false}
+use Rattle.order.specs.Truth.{both}
 use Rattle.ty.specs.Types.{ArgType, arrays}
 use Rattle.ty.specs.Words.{dimsOf, tagOf, loadOf, baseOf, typeOf, legalBase, legalWord, allLegal}
 use Rattle.ty.specs.Round.{legal-primitive, legal-object}
-use Rattle.names.specs.First.{first, both, else-none, else-some}
+use Rattle.checks.specs.Checks.{firstRefusal, else-none, else-some}
 use Rattle.names.specs.Names.{nameAt, checkNames}
 use Rattle.names.specs.Table.{Checked, name-length}
 use Rattle.writer.specs.Print.{letterByte, print, printAll, printMethod, printWord, printWords, printMethodWords}
@@ -223,35 +224,35 @@ module _ {refusal : ℕ} {printed out : List ℕ} where
 
 module _ (bytes ats lens : List ℕ) (w room : ℕ) where
   pub type-illegal : legalWord (length ats) w ≡ false → checkedTypeRefusal bytes ats lens w room ≡ 7
-  unfolding checkedTypeRefusal first
+  unfolding checkedTypeRefusal firstRefusal
   type-illegal h = rw h
 
   pub type-long : legalWord (length ats) w ≡ true → room < length (printWord bytes ats lens w) → checkedTypeRefusal bytes ats lens w room ≡ 22
-  unfolding checkedTypeRefusal first
+  unfolding checkedTypeRefusal firstRefusal
   type-long h l = rw (h, lt-ltb room (length (printWord bytes ats lens w)) l)
 
   pub type-fits : legalWord (length ats) w ≡ true → length (printWord bytes ats lens w) ≤ room → checkedTypeRefusal bytes ats lens w room ≡ 0
-  unfolding checkedTypeRefusal first
+  unfolding checkedTypeRefusal firstRefusal
   type-fits h l = rw (h, le-ltb room (length (printWord bytes ats lens w)) l)
 
 module _ (bytes ats lens params : List ℕ) (result room : ℕ) where
   pub method-many : 255 < length params → checkedMethodRefusal bytes ats lens params result room ≡ 8
-  unfolding checkedMethodRefusal first
+  unfolding checkedMethodRefusal firstRefusal
   method-many h = rw (lt-ltb 255 (length params) h)
 
   pub method-illegal : length params ≤ 255 → (allLegal (length ats) params && legalWord (length ats) result) ≡ false
       → checkedMethodRefusal bytes ats lens params result room ≡ 7
-  unfolding checkedMethodRefusal first
+  unfolding checkedMethodRefusal firstRefusal
   method-illegal h g = rw (le-ltb 255 (length params) h, g)
 
   pub method-long : length params ≤ 255 → allLegal (length ats) params ≡ true → legalWord (length ats) result ≡ true
       → room < length (printMethodWords bytes ats lens params result) → checkedMethodRefusal bytes ats lens params result room ≡ 22
-  unfolding checkedMethodRefusal first
+  unfolding checkedMethodRefusal firstRefusal
   method-long h p g l = rw (le-ltb 255 (length params) h, p, g, lt-ltb room (length (printMethodWords bytes ats lens params result)) l)
 
   pub method-fits : length params ≤ 255 → allLegal (length ats) params ≡ true → legalWord (length ats) result ≡ true
       → length (printMethodWords bytes ats lens params result) ≤ room → checkedMethodRefusal bytes ats lens params result room ≡ 0
-  unfolding checkedMethodRefusal first
+  unfolding checkedMethodRefusal firstRefusal
   method-fits h p g l = rw (le-ltb 255 (length params) h, p, g, le-ltb room (length (printMethodWords bytes ats lens params result)) l)
 
 -- the names' refusal first

@@ -2,7 +2,9 @@
 use mathlib.Core.List.{List, [], _∷_}
 use Prim.Native.Nat.{ℕ}
 use lib.Dec.{T}
-use Rattle.ty.specs.Types.{elem, compareNumbers, compare}
+use Rattle.order.specs.Compare.{compareNumbers}
+use Rattle.order.specs.Lists.{elem}
+use Rattle.ty.specs.Types.{compare}
 use Rattle.ty.specs.Words.{pack, wordOf}
 use Rattle.lattice.specs.Lattice.{sameType, narrow, underDouble, joinPrimitive}
 use Rattle.lattice.specs.JoinTable.{joinCategories, cell, every, row, rule}

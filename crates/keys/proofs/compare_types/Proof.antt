@@ -3,9 +3,10 @@ use mathlib.Core.Path.{_≡_, sym, ap₂, _∙_}
 use Prim.Native.Nat.{ℕ, _^_, _<_}
 use native.Mathlib.Omega.{arith}
 use borrow.Author.Needs.{needs}
-use Rattle.ty.specs.Types.{compareNumbers, compare}
+use Rattle.order.specs.Laws.{numbers-less, numbers-greater}
+use Rattle.order.specs.Compare.{compareNumbers}
+use Rattle.ty.specs.Types.{compare}
 use Rattle.ty.specs.Words.{Legal, typeOf}
-use Rattle.ty.specs.Order.{numbers-less, numbers-greater}
 use Rattle.ty.specs.Round.{legal-of-word}
 use Rattle.keys.specs.Rank.{rank}
 use Rattle.keys.specs.Numbers.{numbers-equal}

@@ -9,10 +9,10 @@ use lib.Dec.{leb, ltb}
 use lib.ListN.{length, take, drop}
 use lib.Seq.{take-all}
 use borrow.Author.Tests.{eq-eqb, ne-eqb, lt-ltb, le-ltb, not-true, not-false}
-use Rattle.ty.specs.Types.{compareLists}
+use Rattle.order.specs.Compare.{compareLists, isLess}
 use Rattle.utf8.specs.Utf8.{wellFormed}
-use Rattle.names.specs.First.{first}
-use Rattle.names.specs.Names.{isLess, nameChecks, checkName}
+use Rattle.checks.specs.Checks.{firstRefusal}
+use Rattle.names.specs.Names.{nameChecks, checkName}
 use Rattle.names.proofs.check_name.Statement.{statement}
 use Rattle.names.proofs.check_name.Tie as tie
 
@@ -20,11 +20,11 @@ use Rattle.names.proofs.check_name.Tie as tie
 
 module _ (last name : List ℕ) (count total : ℕ) where
   empty : length name ≡ 0 → checkName last name count total ≡ 3
-  unfolding checkName nameChecks first
+  unfolding checkName nameChecks firstRefusal
   empty h = rw (eq-eqb (length name) 0 h)
 
   long : 255 < length name → checkName last name count total ≡ 3
-  unfolding checkName nameChecks first
+  unfolding checkName nameChecks firstRefusal
   long h = rw (ne-eqb (length name) 0 (λ e. omega arith), lt-ltb 255 (length name) h)
 
   -- of 1 to 255 bytes: whether they are well-formed, not above the last, and without room
@@ -33,7 +33,7 @@ module _ (last name : List ℕ) (count total : ℕ) where
       → low ≡ (ltb 0 count && not (isLess (compareLists last name)))
       → full ≡ (leb 1024 count || ltb 24576 (total + length name))
       → cond (not formed) 10 (cond low 5 (cond full 8 0)) ≡ checkName last name count total
-  unfolding checkName nameChecks first
+  unfolding checkName nameChecks firstRefusal
   sized formed low full z h f l u =
       rw (ne-eqb (length name) 0 z, le-ltb 255 (length name) h, ← l, ← u, ← (f ∙ ap wellFormed (take-all (length name - 0) name (omega arith))))
 

@@ -8,7 +8,7 @@ use native.Mathlib.Numerals.{add-one}
 use lib.ListN.{length, getD, drop, drop-of-length-le}
 use lib.Seq.{drop-cons}
 use borrow.Author.Tests.{eq-eqb, ne-eqb}
-use Rattle.names.specs.First.{orElse, else-none, else-some}
+use Rattle.checks.specs.Checks.{orElse, else-none, else-some}
 use Rattle.names.specs.Names.{nameOf, checkRow, checkRows, checkNames}
 use Rattle.names.specs.Table.{GoodRow, row-checked}
 use Rattle.names.proofs.check_names.Statement.{statement}

@@ -3,7 +3,7 @@ use borrow.Author.Needs.{needs}
 use mathlib.Core.Path.{ap, _∙_}
 use mathlib.Core.List.{List}
 use Prim.Native.Nat.{ℕ}
-use Rattle.ty.specs.Types.{compareLists}
+use Rattle.order.specs.Compare.{compareLists}
 use Rattle.names.specs.Table.{part-is}
 use Rattle.names.proofs.compare_at.Statement.{statement}
 use Rattle.names.proofs.compare_at.Tie as tie

@@ -7,9 +7,9 @@ use native.Mathlib.Numerals.{add-one}
 use native.Mathlib.Omega.{arith}
 use lib.ListN.{length, getD, drop, drop-of-length-le}
 use lib.Seq.{drop-cons}
-use Rattle.ty.specs.declared.Order.{Order}
-use Rattle.ty.specs.Types.{compareNumbers, compareLists, then}
-use Rattle.ty.specs.Order.{numbers-same, numbers-by}
+use Rattle.order.specs.Laws.{numbers-same, numbers-by}
+use Rattle.order.specs.Compare.{compareNumbers, compareLists, then}
+use Rattle.order.specs.declared.Order.{Order}
 use Rattle.names.proofs.compare_names.Statement.{statement}
 use Rattle.names.proofs.compare_names.Tie as tie
 

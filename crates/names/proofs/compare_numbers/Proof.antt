@@ -1,8 +1,8 @@
 -- `compare_numbers` meets its contract. Assumes nothing.
 use mathlib.Core.Path.{_≡_, sym, ap, _∙_}
 use native.Mathlib.Omega.{arith}
-use Rattle.ty.specs.Types.{compareNumbers}
-use Rattle.ty.specs.Order.{numbers-less, numbers-same, numbers-greater}
+use Rattle.order.specs.Laws.{numbers-less, numbers-same, numbers-greater}
+use Rattle.order.specs.Compare.{compareNumbers}
 use Rattle.names.proofs.compare_numbers.Statement.{statement}
 use Rattle.names.proofs.compare_numbers.Tie as tie
 

@@ -8,9 +8,8 @@ use native.Mathlib.Omega.{arith}
 use lib.Dec.{ltb}
 use lib.ListN.{length, take, drop, length-drop}
 use lib.Seq.{take-all}
-use Rattle.ty.specs.declared.Order.{Order}
-use Rattle.ty.specs.Types.{compareLists}
-use Rattle.names.specs.Names.{isLess}
+use Rattle.order.specs.Compare.{compareLists, isLess}
+use Rattle.order.specs.declared.Order.{Order}
 use Rattle.names.proofs.is_not_above.Statement.{statement}
 use Rattle.names.proofs.is_not_above.Tie as tie
 

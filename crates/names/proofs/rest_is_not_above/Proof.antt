@@ -7,9 +7,8 @@ use Prim.Native.Nat.{ℕ}
 use native.Mathlib.Omega.{arith}
 use lib.Dec.{ltb}
 use borrow.Author.Tests.{lt-ltb, le-ltb}
-use Rattle.ty.specs.declared.Order.{Order}
-use Rattle.ty.specs.Types.{compareLists}
-use Rattle.names.specs.Names.{isLess}
+use Rattle.order.specs.Compare.{compareLists, isLess}
+use Rattle.order.specs.declared.Order.{Order}
 use Rattle.names.proofs.rest_is_not_above.Statement.{statement}
 use Rattle.names.proofs.rest_is_not_above.Tie as tie
 

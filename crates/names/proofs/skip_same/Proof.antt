@@ -4,7 +4,7 @@ use mathlib.Core.Path.{_≡_, refl, sym, _∙_}
 use Prim.Native.Nat.{_+_, _-_, _≤_}
 use native.Mathlib.Omega.{arith}
 use lib.ListN.{length, drop}
-use Rattle.ty.specs.Types.{compareLists}
+use Rattle.order.specs.Compare.{compareLists}
 use Rattle.names.proofs.Block.{past}
 use Rattle.names.proofs.skip_same.Statement.{statement}
 use Rattle.names.proofs.skip_same.Tie as tie

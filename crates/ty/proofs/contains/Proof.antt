@@ -2,10 +2,10 @@
 use borrow.Author.Needs.{needs}
 use borrow.Author.Tests.{eq-eqb, ne-eqb}
 use mathlib.Core.Path.{_≡_, refl, sym, ap, _∙_}
-use mathlib.Core.Bool.{Bool}
+use mathlib.Core.Bool.{Bool, _||_}
 use Prim.Native.Nat.{_+_, _-_, _≤_}
 use native.Mathlib.Omega.{arith}
-use Rattle.ty.specs.Types.{elem, or}
+use Rattle.order.specs.Lists.{elem}
 use Rattle.ty.specs.Steps.{restOf, elem-step, elem-none}
 use Rattle.ty.proofs.contains.Statement.{statement}
 use Rattle.ty.proofs.contains.Tie as tie
@@ -27,7 +27,7 @@ returns c =
     let a = c .before .before .before .before .args in
     let l = c .before .before .before .loop in
     sym (l .inv .2 ∙ elem-step (a .load) (a .n) (l .i) (a .d) (omega arith) (omega arith)
-    ∙ ap (λ (t : Bool). or t (elem (a .d) (restOf (a .load) (a .n) (l .i + 1)))) (eq-eqb _ _ (sym (c .before .digit .ensures) ∙ c .if1 .taken)))
+    ∙ ap (λ (t : Bool). t || elem (a .d) (restOf (a .load) (a .n) (l .i + 1))) (eq-eqb _ _ (sym (c .before .digit .ensures) ∙ c .if1 .taken)))
 
 add-i : tie.Need-add-i Inv-loop μ-loop
 add-i c = search needs
@@ -42,7 +42,7 @@ loop-again c =
       omega arith,
       omega arith,
       l .inv .2 ∙ elem-step (a .load) (a .n) (l .i) (a .d) (omega arith) (omega arith)
-          ∙ ap (λ (t : Bool). or t (elem (a .d) (restOf (a .load) (a .n) (l .i + 1)))) (ne-eqb _ _ (λ e. c .if1 .left (c .before .digit .ensures ∙ e))),
+          ∙ ap (λ (t : Bool). t || elem (a .d) (restOf (a .load) (a .n) (l .i + 1))) (ne-eqb _ _ (λ e. c .if1 .left (c .before .digit .ensures ∙ e))),
     )
 
 returns-2 : tie.Need-returns-2 Inv-loop μ-loop

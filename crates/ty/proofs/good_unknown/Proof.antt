@@ -1,10 +1,9 @@
 -- `good_unknown` meets its contract. The invariant: the answer is that of the digits left. Assumes nothing.
 use borrow.Author.Needs.{needs}
 use mathlib.Core.Path.{_≡_, refl, sym, ap, _∙_}
-use mathlib.Core.Bool.{Bool}
+use mathlib.Core.Bool.{Bool, _&&_}
 use Prim.Native.Nat.{ℕ, _+_, _-_, _/_, _^_, _≤_}
 use native.Mathlib.Omega.{arith}
-use Rattle.ty.specs.Types.{and}
 use Rattle.ty.specs.Words.{unpack, goodDigits, goodUnknown}
 use Rattle.ty.specs.Steps.{good-step, good-end, unknown-long, unknown-short}
 use Rattle.ty.proofs.good_unknown.Statement.{statement}
@@ -41,7 +40,7 @@ loop-again c =
       omega arith,
       l .inv .1,
       l .inv .2 ∙ good-step x n (l .i) (omega arith) (l .inv .1)
-          ∙ ap (λ (t : Bool). and t (goodDigits (n - (l .i + 1)) (unpack (11 - (l .i + 1)) x))) (sym (c .before .good-digit .ensures) ∙ c .if2 .taken),
+          ∙ ap (λ (t : Bool). t && goodDigits (n - (l .i + 1)) (unpack (11 - (l .i + 1)) x)) (sym (c .before .good-digit .ensures) ∙ c .if2 .taken),
     )
 
 returns-2 : tie.Need-returns-2 Inv-loop μ-loop
@@ -50,7 +49,7 @@ returns-2 c =
     let l = c .before .before .before .loop in
     let n = x / 2 ^ 44 in
     sym (l .inv .2 ∙ good-step x n (l .i) (omega arith) (l .inv .1)
-    ∙ ap (λ (t : Bool). and t (goodDigits (n - (l .i + 1)) (unpack (11 - (l .i + 1)) x))) (sym (c .before .good-digit .ensures) ∙ c .if2 .left))
+    ∙ ap (λ (t : Bool). t && goodDigits (n - (l .i + 1)) (unpack (11 - (l .i + 1)) x)) (sym (c .before .good-digit .ensures) ∙ c .if2 .left))
 
 returns-3 : tie.Need-returns-3 Inv-loop μ-loop
 returns-3 c =

@@ -1,7 +1,7 @@
 -- `ask_over` meets its contract: the refusal, or the answer over the table.
 use borrow.Author.Needs.{needs}
 use mathlib.Core.List.{[], _∷_}
-use Rattle.names.specs.First as checks
+use Rattle.checks.specs.Checks as checks
 use Rattle.queries.specs.Queries.{Given, given}
 use Rattle.queries.specs.Laws.{answered-none, answered-value}
 use Rattle.typequeries.specs.TypeQueries.{worldIn, typeChecks, typeValue}
@@ -23,7 +23,7 @@ returns c =
     let o = c .before .before .before .before .before .before .open-table in
     let a = c .before .before .before .before .before .before .before .before .before .before .before .before .before .before .before .before .before .before .before .args in
     let g : Given = given (a .names .now) (a .ats .now) (a .lens .now) (a .flags .now) (a .classes .now) (a .starts .now) (a .sizes .now) (a .parents .now) in
-    answered-none (o .result .refusal) (checks.first (typeChecks g (a .left ∷ a .right ∷ []))) (typeValue (worldIn g) (a .q) (a .left) (a .right)) (o .ensures .refusal-is) (c .if1 .taken)
+    answered-none (o .result .refusal) (checks.firstRefusal (typeChecks g (a .left ∷ a .right ∷ []))) (typeValue (worldIn g) (a .q) (a .left) (a .right)) (o .ensures .refusal-is) (c .if1 .taken)
 
 value-of-requires : tie.Need-value-of-requires
 value-of-requires c κs =
@@ -42,7 +42,7 @@ returns-2 c =
     let g : Given = given (a .names .now) (a .ats .now) (a .lens .now) (a .flags .now) (a .classes .now) (a .starts .now) (a .sizes .now) (a .parents .now) in
     let o = c .before .before .before .before .before .before .before .before .before .open-table in
     let none = c .before .before .before .if1 .left in
-    answered-value (o .result .refusal) (checks.first (typeChecks g (a .left ∷ a .right ∷ []))) (c .value-of .result) (typeValue (worldIn g) (a .q) (a .left) (a .right)) (o .ensures .refusal-is) none (value-ready {g = g} (o .ensures .ready none) (a .q) (c .value-of .result) (c .value-of .ensures))
+    answered-value (o .result .refusal) (checks.firstRefusal (typeChecks g (a .left ∷ a .right ∷ []))) (c .value-of .result) (typeValue (worldIn g) (a .q) (a .left) (a .right)) (o .ensures .refusal-is) none (value-ready {g = g} (o .ensures .ready none) (a .q) (c .value-of .result) (c .value-of .ensures))
 
 pub ask-over-spec : {M : Type 1} → statement M
 ask-over-spec =

@@ -1,0 +1,2 @@
+-- A chain of checks.
+pub mod Checks

@@ -1,0 +1,1 @@
+// No code: a chain of checks as one list, and its laws, stand in specs/.

@@ -1,0 +1,412 @@
+-- THE TABLE OF COLUMNS HAS THE VIEW AND THE WORLD OF ITS ROWS, wherever it is taken; and where a question is not refused, its view is
+-- good and Object is a class. Assumes nothing.
+use mathlib.Core.Path.{_≡_, refl, sym, ap, _∙_, subst}
+use mathlib.Core.Bool.{Bool, true, false, cond, not, _||_, true≢false, false≢true}
+use mathlib.Core.List.{List, [], _∷_, List·Memᴰ, List·Memᴰ·head, List·Memᴰ·tail, List·Memᴰ·not-nil, List·Memᴰ·cases-cons}
+use mathlib.Core.Logic.{_↔_, ⊎-elim}
+use mathlib.Core.Option.{Option, some, none}
+use Prim.Native.Nat.{ℕ, zero, suc, _+_, _-_, _*_, _/_, _%_, _^_, _≤_, _<_}
+use native.Mathlib.Omega.{arith}
+use native.Mathlib.Decide.{decLt}
+use lib.Dec.{eqb, ltb}
+use lib.ListN.{length, take, drop, getD, length-take, length-drop}
+use lib.Seq.{take-all, getD-take, getD-drop}
+use borrow.Author.Tests.{ne-eqb, eqb-true, eqb-false}
+use Rattle.order.specs.Laws.{lists-same, lists-equal}
+use Rattle.order.specs.Compare.{compareLists, isEqual}
+use Rattle.order.specs.Lists.{elem}
+use Rattle.order.specs.Truth.{implied-both}
+use Rattle.sets.specs.Sets.{member}
+use Rattle.sets.specs.Laws.{member-past, member-empty}
+use Rattle.sorted.specs.Sorted.{Above, Sorted, runOf}
+use Rattle.sorted.specs.Laws.{above-sorted, put-sorted, elem-put, same-members}
+use Rattle.sorted.specs.Places.{run-only}
+use Rattle.order.specs.declared.Order.{Order}
+use Rattle.order.specs.declared.Order.the-variants.{Less, Equal, Greater}
+use Rattle.checks.specs.Checks as checks
+use Rattle.names.specs.Names.{nameOf, nameAt, next}
+use Rattle.names.specs.Table.{number-of-name}
+use Rattle.view.specs.View.{View, numberOf}
+use Rattle.view.specs.Reach as view
+use Rattle.hierarchy.specs.Table.{parentsIn, mark, mark-length, parentsOf as keyParents, parents-below, parents-entry, view-good}
+use Rattle.lattice.specs.World.{present, worldWith}
+use Rattle.rows.specs.declared.Outcome.{Outcome}
+use Rattle.rows.specs.Rows.{objectName, cloneableName, serializableName, noTables, allBelow, State, key, isMarked, Ran}
+use Rattle.rows.specs.Marks.{mark-set}
+use Rattle.rows.specs.Laws.{Sound}
+use Rattle.columns.specs.Columns.{nameRows, recordRows, tableOf}
+use Rattle.columns.specs.Laws.{names-good}
+use Rattle.columns.specs.Names.{names-checked, names-counted, notedIn, names-noted, noted-none, noted-one}
+use Rattle.queries.specs.Queries.{Given, even, noMarks, table, classesOf, viewIn, ranChecks, queryChecks, queryRefusal, valueOf}
+use Rattle.queries.specs.declared.Query.{Query}
+use Rattle.queries.specs.Laws.{even-is, good-in, object-known}
+use Rattle.tableview.specs.TableRows.{Record, isRecorded, parentsOf, setOf, lastDeclared, factFrom, anyFlags, interfaceFlag, finalFlag, indexOf, rowsView, rowsWorld, stateWorld, namesOf, recordsOf, rowsIn}
+use Rattle.tableview.specs.Taken.{After, records-after}
+
+-- ---- names
+
+names-length : (bytes ats lens : List ℕ) → length ats ≡ length lens → length (namesOf bytes ats lens) ≡ length ats
+unfolding namesOf
+names-length bytes [] lens e = refl
+names-length bytes (at ∷ ats) [] e = absurd (omega arith)
+names-length bytes (at ∷ ats) (len ∷ lens) e = ap suc (names-length bytes ats lens (omega arith))
+
+-- the place of a wanted name: its bytes stand there; none: nowhere
+Placed : List ℕ → List ℕ → List ℕ → List ℕ → Option ℕ → Type 0
+Placed wanted bytes ats lens none = (i : ℕ) → i < length ats → nameAt bytes ats lens i ≡ wanted → ⊥
+Placed wanted bytes ats lens (some i) = (i < length ats) × (nameAt bytes ats lens i ≡ wanted)
+
+placed-next : (wanted bytes : List ℕ) (at len : ℕ) (ats lens : List ℕ) (o : Option ℕ) → (nameOf bytes at len ≡ wanted → ⊥)
+    → Placed wanted bytes ats lens o → Placed wanted bytes (at ∷ ats) (len ∷ lens) (next o)
+unfolding Placed
+placed-next wanted bytes at len ats lens none n p = elim [ zero ↦ λ h e. n e | suc i ↦ λ h e. p i (omega arith) e ]
+placed-next wanted bytes at len ats lens (some i) n p = (omega (arith, p .0), p .1)
+
+index-placed : (wanted bytes ats lens : List ℕ) → length ats ≡ length lens → Placed wanted bytes ats lens (indexOf wanted (namesOf bytes ats lens))
+unfolding namesOf indexOf Placed
+index-placed wanted bytes [] lens e = λ i h. absurd (omega arith)
+index-placed wanted bytes (at ∷ ats) [] e = absurd (omega arith)
+index-placed wanted bytes (at ∷ ats) (len ∷ lens) e = go (compareLists (nameOf bytes at len) wanted) refl (index-placed wanted bytes ats lens (omega arith))
+  where
+    go : (o : Order) → compareLists (nameOf bytes at len) wanted ≡ o → Placed wanted bytes ats lens (indexOf wanted (namesOf bytes ats lens))
+        → Placed wanted bytes (at ∷ ats) (len ∷ lens) (cond (isEqual o) (some 0) (next (indexOf wanted (namesOf bytes ats lens))))
+    go Equal q p = (omega arith, lists-equal (nameOf bytes at len) wanted q)
+    go Less q p = placed-next wanted bytes at len ats lens (indexOf wanted (namesOf bytes ats lens)) (λ s. differ (sym q ∙ ap (λ (n : List ℕ). compareLists n wanted) s ∙ lists-same wanted)) p
+      where
+        differ : Less ≡ Equal → ⊥
+        differ d = let z : _≡_ {A = ℕ} 0 1 = cc in omega arith
+    go Greater q p = placed-next wanted bytes at len ats lens (indexOf wanted (namesOf bytes ats lens)) (λ s. differ (sym q ∙ ap (λ (n : List ℕ). compareLists n wanted) s ∙ lists-same wanted)) p
+      where
+        differ : Greater ≡ Equal → ⊥
+        differ d = let z : _≡_ {A = ℕ} 0 1 = cc in omega arith
+
+module _ (wanted bytes ats lens : List ℕ) (e : length ats ≡ length lens) (z : nameRows bytes ats lens [] noTables .refusal ≡ 0) where
+  -- what is noted of a wanted name is its place among the names
+  noted-index : notedIn wanted bytes ats lens 0 (2 ^ 64 - 1) ≡ numberOf (indexOf wanted (namesOf bytes ats lens))
+  unfolding numberOf Placed
+  noted-index = go (indexOf wanted (namesOf bytes ats lens)) (index-placed wanted bytes ats lens e)
+    where
+      go : (o : Option ℕ) → Placed wanted bytes ats lens o → notedIn wanted bytes ats lens 0 (2 ^ 64 - 1) ≡ numberOf o
+      go none p = noted-none wanted bytes ats lens 0 (2 ^ 64 - 1) p
+      go (some i) p =
+          noted-one wanted bytes ats lens 0 (2 ^ 64 - 1) i e (p .0) (p .1)
+          (λ j a b v. let same = number-of-name bytes ats lens (names-checked bytes ats lens e z) i j (p .0) b (p .1 ∙ sym v) in omega arith)
+          ∙ (let s : 0 + i ≡ i = omega arith in s)
+
+-- ---- parents and facts
+
+elem-member : (p : ℕ) (xs : List ℕ) → elem p xs ≡ true → List·Memᴰ p xs
+unfolding elem
+elem-member p [] h = absurd (false≢true h)
+elem-member p (x ∷ xs) h = go (eqb x p) refl h (elem-member p xs)
+  where
+    go : (b : Bool) → eqb x p ≡ b → (b || elem p xs) ≡ true → (elem p xs ≡ true → List·Memᴰ p xs) → List·Memᴰ p (x ∷ xs)
+    go true e k ih = List·Memᴰ·head (sym (eqb-true x p e))
+    go false e k ih = List·Memᴰ·tail (ih k)
+
+member-elem : (p : ℕ) (xs : List ℕ) → List·Memᴰ p xs → elem p xs ≡ true
+unfolding elem
+member-elem p [] m = absurd (List·Memᴰ·not-nil m)
+member-elem p (x ∷ xs) m = go (eqb x p) refl (member-elem p xs)
+  where
+    go : (b : Bool) → eqb x p ≡ b → (List·Memᴰ p xs → elem p xs ≡ true) → (b || elem p xs) ≡ true
+    go true e ih = refl
+    go false e ih = ⊎-elim (λ k. absurd (eqb-false x p e (sym k))) ih (List·Memᴰ·cases-cons m)
+
+or-false : (b : Bool) → (b || false) ≡ b
+or-false true = refl
+or-false false = refl
+
+-- of a class past the sets nothing is marked
+marks-past : (marks : List ℕ) (k c : ℕ) → length marks ≡ 64 → k < 4 → (c < 1024 → ⊥) → member (mark marks k) c ≡ false
+marks-past marks k c w h n = let l = mark-length marks k w h in member-past (mark marks k) c (omega arith)
+
+unmarked : (k c : ℕ) → isMarked k c noMarks ≡ false
+unmarked k c = member-empty 64 (1024 * k + c)
+
+fact-none : (f : ℕ → Bool) (c : ℕ) (rs : List Record) → isRecorded c rs ≡ false → factFrom f (lastDeclared c rs) false ≡ false
+unfolding isRecorded lastDeclared
+fact-none f c [] h = refl
+fact-none f c (r ∷ rs) h = go (eqb (r .class) c) refl h (lastDeclared c rs) refl (fact-none f c rs)
+  where
+    go : (b : Bool) → eqb (r .class) c ≡ b → (b || isRecorded c rs) ≡ false → (o : Option ℕ) → lastDeclared c rs ≡ o
+        → (isRecorded c rs ≡ false → factFrom f (lastDeclared c rs) false ≡ false) → factFrom f (lastDeclared c (r ∷ rs)) false ≡ false
+    go true e k o q ih = absurd (true≢false k)
+    go false e k none q ih = rw (q, e)
+    go false e k (some x) q ih = rw q (sym (ap (λ (p : Option ℕ). factFrom f p false) q) ∙ ih k)
+
+-- ---- parents as ascending sets
+
+set-sorted : (xs : List ℕ) → Sorted (setOf xs)
+unfolding setOf
+set-sorted [] = tt
+set-sorted (x ∷ xs) = put-sorted x (setOf xs) (set-sorted xs)
+
+elem-set : (z : ℕ) (xs : List ℕ) → elem z (setOf xs) ≡ elem z xs
+unfolding setOf elem
+elem-set z [] = refl
+elem-set z (x ∷ xs) = elem-put x z (setOf xs) ∙ ap (λ (b : Bool). eqb x z || b) (elem-set z xs)
+
+above-take : (b n : ℕ) (l : List ℕ) → Above b l → Above b (take n l)
+above-take b zero l a = tt
+above-take b (suc n) [] a = tt
+above-take b (suc n) (y ∷ l) a = (a .0, above-take y n l (a .1))
+
+sorted-take : (n : ℕ) (l : List ℕ) → Sorted l → Sorted (take n l)
+sorted-take zero l a = tt
+sorted-take (suc n) [] a = tt
+sorted-take (suc n) (y ∷ l) a = above-take y n l a
+
+sorted-drop : (n : ℕ) (l : List ℕ) → Sorted l → Sorted (drop n l)
+sorted-drop zero l a = a
+sorted-drop (suc n) [] a = tt
+sorted-drop (suc n) (y ∷ l) a = sorted-drop n l (above-sorted y l a)
+
+above-lower : (x y : ℕ) (l : List ℕ) → x < y → Above y l → Above x l
+above-lower x y [] h a = tt
+above-lower x y (z ∷ l) h a = (let k = a .0 in omega arith, a .1)
+
+module _ (names c : ℕ) where
+  in-above : (b : ℕ) (es : List ℕ) → Above b es → b / 1024 ≡ c → ((i : ℕ) → i < length es → getD es i 0 / 1024 ≡ c) → Above (b % 1024) (parentsIn names es)
+  unfolding parentsIn
+  in-above b [] a e h = tt
+  in-above b (x ∷ es) a e h = go (ltb (x % 1024) names) (in-above x es (a .1) (h 0 (omega arith)) (λ i k. h (suc i) (omega arith)))
+    where
+      less : b % 1024 < x % 1024
+      less = let p = a .0 in let q = h 0 (omega arith) in omega arith
+
+      go : (t : Bool) → Above (x % 1024) (parentsIn names es) → Above (b % 1024) (cond t (x % 1024 ∷ parentsIn names es) (parentsIn names es))
+      go true r = (less, r)
+      go false r = above-lower (b % 1024) (x % 1024) (parentsIn names es) less r
+
+  in-sorted : (es : List ℕ) → Sorted es → ((i : ℕ) → i < length es → getD es i 0 / 1024 ≡ c) → Sorted (parentsIn names es)
+  unfolding parentsIn
+  in-sorted [] a h = tt
+  in-sorted (x ∷ es) a h = go (ltb (x % 1024) names) (in-above x es a (h 0 (omega arith)) (λ i k. h (suc i) (omega arith)))
+    where
+      go : (t : Bool) → Above (x % 1024) (parentsIn names es) → Sorted (cond t (x % 1024 ∷ parentsIn names es) (parentsIn names es))
+      go true r = r
+      go false r = above-sorted (x % 1024) (parentsIn names es) r
+
+  -- THE PARENTS OF A CLASS STAND ASCENDING
+  pub parents-sorted : (l : List ℕ) → Sorted l → Sorted (keyParents names l c)
+  unfolding keyParents
+  parents-sorted l g =
+      in-sorted (take (past - first) (drop first l)) (sorted-take (past - first) (drop first l) (sorted-drop first l g))
+      (λ i h.
+      let b = length-take (past - first) (drop first l) in
+      let d = length-drop first l in
+      ap (λ (x : ℕ). x / 1024) (getD-take (past - first) (drop first l) i 0 (omega arith) ∙ getD-drop first l i 0)
+      ∙ run-only 1024 c l g (omega arith) (first + i) (omega arith) (omega arith) (omega arith))
+    where
+      first : ℕ
+      first = runOf 1024 c l .first
+
+      past : ℕ
+      past = runOf 1024 c l .past
+
+-- a number that is written as all ones where it is missing
+present-number : (o : Option ℕ) → ((i : ℕ) → o ≡ some i → i < 2 ^ 64 - 1) → present (numberOf o) ≡ o
+unfolding present numberOf
+present-number none h = refl
+present-number (some i) h = rw (ne-eqb i (2 ^ 64 - 1) (λ e. let k = h i refl in omega arith))
+
+-- ---- the table
+
+module _ (g : Given) (e : even g ≡ true) (z : table g .refusal ≡ 0) where
+  named : Outcome
+  named = nameRows (g .names) (g .ats) (g .lens) [] noTables
+
+  first : State
+  first = record { tables = named .tables; keys = []; marks = noMarks }
+
+  columns-even : length (g .ats) ≡ length (g .lens)
+  unfolding even
+  columns-even = even-is (length (g .ats)) (length (g .lens)) (length (g .flags)) (length (g .classes)) (length (g .starts)) (length (g .sizes)) e .0
+
+  good-first : Sound first
+  unfolding first named
+  good-first = names-good (g .names) (g .ats) (g .lens) noMarks refl
+
+  rs : List Record
+  rs = recordsOf (g .parents) (g .flags) (g .classes) (g .starts) (g .sizes)
+
+  -- the names are taken, and then the records
+  both-taken : (named .refusal ≡ 0) × After first rs (table g .state)
+  unfolding table tableOf first named rs
+  both-taken = go (eqb (named .refusal) 0) refl z
+    where
+      go : (b : Bool) → eqb (named .refusal) 0 ≡ b
+          → cond {A = Ran} b (recordRows (g .parents) (g .flags) (g .classes) (g .starts) (g .sizes) first) (record { refusal = named .refusal; state = first }) .refusal ≡ 0
+          → (named .refusal ≡ 0) × After first rs (cond {A = Ran} b (recordRows (g .parents) (g .flags) (g .classes) (g .starts) (g .sizes) first) (record { refusal = named .refusal; state = first }) .state)
+      go true q r = (eqb-true (named .refusal) 0 q, records-after (g .parents) (g .flags) (g .classes) (g .starts) (g .sizes) first good-first r)
+      go false q r = absurd (eqb-false (named .refusal) 0 q r)
+
+  after : After first rs (table g .state)
+  after = both-taken .1
+
+  s : State
+  s = table g .state
+
+  names-many : s .tables .names ≡ length (namesOf (g .names) (g .ats) (g .lens))
+  unfolding s first named noTables
+  names-many =
+      after .numbers .names ∙ names-counted (g .names) (g .ats) (g .lens) [] noTables columns-even (both-taken .0)
+      ∙ (let k : 0 + length (g .ats) ≡ length (g .ats) = omega arith in k) ∙ sym (names-length (g .names) (g .ats) (g .lens) columns-even)
+
+  object-is : s .tables .object ≡ numberOf (indexOf objectName (namesOf (g .names) (g .ats) (g .lens)))
+  unfolding s first named noTables
+  object-is =
+      after .numbers .object ∙ names-noted (g .names) (g .ats) (g .lens) [] noTables (both-taken .0) .0
+      ∙ noted-index objectName (g .names) (g .ats) (g .lens) columns-even (both-taken .0)
+
+  pub cloneable-is : table g .state .tables .cloneable ≡ numberOf (indexOf cloneableName (namesOf (g .names) (g .ats) (g .lens)))
+  unfolding first named noTables
+  cloneable-is =
+      after .numbers .cloneable ∙ names-noted (g .names) (g .ats) (g .lens) [] noTables (both-taken .0) .1
+      ∙ noted-index cloneableName (g .names) (g .ats) (g .lens) columns-even (both-taken .0)
+
+  pub serializable-is : table g .state .tables .serializable ≡ numberOf (indexOf serializableName (namesOf (g .names) (g .ats) (g .lens)))
+  unfolding first named noTables
+  serializable-is =
+      after .numbers .serializable ∙ names-noted (g .names) (g .ats) (g .lens) [] noTables (both-taken .0) .2
+      ∙ noted-index serializableName (g .names) (g .ats) (g .lens) columns-even (both-taken .0)
+
+  -- rows are of classes of the table, so below 1,024
+  small-class : (c : ℕ) → isRecorded c rs ≡ true → c < 1024
+  unfolding first named
+  small-class c h = let x = after .class-in c h in let y = good-first .few in omega arith
+
+  unrecorded : (c : ℕ) → (c < 1024 → ⊥) → isRecorded c rs ≡ false
+  unrecorded c n = go (isRecorded c rs) refl
+    where
+      go : (b : Bool) → isRecorded c rs ≡ b → b ≡ false
+      go true q = absurd (n (small-class c q))
+      go false q = refl
+
+  recorded-is : (c : ℕ) → member (mark (s .marks) 0) c ≡ isRecorded c rs
+  unfolding mark s first named
+  recorded-is c = go (decLt c 1024)
+    where
+      go : Dec (c < 1024) → member (take 16 (drop (16 * 0) (table g .state .marks))) c ≡ isRecorded c rs
+      go (yes h) = mark-set (table g .state .marks) 0 c h ∙ after .recorded c h ∙ ap (λ (b : Bool). isRecorded c rs || b) (unmarked 0 c) ∙ or-false (isRecorded c rs)
+      go (no n) = marks-past (table g .state .marks) 0 c (good-in g .wide) (omega arith) n ∙ sym (unrecorded c n)
+
+  fact-is : (k : ℕ) (f : ℕ → Bool) → k < 4 → ((c : ℕ) → c < 1024 → isMarked k c (s .marks) ≡ factFrom f (lastDeclared c rs) (isMarked k c noMarks))
+      → (c : ℕ) → member (mark (s .marks) k) c ≡ factFrom f (lastDeclared c rs) false
+  unfolding mark s
+  fact-is k f l law c = go (decLt c 1024)
+    where
+      go : Dec (c < 1024) → member (take 16 (drop (16 * k) (table g .state .marks))) c ≡ factFrom f (lastDeclared c rs) false
+      go (yes h) = mark-set (table g .state .marks) k c h ∙ law c h ∙ ap (factFrom f (lastDeclared c rs)) (unmarked k c)
+      go (no n) = marks-past (table g .state .marks) k c (good-in g .wide) l n ∙ sym (fact-none f c rs (unrecorded c n))
+
+  keys : List ℕ
+  keys = take (s .tables .pairs) (s .keys)
+
+  keys-are : keys ≡ s .keys
+  unfolding keys s
+  keys-are = take-all (table g .state .tables .pairs) (table g .state .keys) (let n = good-in g .counted in omega arith)
+
+  parents-are : (c p : ℕ) → List·Memᴰ p (keyParents (s .tables .names) keys c) ↔ List·Memᴰ p (parentsOf c rs)
+  unfolding s first named elem
+  parents-are c p =
+      rw keys-are (
+        λ m. let b = parents-below (table g .state .tables .names) p (table g .state .keys) c m in
+            let k = entry (b .1) .0 m in
+            elem-member p (parentsOf c rs) (sym (or-false (elem p (parentsOf c rs))) ∙ sym (after-pairs (b .1)) ∙ k),
+        λ m. let h = member-elem p (parentsOf c rs) m in
+            let b = small h in
+            entry b .1 (after-pairs b ∙ or-false (elem p (parentsOf c rs)) ∙ h),
+      )
+    where
+      entry : p < 1024 → List·Memᴰ p (keyParents (table g .state .tables .names) (table g .state .keys) c) ↔ (elem (c * 1024 + p) (table g .state .keys) ≡ true)
+      entry h = parents-entry (table g .state .tables .names) p (table g .state .keys) c (good-in g .ordered) h (λ y m. good-in g .classes y m .1)
+
+      after-pairs : p < 1024 → elem (key c p) (table g .state .keys) ≡ (elem p (parentsOf c rs) || false)
+      after-pairs h = after .pairs c p h
+
+      small : elem p (parentsOf c rs) ≡ true → p < 1024
+      small h = let x = after .parent-in c p h .1 in let y = good-first .few in omega arith
+
+  parents-set : (c : ℕ) → keyParents (s .tables .names) keys c ≡ setOf (parentsOf c rs)
+  unfolding s keys
+  parents-set c =
+      same-members (keyParents (table g .state .tables .names) keys c) (setOf (parentsOf c rs))
+      (parents-sorted (table g .state .tables .names) c keys (subst Sorted (sym keys-are) (good-in g .ordered))) (set-sorted (parentsOf c rs))
+      (λ z. implied-both (elem z (keyParents (table g .state .tables .names) keys c)) (elem z (setOf (parentsOf c rs)))
+      (λ h. elem-set z (parentsOf c rs) ∙ member-elem z (parentsOf c rs) (parents-are c z .0 (elem-member z (keyParents (table g .state .tables .names) keys c) h)))
+      (λ h. member-elem z (keyParents (table g .state .tables .names) keys c) (parents-are c z .1 (elem-member z (parentsOf c rs) (sym (elem-set z (parentsOf c rs)) ∙ h)))))
+
+  -- THE VIEW IN THE WORDS OF THE ROWS, of every table that is taken
+  pub view-rows : viewIn g ≡ rowsView (rowsIn g)
+  unfolding viewIn rowsView rowsIn s rs keys first
+  view-rows i = record {
+    names = names-many i;
+    object = object-is i;
+    recorded = λ c. recorded-is c i;
+    parents = λ c. parents-set c i;
+    declared = λ c. fact-is 1 anyFlags (omega arith) (after .declared) c i;
+    interface = λ c. fact-is 2 interfaceFlag (omega arith) (after .interface) c i;
+    final = λ c. fact-is 3 finalFlag (omega arith) (after .final) c i;
+  }
+
+  -- and member by member, with the parents as the rows list them: y is a parent of c exactly if some row of c lists it
+  pub parents-listed : (c y : ℕ) → List·Memᴰ y (viewIn g .parents c) ↔ List·Memᴰ y (parentsOf c (rowsIn g .records))
+  unfolding viewIn rowsIn s rs keys
+  parents-listed c y = parents-are c y
+
+  few-names : length (g .ats) ≤ 1024
+  unfolding s first named noTables
+  few-names =
+      let n = names-counted (g .names) (g .ats) (g .lens) [] noTables columns-even (both-taken .0) in
+      let k = good-first .few in
+      omega arith
+
+  placed-small : (wanted : List ℕ) (i : ℕ) → indexOf wanted (namesOf (g .names) (g .ats) (g .lens)) ≡ some i → i < 2 ^ 64 - 1
+  unfolding Placed
+  placed-small wanted i q =
+      let p = subst (Placed wanted (g .names) (g .ats) (g .lens)) q (index-placed wanted (g .names) (g .ats) (g .lens) columns-even) .0 in
+      let k = few-names in
+      omega arith
+
+  -- THE WORLD IN THE WORDS OF THE ROWS: so every join, every assignability and every solve over it is that of the rows
+  pub world-rows : stateWorld (table g .state) ≡ rowsWorld (rowsIn g)
+  unfolding rowsWorld rowsIn viewIn
+  world-rows =
+      let a = ap present cloneable-is ∙ present-number (indexOf cloneableName (namesOf (g .names) (g .ats) (g .lens))) (placed-small cloneableName) in
+      let b = ap present serializable-is ∙ present-number (indexOf serializableName (namesOf (g .names) (g .ats) (g .lens))) (placed-small serializableName) in
+      λ i. worldWith (view-rows i) (a i) (b i)
+
+-- ---- a question that is not refused
+
+pub record Accepted (g : Given) (numbers : List ℕ) : Type 0 where
+  pub columns : even g ≡ true
+  pub taken : table g .refusal ≡ 0
+  pub numbers-in : allBelow (viewIn g .names) numbers ≡ true
+  pub good : view.Good (viewIn g)
+
+-- Object is a class, parents are classes, and the numbers asked are
+pub accepted : (g : Given) (numbers : List ℕ) (room : ℕ) → queryRefusal g numbers room ≡ 0 → Accepted g numbers
+unfolding queryRefusal queryChecks ranChecks checks.firstRefusal viewIn
+accepted g numbers room h = go (ltb room 8192) (even g) refl (eqb (table g .refusal) 0) refl (allBelow (table g .state .tables .names) numbers) refl (eqb (table g .state .tables .object) (2 ^ 64 - 1)) refl h
+  where
+    go : (a b : Bool) → even g ≡ b → (c : Bool) → eqb (table g .refusal) 0 ≡ c → (d : Bool) → allBelow (table g .state .tables .names) numbers ≡ d
+        → (o : Bool) → eqb (table g .state .tables .object) (2 ^ 64 - 1) ≡ o
+        → cond a 22 (cond (not b) 3 (cond (not c) (table g .refusal) (cond (not d) 6 (cond o 9 0)))) ≡ 0 → Accepted g numbers
+    go true b eb c ec d ed o eo q = absurd (omega arith)
+    go false false eb c ec d ed o eo q = absurd (omega arith)
+    go false true eb false ec d ed o eo q = absurd (eqb-false (table g .refusal) 0 ec q)
+    go false true eb true ec false ed o eo q = absurd (omega arith)
+    go false true eb true ec true ed true eo q = absurd (omega arith)
+    go false true eb true ec true ed false eo q = record {
+      columns = eb;
+      taken = eqb-true (table g .refusal) 0 ec;
+      numbers-in = ed;
+      good = view-good (table g .state .keys) (table g .state .marks) (classesOf (table g .state .tables)) (good-in g .few) (object-known g (eqb-false (table g .state .tables .object) (2 ^ 64 - 1) eo));
+    }
+
+-- SO EVERY ANSWER IS THAT OF THE ROWS
+pub value-rows : (g : Given) (numbers : List ℕ) (room : ℕ) → queryRefusal g numbers room ≡ 0
+    → (q : Query) (a b : ℕ) → valueOf (viewIn g) q a b ≡ valueOf (rowsView (rowsIn g)) q a b
+value-rows g numbers room h q a b = let k = accepted g numbers room h in ap (λ (v : View). valueOf v q a b) (view-rows g (k .columns) (k .taken))
