@@ -1,0 +1,2 @@
+-- Texts as bytes.
+pub mod Text
