@@ -5,19 +5,14 @@ use mathlib.Core.Bool.{Bool, true, false, cond, true≢false}
 use mathlib.Core.List.{List, [], _∷_, _++_, List·Memᴰ, List·Memᴰ·head, List·Memᴰ·tail, List·Memᴰ·not-nil, List·Memᴰ·cases-cons, List·Memᴰ·append-cases, Memᴰ·append-left, Memᴰ·append-right}
 use mathlib.Core.Logic.{_⊎_, inl, inr, ⊎-elim, _↔_}
 use mathlib.Core.Option.{Option, some, none}
-use Prim.Native.Nat.{ℕ, zero, suc, _≤_, _<_}
+use Prim.Native.Nat.{ℕ, suc, _≤_, _<_}
 use native.Mathlib.Omega.{arith}
 use native.Mathlib.Decide.{ℕ-discrete}
 use lib.Dec.{eqb}
-use lib.ListN.{length, getD}
+use lib.ListN.{length}
 use borrow.Author.Tests.{ne-eqb, eqb-true, eqb-false}
-use Rattle.order.specs.Compare.{compareLists, isEqual}
-use Rattle.order.specs.Laws.{lists-equal}
-use Rattle.order.specs.declared.Order.{Order}
-use Rattle.order.specs.declared.Order.the-variants.{Less, Equal, Greater}
-use Rattle.names.specs.Names.{next}
-use Rattle.view.specs.View.{View, numberOf, reach, steps, far, distance}
-use Rattle.view.specs.Reach.{Good, Path, here, there, reach-exactly, path-reach, steps-path, steps-least, steps-exactly, steps-below}
+use Rattle.view.specs.View.{numberOf, reach, steps, far, distance}
+use Rattle.view.specs.Reach.{Good, Path, here, there, reach-exactly, steps-path, steps-least, steps-exactly, steps-below}
 use Rattle.view.specs.Ancestors.{distance-reached, distance-object}
 use Rattle.rows.specs.Rows.{objectName}
 use Rattle.tableview.specs.TableRows.{Record, Rows, parentsOf, setOf, indexOf, rowsView}
