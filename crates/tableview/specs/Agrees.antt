@@ -45,7 +45,7 @@ use Rattle.tableview.specs.Taken.{After, records-after}
 
 -- ---- names
 
-names-length : (bytes ats lens : List ℕ) → length ats ≡ length lens → length (namesOf bytes ats lens) ≡ length ats
+pub names-length : (bytes ats lens : List ℕ) → length ats ≡ length lens → length (namesOf bytes ats lens) ≡ length ats
 unfolding namesOf
 names-length bytes [] lens e = refl
 names-length bytes (at ∷ ats) [] e = absurd (omega arith)
@@ -137,7 +137,7 @@ fact-none f c (r ∷ rs) h = go (eqb (r .class) c) refl h (lastDeclared c rs) re
 
 -- ---- parents as ascending sets
 
-set-sorted : (xs : List ℕ) → Sorted (setOf xs)
+pub set-sorted : (xs : List ℕ) → Sorted (setOf xs)
 unfolding setOf
 set-sorted [] = tt
 set-sorted (x ∷ xs) = put-sorted x (setOf xs) (set-sorted xs)
