@@ -4,3 +4,5 @@ pub mod Refusals
 pub mod Descriptors
 pub mod Contracts
 pub mod Parts
+pub mod Numbers
+pub mod Writers

@@ -1,0 +1,214 @@
+-- The exported writers, lookup and the readers together: what was written is read back, what was read is written back, and a name is found where
+-- it stands; of every result that their contracts allow, as the check reads them. Assumes nothing.
+use mathlib.Core.Path.{_≡_, refl, sym, ap, ap₂, _∙_, subst}
+use mathlib.Core.Bool.{Bool, true, false, cond, not, _&&_, true≢false, false≢true}
+use mathlib.Core.List.{List, [], _∷_, _++_, append-nil}
+use mathlib.Core.Logic.{_⊎_, inl, inr, ⊎-elim, _↔_}
+use mathlib.Core.Option.{Option, some, none, Option·map, bind}
+use Prim.Native.Nat.{ℕ, zero, suc, _+_, _*_, _^_, _≤_, _<_}
+use native.Mathlib.Omega.{arith}
+use native.Mathlib.Decide.{decLt}
+use lib.Dec.{eqb, ltb}
+use lib.ListN.{length, take, drop, getD}
+use lib.Seq.{take-append-seam}
+use borrow.Author.Tests.{ltb-false}
+use borrow.Fn.Kinds.{Dens, resT, endedOf}
+use denote.Triple.Clauses.{AtExit}
+use denote.Ref.{now}
+use contract.Lifetimes.{Lfts}
+use Rattle.order.specs.Truth.{both}
+use Rattle.ty.specs.Types.{ArgType, Primitive, Object, Array, Unknown, depth}
+use Rattle.ty.specs.Words.{typeOf, wordOf, legalWord, allLegal}
+use Rattle.ty.specs.Round.{legal-of-word}
+use Rattle.checks.specs.Checks.{firstRefusal, else-zero}
+use Rattle.names.specs.declared.LookedUp.{LookedUp}
+use Rattle.names.specs.Names.{nameAt, checkNames, lookup, found, lookUp}
+use Rattle.names.specs.Table.{Checked, checked, accepted}
+use Rattle.names.specs.Lookup.{lookup-is, lookup-told, lookup-none, look-searched}
+use Rattle.descriptor.specs.declared.Base.{Base}
+use Rattle.descriptor.specs.declared.Base.the-variants.{Simple, Class}
+use Rattle.jvms.specs.Jvms as jvms
+use Rattle.writer.specs.Print.{printWord, printMethodWords, checkedTypeRefusal, typeRefusal, checkedMethodRefusal, methodRefusal, answer, output, typesOf}
+use Rattle.writer.specs.Steps.{type-named, type-fits, method-named, method-fits}
+use Rattle.bracepuffin.proofs.bp_lookup.Reads as bp-lookup-reads
+use Rattle.bracepuffin.proofs.bp_lookup.Kinds as bp-lookup-kinds
+use Rattle.writer.specs.ToWord.{toType, readAs, toWord, MethodWords, toWords}
+use Rattle.writer.specs.Readable.{readable, allReadable, named, allNamed}
+use Rattle.writer.specs.Round.{write-read-place, write-read-word, read-write-word, read-write-words, write-read-words, type-again, method-again}
+use Rattle.descriptor.specs.Read.{readWhole}
+use Rattle.jvms.specs.Meaning.{typeAt, typeRead, Limits, placed, starts}
+use Rattle.bracepuffin.proofs.bp_read_type.Reads as bp-read-type-reads
+use Rattle.bracepuffin.proofs.bp_read_type.Kinds as bp-read-type-kinds
+use Rattle.bracepuffin.proofs.bp_read_method.Reads as bp-read-method-reads
+use Rattle.bracepuffin.proofs.bp_read_method.Kinds as bp-read-method-kinds
+use Rattle.bracepuffin.proofs.bp_write_type.Reads as bp-write-type-reads
+use Rattle.bracepuffin.proofs.bp_write_type.Kinds as bp-write-type-kinds
+use Rattle.bracepuffin.proofs.bp_write_method.Reads as bp-write-method-reads
+use Rattle.bracepuffin.proofs.bp_write_method.Kinds as bp-write-method-kinds
+use Rattle.bracepuffin.specs.declared.BpType.{BpType}
+use Rattle.bracepuffin.specs.declared.BpFound.{BpFound}
+use Rattle.bracepuffin.specs.declared.BpWritten.{BpWritten}
+use Rattle.bracepuffin.specs.declared.BpMethod.{BpMethod}
+use Rattle.bracepuffin.specs.Boundary.{typeFound, typeAnswer, Wrote, writtenAnswer, foundAnswer}
+
+-- ---- lookup
+
+-- the answer to a key: its number where it stands, 23 where it stands nowhere, and nothing else
+pub record Finds (bytes ats lens key : List ℕ) (r : BpFound) : Type 0 where
+  pub there : (i : ℕ) → (r ≡ record { refusal = 0; «class_no» = i }) ↔ ((i < length ats) × (nameAt bytes ats lens i ≡ key))
+  pub absent : (r ≡ record { refusal = 23; «class_no» = 0 }) ↔ ((i : ℕ) → i < length ats → nameAt bytes ats lens i ≡ key → ⊥)
+  pub only : ((i : ℕ) × (r ≡ record { refusal = 0; «class_no» = i })) ⊎ (r ≡ record { refusal = 23; «class_no» = 0 })
+
+module _ (bytes ats lens key : List ℕ) (k : Checked bytes ats lens) where
+  looked : foundAnswer (found (lookup bytes ats lens key)) ≡ foundAnswer (lookUp bytes ats lens key)
+  looked = ap foundAnswer (look-searched bytes ats lens key 0 (found (lookup bytes ats lens key)) (sym (accepted bytes ats lens k)) refl refl)
+
+  finds-by : (o : Option ℕ) → lookup bytes ats lens key ≡ o → Finds bytes ats lens key (foundAnswer (found o))
+  finds-by none e = record {
+    there = λ i. (λ q. absurd (let z : _≡_ {A = ℕ} 23 0 = ap (λ (r : BpFound). r .refusal) q in omega arith), λ h. absurd (nowhere (i, lookup-is bytes ats lens key k i .1 h)));
+    absent = (λ q i h n. nowhere (i, lookup-is bytes ats lens key k i .1 (h, n)), λ f. refl);
+    only = inr refl;
+  }
+    where
+      nowhere : (i : ℕ) × (lookup bytes ats lens key ≡ some i) → ⊥
+      nowhere w = let a = w .1 in let z : _≡_ {A = ℕ} 0 1 = cc in omega arith
+  finds-by (some j) e = record {
+    there = λ i. (
+      λ q. lookup-told bytes ats lens key i (e ∙ ap some (ap (λ (r : BpFound). r .«class_no») q)),
+      λ h. let f = lookup-is bytes ats lens key k i .1 h in let z : j ≡ i = cc in ap (λ (n : ℕ). record { refusal = 0; «class_no» = n }) z,
+    );
+    absent = (
+      λ q. absurd (let z : _≡_ {A = ℕ} 0 23 = ap (λ (r : BpFound). r .refusal) q in omega arith),
+      λ f. let w = lookup-told bytes ats lens key j e in absurd (f j (w .0) (w .1)),
+    );
+    only = inl (j, refl);
+  }
+
+  finds : Finds bytes ats lens key (foundAnswer (lookUp bytes ats lens key))
+  finds = subst (Finds bytes ats lens key) looked (finds-by (lookup bytes ats lens key) refl)
+
+-- BP_LOOKUP OVER CHECKED NAMES GIVES THE NUMBER OF A NAME WHERE IT STANDS, ELSE 23
+pub bp-lookup : (κs : Lfts 4) (a : Dens κs bp-lookup-kinds.ps) (r : resT bp-lookup-kinds.r κs .Denot) (x : AtExit (endedOf 4 bp-lookup-kinds.ps bp-lookup-kinds.r) κs)
+    → bp-lookup-reads.Post κs a r x → Checked (now (a .0)) (now (a .1 .0)) (now (a .1 .1 .0))
+    → Finds (now (a .0)) (now (a .1 .0)) (now (a .1 .1 .0)) (now (a .1 .1 .1 .0)) r
+bp-lookup κs a r x p k = subst (Finds (now (a .0)) (now (a .1 .0)) (now (a .1 .1 .0)) (now (a .1 .1 .1 .0))) (sym p) (finds (now (a .0)) (now (a .1 .0)) (now (a .1 .1 .0)) (now (a .1 .1 .1 .0)) k)
+
+-- ---- what is written
+
+-- a writer's answer: taken exactly if `may`, and then the bytes stand in front of the output
+pub record Writes (may : Type 0) (printed out out′ : List ℕ) (r : BpWritten) : Type 0 where
+  pub taken : (r .refusal ≡ 0) ↔ may
+  pub bytes : r .refusal ≡ 0 → (r .«length» ≡ length printed) × (out′ ≡ printed ++ drop (length printed) out)
+  pub otherwise : (r .refusal ≡ 0 → ⊥) → (r .«length» ≡ 0) × (out′ ≡ out)
+
+writes : (may : Type 0) (k : ℕ) (printed out out′ : List ℕ) (r : BpWritten) → (k ≡ 0) ↔ may → Wrote k printed out out′ r → Writes may printed out out′ r
+unfolding answer output
+writes may k printed out out′ r e w = go k e (w .result) (w .memory)
+  where
+    go : (m : ℕ) → (m ≡ 0) ↔ may → r ≡ writtenAnswer (answer m printed) → out′ ≡ output m printed out → Writes may printed out out′ r
+    go zero f q o = record {
+      taken = (λ z. f .0 refl, λ h. ap (λ (y : BpWritten). y .refusal) q);
+      bytes = λ z. (ap (λ (y : BpWritten). y .«length») q, o);
+      otherwise = λ n. absurd (n (ap (λ (y : BpWritten). y .refusal) q));
+    }
+    go (suc m) f q o = record {
+      taken = (λ z. absurd (let t = ap (λ (y : BpWritten). y .refusal) q in omega arith), λ h. absurd (let t = f .1 h in omega arith));
+      bytes = λ z. absurd (let t = ap (λ (y : BpWritten). y .refusal) q in omega arith);
+      otherwise = λ n. (ap (λ (y : BpWritten). y .«length») q, o);
+    }
+
+module _ (bytes ats lens : List ℕ) where
+  -- A TYPE IS WRITTEN EXACTLY IF THE NAMES ARE CHECKED, THE WORD IS LEGAL AND THE OUTPUT HAS ROOM
+  pub type-taken : (w room : ℕ)
+      → (typeRefusal bytes ats lens w room ≡ 0) ↔ (Checked bytes ats lens × (legalWord (length ats) w ≡ true) × (length (printWord bytes ats lens w) ≤ room))
+  unfolding typeRefusal checkedTypeRefusal firstRefusal
+  type-taken w room = (
+    λ z. let e = else-zero (checkNames bytes ats lens) (checkedTypeRefusal bytes ats lens w room) .0 z in
+        let f = to (legalWord (length ats) w) refl (ltb room (length (printWord bytes ats lens w))) refl (e .1) in
+        (checked bytes ats lens (e .0), f .0, f .1),
+    λ h. type-named bytes ats lens 0 (sym (accepted bytes ats lens (h .0))) w room refl ∙ type-fits bytes ats lens w room (h .1) (h .2),
+  )
+    where
+      to : (a : Bool) → legalWord (length ats) w ≡ a → (b : Bool) → ltb room (length (printWord bytes ats lens w)) ≡ b → cond {A = ℕ} (not a) 7 (cond b 22 0) ≡ 0
+          → (legalWord (length ats) w ≡ true) × (length (printWord bytes ats lens w) ≤ room)
+      to false p b q z = absurd (omega arith)
+      to true p true q z = absurd (omega arith)
+      to true p false q z = (p, ltb-false room (length (printWord bytes ats lens w)) q)
+
+  -- A METHOD WITH AT MOST 255 PARAMETERS THE SAME
+  pub method-taken : (ws : List ℕ) (w room : ℕ)
+      → (methodRefusal bytes ats lens ws w room ≡ 0)
+      ↔ (Checked bytes ats lens × (length ws ≤ 255) × (allLegal (length ats) ws ≡ true) × (legalWord (length ats) w ≡ true) × (length (printMethodWords bytes ats lens ws w) ≤ room))
+  unfolding methodRefusal checkedMethodRefusal firstRefusal
+  method-taken ws w room = (
+    λ z. let e = else-zero (checkNames bytes ats lens) (checkedMethodRefusal bytes ats lens ws w room) .0 z in
+        let f = to (ltb 255 (length ws)) refl (allLegal (length ats) ws && legalWord (length ats) w) refl (ltb room (length (printMethodWords bytes ats lens ws w))) refl (e .1) in
+        let g = both (allLegal (length ats) ws) (legalWord (length ats) w) (f .1) in
+        (checked bytes ats lens (e .0), f .0, g .0, g .1, f .2),
+    λ h. method-named bytes ats lens 0 (sym (accepted bytes ats lens (h .0))) ws w room refl ∙ method-fits bytes ats lens ws w room (h .1) (h .2) (h .3) (h .4),
+  )
+    where
+      to : (a : Bool) → ltb 255 (length ws) ≡ a → (b : Bool) → (allLegal (length ats) ws && legalWord (length ats) w) ≡ b → (c : Bool) → ltb room (length (printMethodWords bytes ats lens ws w)) ≡ c
+          → cond {A = ℕ} a 8 (cond (not b) 7 (cond c 22 0)) ≡ 0
+          → (length ws ≤ 255) × ((allLegal (length ats) ws && legalWord (length ats) w) ≡ true) × (length (printMethodWords bytes ats lens ws w) ≤ room)
+      to true p b q c o z = absurd (omega arith)
+      to false p false q c o z = absurd (omega arith)
+      to false p true q true o z = absurd (omega arith)
+      to false p true q false o z = (ltb-false 255 (length ws) p, q, ltb-false room (length (printMethodWords bytes ats lens ws w)) o)
+
+-- BP_WRITE_TYPE
+pub bp-write-type : (κs : Lfts 4) (a : Dens κs bp-write-type-kinds.ps) (r : resT bp-write-type-kinds.r κs .Denot) (x : AtExit (endedOf 4 bp-write-type-kinds.ps bp-write-type-kinds.r) κs)
+    → bp-write-type-reads.Post κs a r x
+    → let bytes = now (a .0) in let ats = now (a .1 .0) in let lens = now (a .1 .1 .0) in let w = a .1 .1 .1 .0 in let out = now (a .1 .1 .1 .1 .0) in
+    Writes (Checked bytes ats lens × (legalWord (length ats) w ≡ true) × (length (printWord bytes ats lens w) ≤ length out)) (printWord bytes ats lens w) out (now (x .1 .1 .1 .1 .0)) r
+bp-write-type κs a r x p = writes _ _ _ _ _ r (type-taken (now (a .0)) (now (a .1 .0)) (now (a .1 .1 .0)) (a .1 .1 .1 .0) (length (now (a .1 .1 .1 .1 .0)))) p
+
+-- BP_WRITE_METHOD
+pub bp-write-method : (κs : Lfts 5) (a : Dens κs bp-write-method-kinds.ps) (r : resT bp-write-method-kinds.r κs .Denot) (x : AtExit (endedOf 5 bp-write-method-kinds.ps bp-write-method-kinds.r) κs)
+    → bp-write-method-reads.Post κs a r x
+    → let bytes = now (a .0) in let ats = now (a .1 .0) in let lens = now (a .1 .1 .0) in let ws = now (a .1 .1 .1 .0) in let w = a .1 .1 .1 .1 .0 in let out = now (a .1 .1 .1 .1 .1 .0) in
+    Writes (Checked bytes ats lens × (length ws ≤ 255) × (allLegal (length ats) ws ≡ true) × (legalWord (length ats) w ≡ true) × (length (printMethodWords bytes ats lens ws w) ≤ length out))
+    (printMethodWords bytes ats lens ws w) out (now (x .1 .1 .1 .1 .1 .0)) r
+bp-write-method κs a r x p =
+    writes _ _ _ _ _ r (method-taken (now (a .0)) (now (a .1 .0)) (now (a .1 .1 .0)) (now (a .1 .1 .1 .0)) (a .1 .1 .1 .1 .0) (length (now (a .1 .1 .1 .1 .1 .0)))) p
+
+-- ---- written, then read
+
+-- r is what bytes s are read as where they are the descriptor of a word: its dimensions and the place of its name; and s has that word
+pub record ReadBack (bytes ats lens s : List ℕ) (w : ℕ) (r : BpType) : Type 0 where
+  pub fields : r ≡ typeFound (depth (typeOf w)) (placed 0 (named (nameAt bytes ats lens) (typeOf w)))
+  pub word : toWord bytes ats lens s ≡ some w
+
+-- no Unknown, no category 9 or 10, Void only without dimensions, no ';' in the name
+module _ (bytes ats lens : List ℕ) (k : Checked bytes ats lens) (w : ℕ) (l : w < 2 ^ 64) (h : legalWord (length ats) w ≡ true) (free : readable (nameAt bytes ats lens) true (typeOf w) ≡ true) where
+  read-back : ReadBack bytes ats lens (printWord bytes ats lens w) w (typeAnswer (readWhole (printWord bytes ats lens w)))
+  unfolding printWord
+  read-back = record {
+    fields = ap typeAnswer (write-read-place bytes ats lens k (typeOf w) (legal-of-word (length ats) w l h) free);
+    word = write-read-word bytes ats lens k w l h free;
+  }
+
+front : (printed out out′ : List ℕ) (n : ℕ) → n ≡ length printed → out′ ≡ printed ++ drop (length printed) out → take n out′ ≡ printed
+front printed out out′ n e f = ap₂ (λ (m : ℕ) (o : List ℕ). take m o) e f ∙ take-append-seam printed (drop (length printed) out)
+
+-- WHAT BP_WRITE_TYPE WROTE, BP_READ_TYPE READS BACK
+pub bp-write-read-type : (κs : Lfts 4) (a : Dens κs bp-write-type-kinds.ps) (r : resT bp-write-type-kinds.r κs .Denot) (x : AtExit (endedOf 4 bp-write-type-kinds.ps bp-write-type-kinds.r) κs)
+    → bp-write-type-reads.Post κs a r x
+    → (λs : Lfts 1) (b : Dens λs bp-read-type-kinds.ps) (q : resT bp-read-type-kinds.r λs .Denot) (y : AtExit (endedOf 1 bp-read-type-kinds.ps bp-read-type-kinds.r) λs)
+    → bp-read-type-reads.Post λs b q y
+    → r .refusal ≡ 0 → a .1 .1 .1 .0 < 2 ^ 64 → readable (nameAt (now (a .0)) (now (a .1 .0)) (now (a .1 .1 .0))) true (typeOf (a .1 .1 .1 .0)) ≡ true
+    → now (b .0) ≡ take (r .«length») (now (x .1 .1 .1 .1 .0))
+    → ReadBack (now (a .0)) (now (a .1 .0)) (now (a .1 .1 .0)) (now (b .0)) (a .1 .1 .1 .0) q
+bp-write-read-type κs a r x p λs b q y o z l free e =
+    let bytes = now (a .0) in
+    let ats = now (a .1 .0) in
+    let lens = now (a .1 .1 .0) in
+    let w = a .1 .1 .1 .0 in
+    let t = bp-write-type κs a r x p in
+    let h = t .taken .0 z in
+    let same : now (b .0) ≡ printWord bytes ats lens w = e ∙ front (printWord bytes ats lens w) (now (a .1 .1 .1 .1 .0)) (now (x .1 .1 .1 .1 .0)) (r .«length») (t .bytes z .0) (t .bytes z .1) in
+    let back = read-back bytes ats lens (h .0) w l (h .1) free in
+    record {
+      fields = o ∙ ap (λ (s : List ℕ). typeAnswer (readWhole s)) same ∙ back .fields;
+      word = ap (toWord bytes ats lens) same ∙ back .word;
+    }
