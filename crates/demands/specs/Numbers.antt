@@ -244,16 +244,19 @@ after-number bs (Stopped code o byte) h =
     ⊎-elim (λ v. inr (inl v))
     (λ v.
     let f = v .1 in
-    inr (inr (v .0, record {
-      bytes = f .bytes;
-      first = f .first;
-      rest = f .rest;
-      params = f .params;
-      stands = ap (λ (x : List ℕ). 40 ∷ x) (f .stands);
-      derived = f .derived;
-      many = omega (arith, f .many);
-      other = f .other;
-    })))
+    inr (inr (
+      v .0,
+      record {
+        bytes = f .bytes;
+        first = f .first;
+        rest = f .rest;
+        params = f .params;
+        stands = ap (λ (x : List ℕ). 40 ∷ x) (f .stands);
+        derived = f .derived;
+        many = omega (arith, f .many);
+        other = f .other;
+      },
+    )))
     w)
     h
 

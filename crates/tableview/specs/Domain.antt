@@ -1,7 +1,7 @@
 -- The domain of a class table in the words of its rows, and that a table of columns is taken exactly if each row lies inside its slice and the
 -- rows are in the domain. Assumes nothing.
 use mathlib.Core.Path.{_≡_, refl, sym, ap, ap₂, _∙_, subst}
-use mathlib.Core.Bool.{Bool, true, false, cond, not, _&&_, _||_, false≢true}
+use mathlib.Core.Bool.{Bool, true, false, cond, _&&_, _||_, false≢true, or-false, or-assoc}
 use mathlib.Core.List.{List, [], _∷_, _++_, map, List·Memᴰ, List·Memᴰ·head, List·Memᴰ·tail, List·Memᴰ·not-nil, List·Memᴰ·cases-cons}
 use mathlib.Core.Logic.{_⊎_, inl, inr, ⊎-elim, _↔_}
 use mathlib.Core.Option.{Option, some, none}
@@ -20,7 +20,7 @@ use Rattle.order.specs.declared.Order.the-variants.{Less, Equal, Greater}
 use Rattle.utf8.specs.Utf8.{wellFormed}
 use Rattle.sorted.specs.Sorted.{Sorted, put}
 use Rattle.sorted.specs.Laws.{same-members}
-use Rattle.view.specs.View.{View, numberOf}
+use Rattle.view.specs.View.{numberOf}
 use Rattle.view.specs.Reach.{Good}
 use Rattle.checks.specs.Checks as checks
 use Rattle.names.specs.Names.{nameOf, nameAt, next, checkNames}
@@ -33,11 +33,11 @@ use Rattle.rows.specs.Laws.{Sound, record-good, record-taken, good-record}
 use Rattle.columns.specs.Columns.{inside, placedRecord, nameRows, recordRows, tableOf}
 use Rattle.columns.specs.Laws.{inside-is, record-inside, record-outside, names-good}
 use Rattle.columns.specs.Names.{inside-length, names-agree, names-checked, names-counted}
-use Rattle.queries.specs.Queries.{Given, even, evenLengths, noMarks, table, viewIn}
-use Rattle.queries.specs.Laws.{even-is}
+use Rattle.columns.specs.Given.{Given, even, evenLengths, noMarks, table}
+use Rattle.columns.specs.GivenLaws.{even-is}
 use Rattle.tableview.specs.TableRows.{Record, Rows, setOf, indexOf, rowsView, namesOf, recordsOf, rowsIn}
 use Rattle.tableview.specs.Taken.{elem-below, placed-taken}
-use Rattle.tableview.specs.Agrees.{view-rows, names-length, member-elem, elem-set, set-sorted}
+use Rattle.tableview.specs.Agrees.{names-length, member-elem, elem-set, set-sorted}
 use Rattle.tableview.specs.Canonical.{joined}
 use Rattle.tableview.specs.Paths.{parents-exactly}
 
@@ -99,28 +99,28 @@ pub record InDomain (t : Rows) : Type 0 where
 
 -- two columns for the names and four for the rows, of equal length each
 pub record Aligned (g : Given) : Type 0 where
-  pub lens-as : length (g .lens) ≡ length (g .ats)
-  pub classes-as : length (g .classes) ≡ length (g .flags)
-  pub starts-as : length (g .starts) ≡ length (g .flags)
-  pub sizes-as : length (g .sizes) ≡ length (g .flags)
+  pub lengths-as : length (g .«name_len») ≡ length (g .«name_at»)
+  pub classes-as : length (g .«rec_class») ≡ length (g .«rec_flags»)
+  pub starts-as : length (g .«rec_at») ≡ length (g .«rec_flags»)
+  pub sizes-as : length (g .«rec_len») ≡ length (g .«rec_flags»)
 
 -- each name inside the bytes, each list of parents inside the parents
 pub record Placed (g : Given) : Type 0 where
-  pub names-in : (i : ℕ) → i < length (g .ats) → getD (g .ats) i 0 + getD (g .lens) i 0 ≤ length (g .names)
-  pub parents-in : (i : ℕ) → i < length (g .flags) → getD (g .starts) i 0 + getD (g .sizes) i 0 ≤ length (g .parents)
+  pub names-in : (i : ℕ) → i < length (g .«name_at») → getD (g .«name_at») i 0 + getD (g .«name_len») i 0 ≤ length (g .names)
+  pub parents-in : (i : ℕ) → i < length (g .«rec_flags») → getD (g .«rec_at») i 0 + getD (g .«rec_len») i 0 ≤ length (g .parents)
 
 -- ---- columns
 
 pub even-exactly : (g : Given) → (even g ≡ true) ↔ Aligned g
 unfolding even evenLengths
 even-exactly g = (
-  λ e. let q = even-is (length (g .ats)) (length (g .lens)) (length (g .flags)) (length (g .classes)) (length (g .starts)) (length (g .sizes)) e in
-      record { lens-as = sym (q .0); classes-as = sym (q .1); starts-as = sym (q .2); sizes-as = sym (q .3) },
+  λ e. let q = even-is (length (g .«name_at»)) (length (g .«name_len»)) (length (g .«rec_flags»)) (length (g .«rec_class»)) (length (g .«rec_at»)) (length (g .«rec_len»)) e in
+      record { lengths-as = sym (q .0); classes-as = sym (q .1); starts-as = sym (q .2); sizes-as = sym (q .3) },
   λ a. rw (
-    eq-eqb (length (g .ats)) (length (g .lens)) (sym (a .lens-as)),
-    eq-eqb (length (g .flags)) (length (g .classes)) (sym (a .classes-as)),
-    eq-eqb (length (g .flags)) (length (g .starts)) (sym (a .starts-as)),
-    eq-eqb (length (g .flags)) (length (g .sizes)) (sym (a .sizes-as)),
+    eq-eqb (length (g .«name_at»)) (length (g .«name_len»)) (sym (a .lengths-as)),
+    eq-eqb (length (g .«rec_flags»)) (length (g .«rec_class»)) (sym (a .classes-as)),
+    eq-eqb (length (g .«rec_flags»)) (length (g .«rec_at»)) (sym (a .starts-as)),
+    eq-eqb (length (g .«rec_flags»)) (length (g .«rec_len»)) (sym (a .sizes-as)),
   ),
 )
 
@@ -231,15 +231,11 @@ or-move true false c = refl
 or-move false true c = refl
 or-move false false c = refl
 
-or-assoc : (a b c : Bool) → (a || (b || c)) ≡ ((a || b) || c)
-or-assoc true b c = refl
-or-assoc false b c = refl
-
 elem-listed : (z c : ℕ) (ps : List ℕ) (qs : List Pair) → elem z (keysOf (listed c ps ++ qs)) ≡ (elem z (map (key c) ps) || elem z (keysOf qs))
 unfolding elem keysOf listed keyOf
 elem-listed z c [] qs = refl
 elem-listed z c (p ∷ ps) qs =
-    ap (λ (b : Bool). eqb (key c p) z || b) (elem-listed z c ps qs) ∙ or-assoc (eqb (key c p) z) (elem z (map (key c) ps)) (elem z (keysOf qs))
+    ap (λ (b : Bool). eqb (key c p) z || b) (elem-listed z c ps qs) ∙ sym (or-assoc (eqb (key c p) z) (elem z (map (key c) ps)) (elem z (keysOf qs)))
 
 elem-from : (z : ℕ) (rs : List Record) (l : List ℕ) → elem z (keysFrom rs l) ≡ (elem z (keysOf (pairsOf rs)) || elem z l)
 unfolding keysFrom keysOf pairsOf elem
@@ -249,10 +245,6 @@ elem-from z (r ∷ rs) l =
     ∙ ap (λ (b : Bool). elem z (keysOf (pairsOf rs)) || b) (all-has (r .class) z (r .parents) l)
     ∙ or-move (elem z (map (key (r .class)) (r .parents))) (elem z (keysOf (pairsOf rs))) (elem z l)
     ∙ ap (λ (b : Bool). b || elem z l) (sym (elem-listed z (r .class) (r .parents) (pairsOf rs)))
-
-or-false : (b : Bool) → (b || false) ≡ b
-or-false true = refl
-or-false false = refl
 
 -- the keys of rows from none are those of their pairs, as a set
 from-set : (rs : List Record) → keysFrom rs [] ≡ setOf (keysOf (pairsOf rs))
@@ -489,17 +481,17 @@ module _ (bytes ats lens : List ℕ) (e : length lens ≡ length ats) where
 
 module _ (g : Given) (aligned : Aligned g) where
   named : Outcome
-  named = nameRows (g .names) (g .ats) (g .lens) [] noTables
+  named = nameRows (g .names) (g .«name_at») (g .«name_len») [] noTables
 
   start : State
   start = record { tables = named .tables; keys = []; marks = noMarks }
 
   records : Ran
-  records = recordRows (g .parents) (g .flags) (g .classes) (g .starts) (g .sizes) start
+  records = recordRows (g .parents) (g .«rec_flags») (g .«rec_class») (g .«rec_at») (g .«rec_len») start
 
   sound : Sound start
   unfolding start named
-  sound = names-good (g .names) (g .ats) (g .lens) noMarks refl
+  sound = names-good (g .names) (g .«name_at») (g .«name_len») noMarks refl
 
   both-taken : (table g .refusal ≡ 0) ↔ ((named .refusal ≡ 0) × (records .refusal ≡ 0))
   unfolding table tableOf named records start
@@ -512,12 +504,12 @@ module _ (g : Given) (aligned : Aligned g) where
   many-names : named .refusal ≡ 0 → start .tables .names ≡ length (rowsIn g .names)
   unfolding start named rowsIn noTables
   many-names z =
-      names-counted (g .names) (g .ats) (g .lens) [] noTables (sym (aligned .lens-as)) z
-      ∙ (let k : 0 + length (g .ats) ≡ length (g .ats) = omega arith in k) ∙ sym (names-length (g .names) (g .ats) (g .lens) (sym (aligned .lens-as)))
+      names-counted (g .names) (g .«name_at») (g .«name_len») [] noTables (sym (aligned .lengths-as)) z
+      ∙ (let k : 0 + length (g .«name_at») ≡ length (g .«name_at») = omega arith in k) ∙ sym (names-length (g .names) (g .«name_at») (g .«name_len») (sym (aligned .lengths-as)))
 
-  all-taken : table g .refusal ≡ 0 → TakenAll start (g .parents) (g .flags) (g .classes) (g .starts) (g .sizes) (records .state)
+  all-taken : table g .refusal ≡ 0 → TakenAll start (g .parents) (g .«rec_flags») (g .«rec_class») (g .«rec_at») (g .«rec_len») (records .state)
   unfolding records
-  all-taken z = records-fit (g .parents) (g .flags) (g .classes) (g .starts) (g .sizes) start sound (aligned .classes-as) (aligned .starts-as) (aligned .sizes-as) (both-taken .0 z .1)
+  all-taken z = records-fit (g .parents) (g .«rec_flags») (g .«rec_class») (g .«rec_at») (g .«rec_len») start sound (aligned .classes-as) (aligned .starts-as) (aligned .sizes-as) (both-taken .0 z .1)
 
   -- A TABLE IS TAKEN EXACTLY IF EACH ROW LIES INSIDE ITS SLICE AND THE ROWS ARE WITHIN THE LIMITS
   pub table-exactly : (table g .refusal ≡ 0) ↔ (Placed g × InLimits (rowsIn g))
@@ -530,7 +522,7 @@ module _ (g : Given) (aligned : Aligned g) where
       to : table g .refusal ≡ 0 → Placed g × InLimits (rowsIn g)
       to z =
           let t = both-taken .0 z in
-          let n = names-exactly (g .names) (g .ats) (g .lens) (aligned .lens-as) .0 (t .0) in
+          let n = names-exactly (g .names) (g .«name_at») (g .«name_len») (aligned .lengths-as) .0 (t .0) in
           let f = all-taken z .fit in (
             record { names-in = n .placed; parents-in = f .placed },
             record {
@@ -546,11 +538,11 @@ module _ (g : Given) (aligned : Aligned g) where
       from : Placed g × InLimits (rowsIn g) → table g .refusal ≡ 0
       from w =
           let l = w .1 in
-          let z = names-exactly (g .names) (g .ats) (g .lens) (aligned .lens-as) .1
+          let z = names-exactly (g .names) (g .«name_at») (g .«name_len») (aligned .lengths-as) .1
           (record { placed = w .0 .names-in; few = l .few-names; short = l .few-bytes; good = l .names-good; rising = l .rising }) in
           both-taken .1 (
             z,
-            fit-taken (g .parents) (g .flags) (g .classes) (g .starts) (g .sizes) start sound (record {
+            fit-taken (g .parents) (g .«rec_flags») (g .«rec_class») (g .«rec_at») (g .«rec_len») start sound (record {
               placed = w .0 .parents-in;
               good = λ r m. subst (λ (k : ℕ). GoodRow k r) (sym (many-names z)) (l .rows-good r m);
               room = let c = pairs-counted (length (rowsIn g .names)) (rowsIn g .records) (l .few-names) (l .rows-good) in let k = l .few-pairs in omega arith;
@@ -623,23 +615,18 @@ domain-good t d = record {
     bound : (i : ℕ) → numberOf (indexOf objectName (t .names)) ≡ numberOf (some i) → i < length (t .names) → numberOf (indexOf objectName (t .names)) < length (t .names)
     bound i e l = omega arith
 
--- OBJECT'S NUMBER IS NOT ALL ONES EXACTLY IF ITS NAME IS THERE, in a table that is taken
-pub object-there : (g : Given) → even g ≡ true → table g .refusal ≡ 0 → (table g .state .tables .object ≡ 2 ^ 64 - 1 → ⊥) ↔ List·Memᴰ objectName (rowsIn g .names)
-unfolding viewIn rowsView numberOf
-object-there g e z = (λ n. to (indexOf objectName (rowsIn g .names)) refl n, from)
+-- OBJECT'S NUMBER IS NOT ALL ONES EXACTLY IF ITS NAME IS THERE
+pub object-there : (t : Rows) → length (t .names) ≤ 1024 → (rowsView t .object ≡ 2 ^ 64 - 1 → ⊥) ↔ List·Memᴰ objectName (t .names)
+unfolding rowsView numberOf
+object-there t few = (λ n. to (indexOf objectName (t .names)) refl n, from)
   where
-    is : table g .state .tables .object ≡ numberOf (indexOf objectName (rowsIn g .names))
-    is = ap (λ (v : View). v .object) (view-rows g e z)
+    to : (o : Option ℕ) → indexOf objectName (t .names) ≡ o → (numberOf (indexOf objectName (t .names)) ≡ 2 ^ 64 - 1 → ⊥) → List·Memᴰ objectName (t .names)
+    to none q n = absurd (n (ap numberOf q))
+    to (some i) q n = index-exactly objectName (t .names) .1 (i, q)
 
-    to : (o : Option ℕ) → indexOf objectName (rowsIn g .names) ≡ o → (table g .state .tables .object ≡ 2 ^ 64 - 1 → ⊥) → List·Memᴰ objectName (rowsIn g .names)
-    to none q n = absurd (n (is ∙ ap numberOf q))
-    to (some i) q n = index-exactly objectName (rowsIn g .names) .1 (i, q)
-
-    from : List·Memᴰ objectName (rowsIn g .names) → table g .state .tables .object ≡ 2 ^ 64 - 1 → ⊥
+    from : List·Memᴰ objectName (t .names) → numberOf (indexOf objectName (t .names)) ≡ 2 ^ 64 - 1 → ⊥
     from m f =
-        let w = index-exactly objectName (rowsIn g .names) .0 m in
-        let l = table-exactly g (even-exactly g .0 e) .0 z .1 .few-names in
-        let r = index-name objectName (rowsIn g .names) (w .0) (w .1) .0 in
-        let k : numberOf (indexOf objectName (rowsIn g .names)) ≡ w .0 = ap numberOf (w .1) in
-        let q = is in
+        let w = index-exactly objectName (t .names) .0 m in
+        let r = index-name objectName (t .names) (w .0) (w .1) .0 in
+        let k : numberOf (indexOf objectName (t .names)) ≡ w .0 = ap numberOf (w .1) in
         omega arith
