@@ -28,7 +28,9 @@ use Rattle.names.specs.Lookup.{lookup-is, lookup-told, lookup-none, look-search
 use Rattle.descriptor.specs.declared.Base.{Base}
 use Rattle.descriptor.specs.declared.Base.the-variants.{Simple, Class}
 use Rattle.jvms.specs.Jvms as jvms
+use Rattle.jvms.specs.Jvms.{JavaType, dimensions, AnyName, ReturnDescriptor, Signature, MethodDescriptor, MethodDescriptor.method}
 use Rattle.writer.specs.Print.{printWord, printMethodWords, checkedTypeRefusal, typeRefusal, checkedMethodRefusal, methodRefusal, answer, output, typesOf}
+use Rattle.writer.specs.Print as print
 use Rattle.writer.specs.Steps.{type-named, type-fits, method-named, method-fits}
 use Rattle.bracepuffin.proofs.bp_lookup.Reads as bp-lookup-reads
 use Rattle.bracepuffin.proofs.bp_lookup.Kinds as bp-lookup-kinds
@@ -36,6 +38,8 @@ use Rattle.writer.specs.ToWord.{toType, readAs, toWord, MethodWords, toWords}
 use Rattle.writer.specs.Readable.{readable, allReadable, named, allNamed}
 use Rattle.writer.specs.Round.{write-read-place, write-read-word, read-write-word, read-write-words, write-read-words, type-again, method-again}
 use Rattle.descriptor.specs.Read.{readWhole}
+use Rattle.jvms.specs.Ends.{stands-return}
+use Rattle.jvms.specs.JvmsTheorem.{ordinary-type, ordinary-method}
 use Rattle.jvms.specs.Meaning.{typeAt, typeRead, Limits, placed, starts}
 use Rattle.bracepuffin.proofs.bp_read_type.Reads as bp-read-type-reads
 use Rattle.bracepuffin.proofs.bp_read_type.Kinds as bp-read-type-kinds
@@ -50,6 +54,8 @@ use Rattle.bracepuffin.specs.declared.BpFound.{BpFound}
 use Rattle.bracepuffin.specs.declared.BpWritten.{BpWritten}
 use Rattle.bracepuffin.specs.declared.BpMethod.{BpMethod}
 use Rattle.bracepuffin.specs.Boundary.{typeFound, typeAnswer, Wrote, writtenAnswer, foundAnswer}
+use Rattle.demands.specs.Descriptors.{methodFound, ReadsMethod}
+use Rattle.demands.specs.Contracts.{bp-read-type, bp-read-method}
 
 -- ---- lookup
 
@@ -212,3 +218,78 @@ bp-write-read-type κs a r x p λs b q y o z l free e =
       fields = o ∙ ap (λ (s : List ℕ). typeAnswer (readWhole s)) same ∙ back .fields;
       word = ap (toWord bytes ats lens) same ∙ back .word;
     }
+
+-- ---- read, then written
+
+-- the word of what was read, c being the number of its class
+abbrev pub wordRead : BpType → ℕ → ℕ
+wordRead r c = r .dims * 2 ^ 56 + cond (eqb (r .tag) 0) (r .category) (2 ^ 48 + c)
+
+abbrev baseWord : Base → ℕ → ℕ
+baseWord (Simple k) c = k
+baseWord (Class at n) c = 2 ^ 48 + c
+
+found-word : (d : ℕ) (b : Base) (c : ℕ) → wordRead (typeFound d b) c ≡ d * 2 ^ 56 + baseWord b c
+found-word d (Simple k) c = refl
+found-word d (Class at n) c = refl
+
+module _ (bytes ats lens s : List ℕ) (k : Checked bytes ats lens) (c : ℕ) where
+  -- the name at that place in s is name c
+  abbrev Held : Base → Type 0
+  Held (Simple j) = Unit {0}
+  Held (Class at n) = (c < length ats) × (nameAt bytes ats lens c ≡ take n (drop at s))
+
+  word-back : (t : JavaType) (at : ℕ) → typeAt s (dimensions t) (placed at t) ≡ t → Held (placed at t)
+      → (u : ArgType) × (toType (lookup bytes ats lens) t ≡ some u) × (wordOf u ≡ dimensions t * 2 ^ 56 + baseWord (placed at t) c)
+  unfolding dimensions placed toType wordOf typeAt
+  word-back (jvms.Primitive j) at e h = (Primitive j, refl, omega arith)
+  word-back (jvms.Object name) at e h =
+      let same : take (length name) (drop (at + 1) s) ≡ name = cc in
+      (Object c, ap (Option·map Object) (lookup-is bytes ats lens name k c .1 (h .0, h .1 ∙ same)), omega arith)
+  word-back (jvms.Array t) at e h =
+      let inner : typeAt s (dimensions t) (placed (at + 1) t) ≡ t = cc in
+      let w = word-back t (at + 1) inner h in
+      (Array (w .0), ap (Option·map Array) (w .1), let q = w .2 in omega arith)
+
+  held-by : (dims : ℕ) (q : BpType) (b : Base) → q ≡ typeFound dims b
+      → (q .tag ≡ 1 → (c < length ats) × (nameAt bytes ats lens c ≡ take (q .«name_len») (drop (q .«name_at») s))) → Held b
+  held-by dims q (Simple j) e h = tt
+  held-by dims q (Class at n) e h =
+      let w = h (ap (λ (v : BpType). v .tag) e) in
+      (w .0, w .1 ∙ ap₂ (λ (m i : ℕ). take m (drop i s)) (ap (λ (v : BpType). v .«name_len») e) (ap (λ (v : BpType). v .«name_at») e))
+
+-- a descriptor that is read as a type has that type's word
+word-is : (bytes ats lens d : List ℕ) (t : JavaType) (u : ArgType) (w : ℕ) → typeRead d (readWhole d) ≡ some t → toType (lookup bytes ats lens) t ≡ some u → wordOf u ≡ w
+    → toWord bytes ats lens d ≡ some w
+unfolding toWord readAs bind
+word-is bytes ats lens d t u w e f g = rw (e, f, g)
+
+-- the bytes d stand in front of the output, and their number in the answer
+pub record Again (d out out′ : List ℕ) (r : BpWritten) : Type 0 where
+  pub result : r ≡ record { refusal = 0; «length» = length d }
+  pub memory : out′ ≡ d ++ drop (length d) out
+
+again : {k : ℕ} {printed d out out′ : List ℕ} {r : BpWritten} → print.Wrote k printed out (d ++ drop (length d) out) (record { refusal = 0; «length» = length d })
+    → Wrote k printed out out′ r → Again d out out′ r
+again v w = record { result = w .result ∙ ap writtenAnswer (sym (v .result)); memory = w .memory ∙ sym (v .memory) }
+
+-- WHAT BP_READ_TYPE READ, BP_WRITE_TYPE WRITES BACK, the class by the number of its name
+pub bp-read-write-type : (λs : Lfts 1) (b : Dens λs bp-read-type-kinds.ps) (q : resT bp-read-type-kinds.r λs .Denot) (y : AtExit (endedOf 1 bp-read-type-kinds.ps bp-read-type-kinds.r) λs)
+    → bp-read-type-reads.Post λs b q y
+    → (κs : Lfts 4) (a : Dens κs bp-write-type-kinds.ps) (r : resT bp-write-type-kinds.r κs .Denot) (x : AtExit (endedOf 4 bp-write-type-kinds.ps bp-write-type-kinds.r) κs)
+    → bp-write-type-reads.Post κs a r x
+    → q .refusal ≡ 0 → Checked (now (a .0)) (now (a .1 .0)) (now (a .1 .1 .0))
+    → (c : ℕ) → (q .tag ≡ 1 → (c < length (now (a .1 .0))) × (nameAt (now (a .0)) (now (a .1 .0)) (now (a .1 .1 .0)) c ≡ take (q .«name_len») (drop (q .«name_at») (now (b .0)))))
+    → a .1 .1 .1 .0 ≡ wordRead q c → length (now (b .0)) ≤ length (now (a .1 .1 .1 .1 .0))
+    → Again (now (b .0)) (now (a .1 .1 .1 .1 .0)) (now (x .1 .1 .1 .1 .0)) r
+bp-read-write-type λs b q y o κs a r x p z k c h e room =
+    let d = now (b .0) in
+    let bytes = now (a .0) in
+    let ats = now (a .1 .0) in
+    let lens = now (a .1 .1 .0) in
+    let reads = bp-read-type λs b q y o in
+    let t = reads .accepted .0 z in
+    let is = reads .fields (t .0) (t .1) (t .2) in
+    let back = word-back bytes ats lens d k c (t .0) 0 (stands-return (t .1) d [] 0 (sym (append-nil d))) (held-by bytes ats lens d k c (dimensions (t .0)) q (placed 0 (t .0)) is h) in
+    let same : wordOf (back .0) ≡ a .1 .1 .1 .0 = back .2 ∙ sym (found-word (dimensions (t .0)) (placed 0 (t .0)) c) ∙ ap (λ (v : BpType). wordRead v c) (sym is) ∙ sym e in
+    again (type-again bytes ats lens d (now (a .1 .1 .1 .1 .0)) (accepted bytes ats lens k) room (a .1 .1 .1 .0) (word-is bytes ats lens d (t .0) (back .0) (a .1 .1 .1 .0) (ordinary-type d (t .0) .1 (t .1, t .2)) (back .1) same)) p
