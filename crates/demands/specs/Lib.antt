@@ -6,3 +6,5 @@ pub mod Contracts
 pub mod Parts
 pub mod Numbers
 pub mod Writers
+pub mod Asked
+pub mod Classes

@@ -1,13 +1,12 @@
 -- The exported writers, lookup and the readers together: what was written is read back, what was read is written back, and a name is found where
 -- it stands; of every result that their contracts allow, as the check reads them. Assumes nothing.
 use mathlib.Core.Path.{_≡_, refl, sym, ap, ap₂, _∙_, subst}
-use mathlib.Core.Bool.{Bool, true, false, cond, not, _&&_, true≢false, false≢true}
+use mathlib.Core.Bool.{Bool, true, false, cond, not, _&&_}
 use mathlib.Core.List.{List, [], _∷_, _++_, append-nil}
-use mathlib.Core.Logic.{_⊎_, inl, inr, ⊎-elim, _↔_}
+use mathlib.Core.Logic.{_⊎_, inl, inr, _↔_}
 use mathlib.Core.Option.{Option, some, none, Option·map, bind}
 use Prim.Native.Nat.{ℕ, zero, suc, _+_, _*_, _^_, _≤_, _<_}
 use native.Mathlib.Omega.{arith}
-use native.Mathlib.Decide.{decLt}
 use lib.Dec.{eqb, ltb}
 use lib.ListN.{length, take, drop, getD}
 use lib.Seq.{take-append-seam}
@@ -21,22 +20,23 @@ use Rattle.ty.specs.Types.{ArgType, Primitive, Object, Array, Unknown, depth}
 use Rattle.ty.specs.Words.{typeOf, wordOf, legalWord, allLegal}
 use Rattle.ty.specs.Round.{legal-of-word}
 use Rattle.checks.specs.Checks.{firstRefusal, else-zero}
-use Rattle.names.specs.declared.LookedUp.{LookedUp}
 use Rattle.names.specs.Names.{nameAt, checkNames, lookup, found, lookUp}
 use Rattle.names.specs.Table.{Checked, checked, accepted}
-use Rattle.names.specs.Lookup.{lookup-is, lookup-told, lookup-none, look-searched}
+use Rattle.names.specs.Lookup.{lookup-is, lookup-told, look-searched}
 use Rattle.descriptor.specs.declared.Base.{Base}
 use Rattle.descriptor.specs.declared.Base.the-variants.{Simple, Class}
 use Rattle.jvms.specs.Jvms as jvms
-use Rattle.jvms.specs.Jvms.{JavaType, dimensions, AnyName, ReturnDescriptor, Signature, MethodDescriptor, MethodDescriptor.method}
-use Rattle.writer.specs.Print.{printWord, printMethodWords, checkedTypeRefusal, typeRefusal, checkedMethodRefusal, methodRefusal, answer, output, typesOf}
+use Rattle.jvms.specs.Jvms.{JavaType, dimensions, AnyName, Signature, MethodDescriptor}
+use Rattle.writer.specs.Print.{printMethod, printWord, printMethodWords, checkedTypeRefusal, typeRefusal, checkedMethodRefusal, methodRefusal, answer, output, typesOf}
 use Rattle.writer.specs.Print as print
 use Rattle.writer.specs.Steps.{type-named, type-fits, method-named, method-fits}
 use Rattle.bracepuffin.proofs.bp_lookup.Reads as bp-lookup-reads
 use Rattle.bracepuffin.proofs.bp_lookup.Kinds as bp-lookup-kinds
 use Rattle.writer.specs.ToWord.{toType, readAs, toWord, MethodWords, toWords}
-use Rattle.writer.specs.Readable.{readable, allReadable, named, allNamed}
-use Rattle.writer.specs.Round.{write-read-place, write-read-word, read-write-word, read-write-words, write-read-words, type-again, method-again}
+use Rattle.writer.specs.Readable.{readable, allReadable, named, allNamed, named-depth, named-length, named-low, return-derived, parameters-derived}
+use Rattle.writer.specs.Derived.{limits-parts, legalTypes}
+use Rattle.writer.specs.Held.{HoldsAll, words-there}
+use Rattle.writer.specs.Round.{write-read-place, write-read-word, write-read-words, type-again, method-again}
 use Rattle.descriptor.specs.Read.{readWhole}
 use Rattle.jvms.specs.Ends.{stands-return}
 use Rattle.jvms.specs.JvmsTheorem.{ordinary-type, ordinary-method}
@@ -293,3 +293,100 @@ bp-read-write-type λs b q y o κs a r x p z k c h e room =
     let back = word-back bytes ats lens d k c (t .0) 0 (stands-return (t .1) d [] 0 (sym (append-nil d))) (held-by bytes ats lens d k c (dimensions (t .0)) q (placed 0 (t .0)) is h) in
     let same : wordOf (back .0) ≡ a .1 .1 .1 .0 = back .2 ∙ sym (found-word (dimensions (t .0)) (placed 0 (t .0)) c) ∙ ap (λ (v : BpType). wordRead v c) (sym is) ∙ sym e in
     again (type-again bytes ats lens d (now (a .1 .1 .1 .1 .0)) (accepted bytes ats lens k) room (a .1 .1 .1 .0) (word-is bytes ats lens d (t .0) (back .0) (a .1 .1 .1 .0) (ordinary-type d (t .0) .1 (t .1, t .2)) (back .1) same)) p
+
+-- ---- the same of methods
+
+types-legal : (names : ℕ) (ws : List ℕ) → ((i : ℕ) → getD ws i 0 < 2 ^ 64) → allLegal names ws ≡ true → legalTypes names (typesOf ws) ≡ true
+unfolding allLegal legalTypes
+types-legal names [] l h = refl
+types-legal names (w ∷ ws) l h =
+    let b = both (legalWord names w) (allLegal names ws) h in
+    rw (legal-of-word names w (l 0) (b .0)) (types-legal names ws (λ i. l (suc i)) (b .1))
+
+types-length : (ws : List ℕ) → length (typesOf ws) ≡ length ws
+types-length [] = refl
+types-length (w ∷ ws) = ap suc (types-length ws)
+
+-- the signature of a method's words, with classes by name
+abbrev pub signatureOf : List ℕ → List ℕ → List ℕ → List ℕ → ℕ → Signature
+signatureOf bytes ats lens ws w = record { parameters = allNamed (nameAt bytes ats lens) (typesOf ws); result = named (nameAt bytes ats lens) (typeOf w) }
+
+-- r and the slice of offsets are what bytes s are read as where they are the descriptor of words; and s has those words
+pub record MethodBack (bytes ats lens s ws : List ℕ) (w : ℕ) (params params′ : List ℕ) (r : BpMethod) : Type 0 where
+  pub fields : r ≡ methodFound (signatureOf bytes ats lens ws w)
+  pub offsets : params′ ≡ starts 1 (signatureOf bytes ats lens ws w .parameters) ++ drop (length ws) params
+  pub words : toWords bytes ats lens s ≡ some (record { params = ws; result = w })
+
+-- no Unknown, no category 9 or 10, Void only as the result and without dimensions, no ';' in a name
+pub record Readable (bytes ats lens ws : List ℕ) (w : ℕ) : Type 0 where
+  pub parameters : allReadable (nameAt bytes ats lens) (typesOf ws) ≡ true
+  pub result : readable (nameAt bytes ats lens) true (typeOf w) ≡ true
+
+module _ (bytes ats lens : List ℕ) (k : Checked bytes ats lens) (ws : List ℕ) (w : ℕ) (n : length ws ≤ 255) (ls : (i : ℕ) → getD ws i 0 < 2 ^ 64) (l : w < 2 ^ 64)
+    (hs : allLegal (length ats) ws ≡ true) (h : legalWord (length ats) w ≡ true) (free : Readable bytes ats lens ws w) where
+  written-derived : MethodDescriptor AnyName (printMethodWords bytes ats lens ws w) (signatureOf bytes ats lens ws w)
+  unfolding printMethodWords printMethod
+  written-derived =
+      method (parameters-derived bytes ats lens k (typesOf ws) (types-legal (length ats) ws ls hs) (free .parameters))
+      (return-derived bytes ats lens k (typeOf w) (limits-parts (length ats) (typeOf w) (legal-of-word (length ats) w l h) .1) (free .result))
+
+  written-limits : Limits (signatureOf bytes ats lens ws w)
+  written-limits =
+      let name = nameAt bytes ats lens in
+      let c = named-length name (typesOf ws) in
+      let m = types-length ws in
+      let s = limits-parts (length ats) (typeOf w) (legal-of-word (length ats) w l h) in
+      let e = named-depth name (typeOf w) in
+      record {
+        parameters = omega arith;
+        each = named-low name (length ats) (typesOf ws) (types-legal (length ats) ws ls hs);
+        result = omega arith;
+      }
+
+  method-back : (s params params′ : List ℕ) (r : BpMethod) → s ≡ printMethodWords bytes ats lens ws w → ReadsMethod AnyName s params params′ r → MethodBack bytes ats lens s ws w params params′ r
+  method-back s params params′ r e reads =
+      let derived = subst (λ (y : List ℕ). MethodDescriptor AnyName y (signatureOf bytes ats lens ws w)) (sym e) written-derived in
+      let many : length (allNamed (nameAt bytes ats lens) (typesOf ws)) ≡ length ws = named-length (nameAt bytes ats lens) (typesOf ws) ∙ types-length ws in
+      record {
+        fields = reads .fields (signatureOf bytes ats lens ws w) derived written-limits;
+        offsets = reads .offsets (signatureOf bytes ats lens ws w) derived written-limits
+            ∙ ap (λ (m : ℕ). starts 1 (allNamed (nameAt bytes ats lens) (typesOf ws)) ++ drop m params) many;
+        words = ap (toWords bytes ats lens) e ∙ write-read-words bytes ats lens k ws w n ls hs (free .parameters) l h (free .result);
+      }
+
+-- WHAT BP_WRITE_METHOD WROTE, BP_READ_METHOD READS BACK
+pub bp-write-read-method : (κs : Lfts 5) (a : Dens κs bp-write-method-kinds.ps) (r : resT bp-write-method-kinds.r κs .Denot) (x : AtExit (endedOf 5 bp-write-method-kinds.ps bp-write-method-kinds.r) κs)
+    → bp-write-method-reads.Post κs a r x
+    → (λs : Lfts 2) (b : Dens λs bp-read-method-kinds.ps) (q : resT bp-read-method-kinds.r λs .Denot) (y : AtExit (endedOf 2 bp-read-method-kinds.ps bp-read-method-kinds.r) λs)
+    → bp-read-method-reads.Post λs b q y
+    → r .refusal ≡ 0 → ((i : ℕ) → getD (now (a .1 .1 .1 .0)) i 0 < 2 ^ 64) → a .1 .1 .1 .1 .0 < 2 ^ 64
+    → Readable (now (a .0)) (now (a .1 .0)) (now (a .1 .1 .0)) (now (a .1 .1 .1 .0)) (a .1 .1 .1 .1 .0)
+    → now (b .0) ≡ take (r .«length») (now (x .1 .1 .1 .1 .1 .0)) → 255 ≤ length (now (b .1 .0))
+    → MethodBack (now (a .0)) (now (a .1 .0)) (now (a .1 .1 .0)) (now (b .0)) (now (a .1 .1 .1 .0)) (a .1 .1 .1 .1 .0) (now (b .1 .0)) (now (y .1 .0)) q
+bp-write-read-method κs a r x p λs b q y o z ls l free e room =
+    let bytes = now (a .0) in
+    let ats = now (a .1 .0) in
+    let lens = now (a .1 .1 .0) in
+    let ws = now (a .1 .1 .1 .0) in
+    let w = a .1 .1 .1 .1 .0 in
+    let printed = printMethodWords bytes ats lens ws w in
+    let t = bp-write-method κs a r x p in
+    let h = t .taken .0 z in
+    let same : now (b .0) ≡ printed = e ∙ front printed (now (a .1 .1 .1 .1 .1 .0)) (now (x .1 .1 .1 .1 .1 .0)) (r .«length») (t .bytes z .0) (t .bytes z .1) in
+    method-back bytes ats lens (h .0) ws w (h .1) ls l (h .2) (h .3) free (now (b .0)) (now (b .1 .0)) (now (y .1 .0)) q same (bp-read-method λs b q y o room)
+
+-- WHAT BP_READ_METHOD READ HAS WORDS WHERE THE TABLE HOLDS ITS CLASSES, AND BP_WRITE_METHOD WRITES THEM BACK
+pub bp-read-write-method : (λs : Lfts 2) (b : Dens λs bp-read-method-kinds.ps) (q : resT bp-read-method-kinds.r λs .Denot) (y : AtExit (endedOf 2 bp-read-method-kinds.ps bp-read-method-kinds.r) λs)
+    → bp-read-method-reads.Post λs b q y → 255 ≤ length (now (b .1 .0)) → q .refusal ≡ 0
+    → (bytes ats lens : List ℕ) → Checked bytes ats lens → ((m : Signature) → MethodDescriptor AnyName (now (b .0)) m → HoldsAll bytes ats lens m)
+    → (u : MethodWords) × (toWords bytes ats lens (now (b .0)) ≡ some u)
+    × ((κs : Lfts 5) (a : Dens κs bp-write-method-kinds.ps) (r : resT bp-write-method-kinds.r κs .Denot) (x : AtExit (endedOf 5 bp-write-method-kinds.ps bp-write-method-kinds.r) κs)
+    → bp-write-method-reads.Post κs a r x
+    → now (a .0) ≡ bytes → now (a .1 .0) ≡ ats → now (a .1 .1 .0) ≡ lens → now (a .1 .1 .1 .0) ≡ u .params → a .1 .1 .1 .1 .0 ≡ u .result
+    → length (now (b .0)) ≤ length (now (a .1 .1 .1 .1 .1 .0))
+    → Again (now (b .0)) (now (a .1 .1 .1 .1 .1 .0)) (now (x .1 .1 .1 .1 .1 .0)) r)
+bp-read-write-method λs b q y o room z bytes ats lens k holds =
+    let d = now (b .0) in
+    let m = bp-read-method λs b q y o room .accepted .0 z in
+    let w = words-there bytes ats lens k d .1 (m .0, ordinary-method d (m .0) .1 (m .1, m .2), holds (m .0) (m .1)) in
+    (w .0, w .1, λ κs a r x p eb ea el ep er fits. again (method-again bytes ats lens d (now (a .1 .1 .1 .1 .1 .0)) (accepted bytes ats lens k) fits (w .0) (w .1)) (rw (eb, ea, el, ep, er) at p))
