@@ -8,3 +8,4 @@ pub mod Numbers
 pub mod Writers
 pub mod Asked
 pub mod Classes
+pub mod Types

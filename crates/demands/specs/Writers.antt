@@ -26,7 +26,7 @@ use Rattle.names.specs.Lookup.{lookup-is, lookup-told, look-searched}
 use Rattle.descriptor.specs.declared.Base.{Base}
 use Rattle.descriptor.specs.declared.Base.the-variants.{Simple, Class}
 use Rattle.jvms.specs.Jvms as jvms
-use Rattle.jvms.specs.Jvms.{JavaType, dimensions, AnyName, Signature, MethodDescriptor}
+use Rattle.jvms.specs.Jvms.{JavaType, dimensions, AnyName, Signature, MethodDescriptor, MethodDescriptor.method}
 use Rattle.writer.specs.Print.{printMethod, printWord, printMethodWords, checkedTypeRefusal, typeRefusal, checkedMethodRefusal, methodRefusal, answer, output, typesOf}
 use Rattle.writer.specs.Print as print
 use Rattle.writer.specs.Steps.{type-named, type-fits, method-named, method-fits}
