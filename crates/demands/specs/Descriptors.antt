@@ -35,7 +35,7 @@ pub record ReadsType (Name : List ℕ → Type 0) (s : List ℕ) (r : BpType) : 
   pub accepted : (r .refusal ≡ 0) ↔ ((t : JavaType) × ReturnDescriptor Name s t × (dimensions t ≤ 255))
   pub fields : (t : JavaType) → ReturnDescriptor Name s t → dimensions t ≤ 255 → r ≡ typeFound (dimensions t) (placed 0 t)
 
-type-accepted : (d : ℕ) (b : Base) → typeFound d b .refusal ≡ 0
+pub type-accepted : (d : ℕ) (b : Base) → typeFound d b .refusal ≡ 0
 type-accepted d (Simple k) = refl
 type-accepted d (Class at n) = refl
 

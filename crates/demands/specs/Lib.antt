@@ -9,3 +9,4 @@ pub mod Writers
 pub mod Asked
 pub mod Classes
 pub mod Types
+pub mod NotRefused

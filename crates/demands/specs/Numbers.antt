@@ -227,7 +227,7 @@ MethodNumber s (Whole offsets at result) = TypeNumber s result
 MethodNumber s (Broken code o byte) = ((11 ≤ code) × (code ≤ 17)) ⊎ (((code ≡ 18) × Deep s) ⊎ ((code ≡ 19) × Crowded s))
 
 abbrev pub StrictMethodNumber : List ℕ → Method → Type 0
-StrictMethodNumber s (Whole offsets at result) = Unit {0}
+StrictMethodNumber s (Whole offsets at result) = StrictNumber s result
 StrictMethodNumber s (Broken code o byte) = ((11 ≤ code) × (code ≤ 17)) ⊎ ((code ≡ 24) ⊎ (((code ≡ 18) × Deep s) ⊎ ((code ≡ 19) × Crowded s)))
 
 after-number : (bs : List ℕ) (p : Params) → ListNumber (40 ∷ bs) 1 0 p → MethodNumber (40 ∷ bs) (afterParams (40 ∷ bs) p)
