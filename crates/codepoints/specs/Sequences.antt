@@ -1,0 +1,270 @@
+-- One code point is one sequence of table 3-7: the bytes of a scalar value fit a row, and bytes that fit a row are those of a scalar value. Assumes nothing.
+use mathlib.Core.Path.{_≡_, refl, sym, ap, subst, _∙_}
+use mathlib.Core.Bool.{Bool, true, false, cond, _&&_}
+use mathlib.Core.List.{List, [], _∷_, _++_, List·Memᴰ, List·Memᴰ·head, List·Memᴰ·tail, List·Memᴰ·not-nil, append-cancel-left, cons≢nil}
+use Prim.Native.Nat.{ℕ, zero, suc, _+_, _-_, _*_, _/_, _%_, _≤_, _<_}
+use native.Mathlib.Omega.{arith}
+use lib.Dec.{leb, ltb}
+use lib.ListN.{length, getD}
+use borrow.Author.Tests.{ltb-true, ltb-false, leb-true, leb-false, lt-ltb, le-ltb, le-leb, lt-leb, not-true}
+use Rattle.utf8.specs.Utf8.{Range, _‥_, table, Fits, Fits.done, Fits.next}
+use Rattle.utf8.specs.Rows.{and-parts}
+use Rattle.codepoints.specs.CodePoints.{isScalar, following, encode}
+
+on-either-side : {A : Type 0} (c n : ℕ) → (c < n → A) → (n ≤ c → A) → A
+on-either-side {A} c n below above = go (ltb c n) refl
+  where
+    go : (t : Bool) → ltb c n ≡ t → A
+    go true e = below (ltb-true c n e)
+    go false e = above (ltb-false c n e)
+
+-- ---- scalar values
+
+pub scalar-low : (c : ℕ) → c < 0xD800 → isScalar c ≡ true
+unfolding isScalar
+scalar-low c h = rw (le-leb c 0x10FFFF (omega arith), lt-leb 0xD800 c h)
+
+pub scalar-high : (c : ℕ) → 0xE000 ≤ c → c ≤ 0x10FFFF → isScalar c ≡ true
+unfolding isScalar
+scalar-high c l h = rw (le-leb c 0x10FFFF h, le-leb 0xD800 c (omega arith), lt-leb c 0xDFFF l)
+
+pub scalar-last : (c : ℕ) → isScalar c ≡ true → c ≤ 0x10FFFF
+unfolding isScalar
+scalar-last c s = leb-true c 0x10FFFF (and-parts (leb c 0x10FFFF) _ s .0)
+
+pub scalar-past : (c : ℕ) → isScalar c ≡ true → 0xD800 ≤ c → 0xE000 ≤ c
+unfolding isScalar
+scalar-past c s l =
+    let e = not-true (leb 0xD800 c && leb c 0xDFFF) (and-parts (leb c 0x10FFFF) _ s .1) in
+    leb-false c 0xDFFF (rw (le-leb 0xD800 c l) at e)
+
+-- ---- the bytes of a code point, by its length
+
+encode-one : (c : ℕ) → c < 0x80 → encode c ≡ c ∷ []
+unfolding encode
+encode-one c h = rw (lt-ltb c 0x80 h)
+
+encode-two : (c : ℕ) → 0x80 ≤ c → c < 0x800 → encode c ≡ (0xC0 + c / 0x40) ∷ (0x80 + c % 0x40) ∷ []
+unfolding encode following
+encode-two c l h = rw (le-ltb c 0x80 l, lt-ltb c 0x800 h)
+
+encode-three : (c : ℕ) → 0x800 ≤ c → c < 0x10000 → encode c ≡ (0xE0 + c / 0x1000) ∷ (0x80 + c / 0x40 % 0x40) ∷ (0x80 + c % 0x40) ∷ []
+unfolding encode following
+encode-three c l h = rw (le-ltb c 0x80 (omega arith), le-ltb c 0x800 l, lt-ltb c 0x10000 h)
+
+encode-four : (c : ℕ) → 0x10000 ≤ c → encode c ≡ (0xF0 + c / 0x40000) ∷ (0x80 + c / 0x1000 % 0x40) ∷ (0x80 + c / 0x40 % 0x40) ∷ (0x80 + c % 0x40) ∷ []
+unfolding encode following
+encode-four c l = rw (le-ltb c 0x80 (omega arith), le-ltb c 0x800 (omega arith), le-ltb c 0x10000 l)
+
+-- ---- the bytes of a scalar value fit a row
+
+-- a row of the table, by its number
+listed : (rows : List (List Range)) (k : ℕ) → k < length rows → List·Memᴰ (getD rows k []) rows
+listed [] k h = absurd (omega arith)
+listed (row ∷ rows) zero h = List·Memᴰ·head refl
+listed (row ∷ rows) (suc k) h = List·Memᴰ·tail (listed rows k (omega arith))
+
+-- the bytes are a sequence of the table
+pub record Stands (xs : List ℕ) : Type 0 where
+  pub row : List Range
+  pub listed : List·Memᴰ row table
+  pub fits : Fits row xs
+
+one-stands : (c : ℕ) → c < 0x80 → Stands (encode c)
+unfolding table
+one-stands c h = subst Stands (sym (encode-one c h)) (record {
+  row = 0x00 ‥ 0x7F ∷ [];
+  listed = listed table 0 (omega arith);
+  fits = next {b = c} (omega arith) (omega arith) done;
+})
+
+two-stands : (c : ℕ) → 0x80 ≤ c → c < 0x800 → Stands (encode c)
+unfolding table
+two-stands c l h = subst Stands (sym (encode-two c l h)) (record {
+  row = 0xC2 ‥ 0xDF ∷ 0x80 ‥ 0xBF ∷ [];
+  listed = listed table 1 (omega arith);
+  fits = next {b = 0xC0 + c / 0x40} (omega arith) (omega arith) (next {b = 0x80 + c % 0x40} (omega arith) (omega arith) done);
+})
+
+three-stands : (c : ℕ) (r q : Range) → List·Memᴰ (r ∷ q ∷ 0x80 ‥ 0xBF ∷ []) table → 0x800 ≤ c → c < 0x10000 → r .lo ≤ 0xE0 + c / 0x1000 → 0xE0 + c / 0x1000 ≤ r .hi
+    → q .lo ≤ 0x80 + c / 0x40 % 0x40 → 0x80 + c / 0x40 % 0x40 ≤ q .hi → Stands (encode c)
+three-stands c r q m l h p₁ p₂ p₃ p₄ = subst Stands (sym (encode-three c l h)) (record {
+  row = r ∷ q ∷ 0x80 ‥ 0xBF ∷ [];
+  listed = m;
+  fits = next p₁ p₂ (next p₃ p₄ (next {b = 0x80 + c % 0x40} (omega arith) (omega arith) done));
+})
+
+four-stands : (c : ℕ) (r q : Range) → List·Memᴰ (r ∷ q ∷ 0x80 ‥ 0xBF ∷ 0x80 ‥ 0xBF ∷ []) table → 0x10000 ≤ c → r .lo ≤ 0xF0 + c / 0x40000 → 0xF0 + c / 0x40000 ≤ r .hi
+    → q .lo ≤ 0x80 + c / 0x1000 % 0x40 → 0x80 + c / 0x1000 % 0x40 ≤ q .hi → Stands (encode c)
+four-stands c r q m l p₁ p₂ p₃ p₄ = subst Stands (sym (encode-four c l)) (record {
+  row = r ∷ q ∷ 0x80 ‥ 0xBF ∷ 0x80 ‥ 0xBF ∷ [];
+  listed = m;
+  fits = next p₁ p₂ (next p₃ p₄ (next {b = 0x80 + c / 0x40 % 0x40} (omega arith) (omega arith) (next {b = 0x80 + c % 0x40} (omega arith) (omega arith) done)));
+})
+
+-- THE BYTES OF A SCALAR VALUE ARE A SEQUENCE OF THE TABLE
+pub encode-stands : (c : ℕ) → isScalar c ≡ true → Stands (encode c)
+unfolding table
+encode-stands c s =
+    let n = scalar-last c s in
+    on-either-side c 0x80 (λ h. one-stands c h) (λ l.
+    on-either-side c 0x800 (λ h. two-stands c l h) (λ l.
+    on-either-side c 0x1000 (λ h. three-stands c (0xE0 ‥ 0xE0) (0xA0 ‥ 0xBF) (listed table 2 (omega arith)) l (omega arith) (omega arith) (omega arith) (omega arith) (omega arith)) (λ l.
+    on-either-side c 0xD000 (λ h. three-stands c (0xE1 ‥ 0xEC) (0x80 ‥ 0xBF) (listed table 3 (omega arith)) (omega arith) (omega arith) (omega arith) (omega arith) (omega arith) (omega arith)) (λ l.
+    on-either-side c 0xD800 (λ h. three-stands c (0xED ‥ 0xED) (0x80 ‥ 0x9F) (listed table 4 (omega arith)) (omega arith) (omega arith) (omega arith) (omega arith) (omega arith) (omega arith)) (λ l.
+    let l = scalar-past c s l in
+    on-either-side c 0x10000 (λ h. three-stands c (0xEE ‥ 0xEF) (0x80 ‥ 0xBF) (listed table 5 (omega arith)) (omega arith) h (omega arith) (omega arith) (omega arith) (omega arith)) (λ l.
+    on-either-side c 0x40000 (λ h. four-stands c (0xF0 ‥ 0xF0) (0x90 ‥ 0xBF) (listed table 6 (omega arith)) l (omega arith) (omega arith) (omega arith) (omega arith)) (λ l.
+    on-either-side c 0x100000 (λ h. four-stands c (0xF1 ‥ 0xF3) (0x80 ‥ 0xBF) (listed table 7 (omega arith)) (omega arith) (omega arith) (omega arith) (omega arith) (omega arith)) (λ l.
+    four-stands c (0xF4 ‥ 0xF4) (0x80 ‥ 0x8F) (listed table 8 (omega arith)) (omega arith) (omega arith) (omega arith) (omega arith) (omega arith)))))))))
+
+-- ---- bytes that fit a row are those of a scalar value
+
+-- the code points of two, three and four bytes
+abbrev of-two : ℕ → ℕ → ℕ
+of-two a b = (a - 0xC0) * 0x40 + (b - 0x80)
+
+abbrev of-three : ℕ → ℕ → ℕ → ℕ
+of-three a b c = (a - 0xE0) * 0x1000 + (b - 0x80) * 0x40 + (c - 0x80)
+
+abbrev of-four : ℕ → ℕ → ℕ → ℕ → ℕ
+of-four a b c d = (a - 0xF0) * 0x40000 + (b - 0x80) * 0x1000 + (c - 0x80) * 0x40 + (d - 0x80)
+
+-- the bytes are those of a scalar value
+pub record Encoded (xs : List ℕ) : Type 0 where
+  pub code : ℕ
+  pub scalar : isScalar code ≡ true
+  pub bytes : xs ≡ encode code
+
+one-encoded : {xs : List ℕ} → Fits (0x00 ‥ 0x7F ∷ []) xs → Encoded xs
+one-encoded (next {b = a} l h done) = record { code = a; scalar = scalar-low a (omega arith); bytes = sym (encode-one a (omega arith)) }
+
+two-encoded : {xs : List ℕ} → Fits (0xC2 ‥ 0xDF ∷ 0x80 ‥ 0xBF ∷ []) xs → Encoded xs
+two-encoded (next {b = a} l₁ h₁ (next {b = b} l₂ h₂ done)) =
+    let n = of-two a b in
+    let p : a ≡ 0xC0 + n / 0x40 = omega arith in
+    let q : b ≡ 0x80 + n % 0x40 = omega arith in
+    let e = encode-two n (omega arith) (omega arith) in
+    record { code = n; scalar = scalar-low n (omega arith); bytes = cc }
+
+three-encoded : (a b c : ℕ) → 0xE0 ≤ a → a ≤ 0xEF → 0x80 ≤ b → b ≤ 0xBF → 0x80 ≤ c → c ≤ 0xBF → 0x800 ≤ of-three a b c → isScalar (of-three a b c) ≡ true
+    → Encoded (a ∷ b ∷ c ∷ [])
+three-encoded a b c l₁ h₁ l₂ h₂ l₃ h₃ l s =
+    let n = of-three a b c in
+    let p : a ≡ 0xE0 + n / 0x1000 = omega arith in
+    let q : b ≡ 0x80 + n / 0x40 % 0x40 = omega arith in
+    let r : c ≡ 0x80 + n % 0x40 = omega arith in
+    let e = encode-three n l (omega arith) in
+    record { code = n; scalar = s; bytes = cc }
+
+four-encoded : (a b c d : ℕ) → 0xF0 ≤ a → 0x80 ≤ b → b ≤ 0xBF → 0x80 ≤ c → c ≤ 0xBF → 0x80 ≤ d → d ≤ 0xBF → 0x10000 ≤ of-four a b c d → of-four a b c d ≤ 0x10FFFF
+    → Encoded (a ∷ b ∷ c ∷ d ∷ [])
+four-encoded a b c d l₁ l₂ h₂ l₃ h₃ l₄ h₄ l h =
+    let n = of-four a b c d in
+    let p : a ≡ 0xF0 + n / 0x40000 = omega arith in
+    let q : b ≡ 0x80 + n / 0x1000 % 0x40 = omega arith in
+    let r : c ≡ 0x80 + n / 0x40 % 0x40 = omega arith in
+    let t : d ≡ 0x80 + n % 0x40 = omega arith in
+    let e = encode-four n l in
+    record { code = n; scalar = scalar-high n (omega arith) h; bytes = cc }
+
+row-E0 : {xs : List ℕ} → Fits (0xE0 ‥ 0xE0 ∷ 0xA0 ‥ 0xBF ∷ 0x80 ‥ 0xBF ∷ []) xs → Encoded xs
+row-E0 (next {b = a} l₁ h₁ (next {b = b} l₂ h₂ (next {b = c} l₃ h₃ done))) =
+    three-encoded a b c (omega arith) (omega arith) (omega arith) (omega arith) l₃ h₃ (omega arith) (scalar-low (of-three a b c) (omega arith))
+
+row-E1 : {xs : List ℕ} → Fits (0xE1 ‥ 0xEC ∷ 0x80 ‥ 0xBF ∷ 0x80 ‥ 0xBF ∷ []) xs → Encoded xs
+row-E1 (next {b = a} l₁ h₁ (next {b = b} l₂ h₂ (next {b = c} l₃ h₃ done))) =
+    three-encoded a b c (omega arith) (omega arith) (omega arith) (omega arith) l₃ h₃ (omega arith) (scalar-low (of-three a b c) (omega arith))
+
+row-ED : {xs : List ℕ} → Fits (0xED ‥ 0xED ∷ 0x80 ‥ 0x9F ∷ 0x80 ‥ 0xBF ∷ []) xs → Encoded xs
+row-ED (next {b = a} l₁ h₁ (next {b = b} l₂ h₂ (next {b = c} l₃ h₃ done))) =
+    three-encoded a b c (omega arith) (omega arith) (omega arith) (omega arith) l₃ h₃ (omega arith) (scalar-low (of-three a b c) (omega arith))
+
+row-EE : {xs : List ℕ} → Fits (0xEE ‥ 0xEF ∷ 0x80 ‥ 0xBF ∷ 0x80 ‥ 0xBF ∷ []) xs → Encoded xs
+row-EE (next {b = a} l₁ h₁ (next {b = b} l₂ h₂ (next {b = c} l₃ h₃ done))) =
+    three-encoded a b c (omega arith) (omega arith) (omega arith) (omega arith) l₃ h₃ (omega arith) (scalar-high (of-three a b c) (omega arith) (omega arith))
+
+row-F0 : {xs : List ℕ} → Fits (0xF0 ‥ 0xF0 ∷ 0x90 ‥ 0xBF ∷ 0x80 ‥ 0xBF ∷ 0x80 ‥ 0xBF ∷ []) xs → Encoded xs
+row-F0 (next {b = a} l₁ h₁ (next {b = b} l₂ h₂ (next {b = c} l₃ h₃ (next {b = d} l₄ h₄ done)))) =
+    four-encoded a b c d (omega arith) (omega arith) (omega arith) l₃ h₃ l₄ h₄ (omega arith) (omega arith)
+
+row-F1 : {xs : List ℕ} → Fits (0xF1 ‥ 0xF3 ∷ 0x80 ‥ 0xBF ∷ 0x80 ‥ 0xBF ∷ 0x80 ‥ 0xBF ∷ []) xs → Encoded xs
+row-F1 (next {b = a} l₁ h₁ (next {b = b} l₂ h₂ (next {b = c} l₃ h₃ (next {b = d} l₄ h₄ done)))) =
+    four-encoded a b c d (omega arith) (omega arith) (omega arith) l₃ h₃ l₄ h₄ (omega arith) (omega arith)
+
+row-F4 : {xs : List ℕ} → Fits (0xF4 ‥ 0xF4 ∷ 0x80 ‥ 0x8F ∷ 0x80 ‥ 0xBF ∷ 0x80 ‥ 0xBF ∷ []) xs → Encoded xs
+row-F4 (next {b = a} l₁ h₁ (next {b = b} l₂ h₂ (next {b = c} l₃ h₃ (next {b = d} l₄ h₄ done)))) =
+    four-encoded a b c d (omega arith) (omega arith) (omega arith) l₃ h₃ l₄ h₄ (omega arith) (omega arith)
+
+-- what holds of each row of a list
+abbrev Each : (List Range → Type 0) → List (List Range) → Type 0
+Each P [] = Unit {0}
+Each P (row ∷ rows) = P row × Each P rows
+
+each-at : (P : List Range → Type 0) (rows : List (List Range)) {row : List Range} → Each P rows → List·Memᴰ row rows → P row
+each-at P [] t m = absurd (List·Memᴰ·not-nil m)
+each-at P (row ∷ rows) t (List·Memᴰ·head e) = subst P (sym e) (t .0)
+each-at P (row ∷ rows) t (List·Memᴰ·tail m) = each-at P rows (t .1) m
+
+-- BYTES THAT FIT A ROW OF THE TABLE ARE THOSE OF A SCALAR VALUE
+pub fits-encoded : {row : List Range} {xs : List ℕ} → List·Memᴰ row table → Fits row xs → Encoded xs
+unfolding table
+fits-encoded {row} {xs} m f =
+    each-at (λ (r : List Range). Fits r xs → Encoded xs) table (one-encoded, (two-encoded, (row-E0, (row-E1, (row-ED, (row-EE, (row-F0, (row-F1, (row-F4, tt))))))))) m f
+
+-- ---- the first code point, read back
+
+-- the code point at the front of bytes that begin with one
+firstCode : List ℕ → ℕ
+firstCode xs =
+    let a = getD xs 0 0 in
+    let b = getD xs 1 0 in
+    let c = getD xs 2 0 in
+    cond (ltb a 0x80) a (cond (ltb a 0xE0) (of-two a b) (cond (ltb a 0xF0) (of-three a b c) (of-four a b c (getD xs 3 0))))
+
+one-read : (c : ℕ) (ys : List ℕ) → c < 0x80 → firstCode (encode c ++ ys) ≡ c
+unfolding firstCode
+one-read c ys h = rw (encode-one c h, lt-ltb c 0x80 h)
+
+two-read : (c : ℕ) (ys : List ℕ) → 0x80 ≤ c → c < 0x800 → firstCode (encode c ++ ys) ≡ c
+unfolding firstCode
+two-read c ys l h =
+    let a = 0xC0 + c / 0x40 in
+    rw (encode-two c l h, le-ltb a 0x80 (omega arith), lt-ltb a 0xE0 (omega arith)) (omega arith)
+
+three-read : (c : ℕ) (ys : List ℕ) → 0x800 ≤ c → c < 0x10000 → firstCode (encode c ++ ys) ≡ c
+unfolding firstCode
+three-read c ys l h =
+    let a = 0xE0 + c / 0x1000 in
+    rw (encode-three c l h, le-ltb a 0x80 (omega arith), le-ltb a 0xE0 (omega arith), lt-ltb a 0xF0 (omega arith)) (omega arith)
+
+groups : (c : ℕ) → of-four (0xF0 + c / 0x40000) (0x80 + c / 0x1000 % 0x40) (0x80 + c / 0x40 % 0x40) (0x80 + c % 0x40) ≡ c
+groups c =
+    let p : c / 0x40 / 0x40 ≡ c / 0x1000 = omega arith in
+    let q : c / 0x1000 / 0x40 ≡ c / 0x40000 = omega arith in
+    omega arith
+
+four-read : (c : ℕ) (ys : List ℕ) → 0x10000 ≤ c → firstCode (encode c ++ ys) ≡ c
+unfolding firstCode
+four-read c ys l =
+    let a = 0xF0 + c / 0x40000 in
+    rw (encode-four c l, le-ltb a 0x80 (omega arith), le-ltb a 0xE0 (omega arith), le-ltb a 0xF0 (omega arith)) (groups c)
+
+first-read : (c : ℕ) (ys : List ℕ) → firstCode (encode c ++ ys) ≡ c
+first-read c ys =
+    on-either-side c 0x80 (λ h. one-read c ys h) (λ l.
+    on-either-side c 0x800 (λ h. two-read c ys l h) (λ l.
+    on-either-side c 0x10000 (λ h. three-read c ys l h) (λ l. four-read c ys l)))
+
+-- WHAT BEGINS WITH THE BYTES OF A CODE POINT BEGINS WITH THOSE OF NO OTHER
+pub encode-first : (c d : ℕ) (ys zs : List ℕ) → encode c ++ ys ≡ encode d ++ zs → (c ≡ d) × (ys ≡ zs)
+encode-first c d ys zs e =
+    let p : c ≡ d = sym (first-read c ys) ∙ ap firstCode e ∙ first-read d zs in
+    (p, append-cancel-left (encode d) ys zs (subst (λ (x : ℕ). encode x ++ ys ≡ encode d ++ zs) p e))
+
+-- no code point is without bytes
+pub encode-some : (c : ℕ) (ys : List ℕ) → encode c ++ ys ≡ [] → ⊥
+unfolding firstCode encode
+encode-some c ys e =
+    let p : c ≡ 0 = sym (first-read c ys) ∙ ap firstCode e in
+    cons≢nil (subst (λ (x : ℕ). encode x ++ ys ≡ []) p e)
