@@ -1,16 +1,19 @@
--- One code point is one sequence of table 3-7: the bytes of a scalar value fit a row, and bytes that fit a row are those of a scalar value. Assumes nothing.
+-- One code point is one sequence of table 3-7: the bytes of a scalar value fit a row, and bytes that fit a row are those of a scalar value.
+-- And the first code point can be read back from the bytes. Assumes nothing.
 use mathlib.Core.Path.{_≡_, refl, sym, ap, subst, _∙_}
-use mathlib.Core.Bool.{Bool, true, false, cond, _&&_}
+use mathlib.Core.Bool.{Bool, true, false, cond, _&&_, _||_, or-true}
 use mathlib.Core.List.{List, [], _∷_, _++_, List·Memᴰ, List·Memᴰ·head, List·Memᴰ·tail, List·Memᴰ·not-nil, append-cancel-left, cons≢nil}
+use mathlib.Core.Logic.{_⊎_, inl, inr, ⊎-elim}
 use Prim.Native.Nat.{ℕ, zero, suc, _+_, _-_, _*_, _/_, _%_, _≤_, _<_}
 use native.Mathlib.Omega.{arith}
 use lib.Dec.{leb, ltb}
 use lib.ListN.{length, getD}
-use borrow.Author.Tests.{ltb-true, ltb-false, leb-true, leb-false, lt-ltb, le-ltb, le-leb, lt-leb, not-true}
+use borrow.Author.Tests.{ltb-true, ltb-false, leb-true, lt-ltb, le-ltb, le-leb}
 use Rattle.utf8.specs.Utf8.{Range, _‥_, table, Fits, Fits.done, Fits.next}
 use Rattle.utf8.specs.Rows.{and-parts}
 use Rattle.codepoints.specs.CodePoints.{isScalar, following, encode}
 
+-- by whether c is below n
 on-either-side : {A : Type 0} (c n : ℕ) → (c < n → A) → (n ≤ c → A) → A
 on-either-side {A} c n below above = go (ltb c n) refl
   where
@@ -20,41 +23,73 @@ on-either-side {A} c n below above = go (ltb c n) refl
 
 -- ---- scalar values
 
-pub scalar-low : (c : ℕ) → c < 0xD800 → isScalar c ≡ true
-unfolding isScalar
-scalar-low c h = rw (le-leb c 0x10FFFF (omega arith), lt-leb 0xD800 c h)
+-- two ranges with any bounds: what is asked of the bounds of `isScalar` is then an inequality of numbers
+in-first : (a b d c : ℕ) → c ≤ a → (leb c a || leb b c && leb c d) ≡ true
+in-first a b d c h = rw (le-leb c a h)
 
-pub scalar-high : (c : ℕ) → 0xE000 ≤ c → c ≤ 0x10FFFF → isScalar c ≡ true
-unfolding isScalar
-scalar-high c l h = rw (le-leb c 0x10FFFF h, le-leb 0xD800 c (omega arith), lt-leb c 0xDFFF l)
+in-second : (a b d c : ℕ) → b ≤ c → c ≤ d → (leb c a || leb b c && leb c d) ≡ true
+in-second a b d c l h = rw (le-leb b c l, le-leb c d h, or-true (leb c a))
 
-pub scalar-last : (c : ℕ) → isScalar c ≡ true → c ≤ 0x10FFFF
-unfolding isScalar
-scalar-last c s = leb-true c 0x10FFFF (and-parts (leb c 0x10FFFF) _ s .0)
+in-either : (a b d c : ℕ) → (leb c a || leb b c && leb c d) ≡ true → (c ≤ a) ⊎ ((b ≤ c) × (c ≤ d))
+in-either a b d c e = go (leb c a) refl e
+  where
+    go : (t : Bool) → leb c a ≡ t → (t || leb b c && leb c d) ≡ true → (c ≤ a) ⊎ ((b ≤ c) × (c ≤ d))
+    go true q e = inl (leb-true c a q)
+    go false q e = let p = and-parts (leb b c) (leb c d) e in inr (leb-true b c (p .0), leb-true c d (p .1))
 
-pub scalar-past : (c : ℕ) → isScalar c ≡ true → 0xD800 ≤ c → 0xE000 ≤ c
+scalar-low : (c : ℕ) → c < 0xD800 → isScalar c ≡ true
+unfolding isScalar
+scalar-low c h = in-first _ _ _ c (omega arith)
+
+scalar-high : (c : ℕ) → 0xE000 ≤ c → c ≤ 0x10FFFF → isScalar c ≡ true
+unfolding isScalar
+scalar-high c l h = in-second _ _ _ c (omega arith) (omega arith)
+
+scalar-last : (c : ℕ) → isScalar c ≡ true → c ≤ 0x10FFFF
+unfolding isScalar
+scalar-last c s =
+    let r = in-either _ _ _ c s in
+    ⊎-elim (λ h. omega arith) (λ b. omega (arith, b .1)) r
+
+scalar-past : (c : ℕ) → isScalar c ≡ true → 0xD800 ≤ c → 0xE000 ≤ c
 unfolding isScalar
 scalar-past c s l =
-    let e = not-true (leb 0xD800 c && leb c 0xDFFF) (and-parts (leb c 0x10FFFF) _ s .1) in
-    leb-false c 0xDFFF (rw (le-leb 0xD800 c l) at e)
+    let r = in-either _ _ _ c s in
+    ⊎-elim (λ h. omega arith) (λ b. omega (arith, b .0)) r
 
 -- ---- the bytes of a code point, by its length
 
+-- the choice of `encode`, with any bounds and bytes
+abbrev choice : ℕ → ℕ → ℕ → ℕ → List ℕ → List ℕ → List ℕ → List ℕ → List ℕ
+choice a b d c w x y z = cond (ltb c a) w (cond (ltb c b) x (cond (ltb c d) y z))
+
+choice-one : (a b d c : ℕ) (w x y z : List ℕ) → c < a → choice a b d c w x y z ≡ w
+choice-one a b d c w x y z h = rw (lt-ltb c a h)
+
+choice-two : (a b d c : ℕ) (w x y z : List ℕ) → a ≤ c → c < b → choice a b d c w x y z ≡ x
+choice-two a b d c w x y z l h = rw (le-ltb c a l, lt-ltb c b h)
+
+choice-three : (a b d c : ℕ) (w x y z : List ℕ) → a ≤ c → b ≤ c → c < d → choice a b d c w x y z ≡ y
+choice-three a b d c w x y z k l h = rw (le-ltb c a k, le-ltb c b l, lt-ltb c d h)
+
+choice-four : (a b d c : ℕ) (w x y z : List ℕ) → a ≤ c → b ≤ c → d ≤ c → choice a b d c w x y z ≡ z
+choice-four a b d c w x y z k l m = rw (le-ltb c a k, le-ltb c b l, le-ltb c d m)
+
 encode-one : (c : ℕ) → c < 0x80 → encode c ≡ c ∷ []
 unfolding encode
-encode-one c h = rw (lt-ltb c 0x80 h)
+encode-one c h = choice-one _ _ _ c _ _ _ _ (omega arith)
 
 encode-two : (c : ℕ) → 0x80 ≤ c → c < 0x800 → encode c ≡ (0xC0 + c / 0x40) ∷ (0x80 + c % 0x40) ∷ []
 unfolding encode following
-encode-two c l h = rw (le-ltb c 0x80 l, lt-ltb c 0x800 h)
+encode-two c l h = choice-two _ _ _ c _ _ _ _ (omega arith) (omega arith)
 
 encode-three : (c : ℕ) → 0x800 ≤ c → c < 0x10000 → encode c ≡ (0xE0 + c / 0x1000) ∷ (0x80 + c / 0x40 % 0x40) ∷ (0x80 + c % 0x40) ∷ []
 unfolding encode following
-encode-three c l h = rw (le-ltb c 0x80 (omega arith), le-ltb c 0x800 l, lt-ltb c 0x10000 h)
+encode-three c l h = choice-three _ _ _ c _ _ _ _ (omega arith) (omega arith) (omega arith)
 
 encode-four : (c : ℕ) → 0x10000 ≤ c → encode c ≡ (0xF0 + c / 0x40000) ∷ (0x80 + c / 0x1000 % 0x40) ∷ (0x80 + c / 0x40 % 0x40) ∷ (0x80 + c % 0x40) ∷ []
 unfolding encode following
-encode-four c l = rw (le-ltb c 0x80 (omega arith), le-ltb c 0x800 (omega arith), le-ltb c 0x10000 l)
+encode-four c l = choice-four _ _ _ c _ _ _ _ (omega arith) (omega arith) (omega arith)
 
 -- ---- the bytes of a scalar value fit a row
 
@@ -238,6 +273,7 @@ three-read c ys l h =
     let a = 0xE0 + c / 0x1000 in
     rw (encode-three c l h, le-ltb a 0x80 (omega arith), le-ltb a 0xE0 (omega arith), lt-ltb a 0xF0 (omega arith)) (omega arith)
 
+-- the groups of six bits make the number again
 groups : (c : ℕ) → of-four (0xF0 + c / 0x40000) (0x80 + c / 0x1000 % 0x40) (0x80 + c / 0x40 % 0x40) (0x80 + c % 0x40) ≡ c
 groups c =
     let p : c / 0x40 / 0x40 ≡ c / 0x1000 = omega arith in

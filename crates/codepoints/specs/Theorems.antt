@@ -1,13 +1,14 @@
--- The well-formed lists of table 3-7 are exactly the encodings of lists of scalar values, and an encoding is that of one list alone. Assumes nothing.
-use mathlib.Core.Path.{_≡_, refl, sym, ap, ap₂, subst, _∙_}
-use mathlib.Core.Bool.{true, _&&_}
+-- The well-formed lists of table 3-7 are exactly the encodings of lists of scalar values, and an encoding is that of one list alone.
+-- A list may hold any numbers: one above F4 stands in no row of the table and in no encoding of scalar values. Assumes nothing.
+use mathlib.Core.Path.{_≡_, refl, sym, ap₂, subst}
+use mathlib.Core.Bool.{true}
 use mathlib.Core.List.{List, [], _∷_, _++_}
 use mathlib.Core.Logic.{_↔_}
 use Prim.Native.Nat.{ℕ}
 use Rattle.utf8.specs.Utf8.{wellFormed, WellFormed, WellFormed.empty, WellFormed.more}
 use Rattle.utf8.specs.Rows.{and-parts}
 use Rattle.utf8.specs.Laws.{wellFormed-decides}
-use Rattle.codepoints.specs.CodePoints.{isScalar, areScalars, encode, encodeAll}
+use Rattle.codepoints.specs.CodePoints.{isScalar, areScalars, encodeAll}
 use Rattle.codepoints.specs.Sequences.{encode-stands, fits-encoded, encode-first, encode-some}
 
 encoded-sound : (cs : List ℕ) → areScalars cs ≡ true → WellFormed (encodeAll cs)
@@ -30,11 +31,11 @@ encoded-complete (more m f w) =
 pub encoded-exactly : (bs : List ℕ) → WellFormed bs ↔ ((cs : List ℕ) × (areScalars cs ≡ true) × (bs ≡ encodeAll cs))
 encoded-exactly bs = (encoded-complete, λ r. subst WellFormed (sym (r .2)) (encoded-sound (r .0) (r .1)))
 
--- THE TEST SAYS SO EXACTLY IF THEY ARE
+-- THE TEST OF THE TABLE SAYS SO EXACTLY THEN
 pub encoded-decides : (bs : List ℕ) → (wellFormed bs ≡ true) ↔ ((cs : List ℕ) × (areScalars cs ≡ true) × (bs ≡ encodeAll cs))
 encoded-decides bs = (λ e. encoded-exactly bs .0 (wellFormed-decides bs .0 e), λ r. wellFormed-decides bs .1 (encoded-exactly bs .1 r))
 
--- THE ENCODING IS UNIQUE: NO TWO LISTS HAVE THE SAME BYTES
+-- THE ENCODING IS UNIQUE: NO TWO LISTS OF NUMBERS HAVE THE SAME BYTES, SCALAR VALUES OR NOT
 pub encoded-once : (cs ds : List ℕ) → encodeAll cs ≡ encodeAll ds → cs ≡ ds
 unfolding encodeAll
 encoded-once [] [] e = refl
