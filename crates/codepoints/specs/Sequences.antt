@@ -5,6 +5,7 @@ use mathlib.Core.Bool.{Bool, true, false, cond, _&&_, _||_, or-true}
 use mathlib.Core.List.{List, [], _∷_, _++_, List·Memᴰ, List·Memᴰ·head, List·Memᴰ·tail, List·Memᴰ·not-nil, append-cancel-left, cons≢nil}
 use mathlib.Core.Logic.{_⊎_, inl, inr, ⊎-elim}
 use Prim.Native.Nat.{ℕ, zero, suc, _+_, _-_, _*_, _/_, _%_, _≤_, _<_}
+use native.Mathlib.Nat.{le-trans, lt-of-le-of-lt}
 use native.Mathlib.Omega.{arith}
 use lib.Dec.{leb, ltb}
 use lib.ListN.{length, getD}
@@ -105,34 +106,31 @@ pub record Stands (xs : List ℕ) : Type 0 where
   pub listed : List·Memᴰ row table
   pub fits : Fits row xs
 
-one-stands : (c : ℕ) → c < 0x80 → Stands (encode c)
-unfolding table
-one-stands c h = subst Stands (sym (encode-one c h)) (record {
-  row = 0x00 ‥ 0x7F ∷ [];
-  listed = listed table 0 (omega arith);
-  fits = next {b = c} (omega arith) (omega arith) done;
+-- a sequence of each length, for ranges that hold the bytes
+
+one-stands : (c : ℕ) (r : Range) → List·Memᴰ (r ∷ []) table → c < 0x80 → r .lo ≤ c → c ≤ r .hi → Stands (encode c)
+one-stands c r m h p₁ p₂ = subst Stands (sym (encode-one c h)) (record { row = _; listed = m; fits = next p₁ p₂ done })
+
+two-stands : (c : ℕ) (r q : Range) → List·Memᴰ (r ∷ q ∷ []) table → 0x80 ≤ c → c < 0x800 → r .lo ≤ 0xC0 + c / 0x40 → 0xC0 + c / 0x40 ≤ r .hi
+    → q .lo ≤ 0x80 → 0xBF ≤ q .hi → Stands (encode c)
+two-stands c r q m l h p₁ p₂ p₃ p₄ = subst Stands (sym (encode-two c l h)) (record {
+  row = r ∷ q ∷ [];
+  listed = m;
+  fits = next p₁ p₂ (next {b = 0x80 + c % 0x40} (omega arith) (omega arith) done);
 })
 
-two-stands : (c : ℕ) → 0x80 ≤ c → c < 0x800 → Stands (encode c)
-unfolding table
-two-stands c l h = subst Stands (sym (encode-two c l h)) (record {
-  row = 0xC2 ‥ 0xDF ∷ 0x80 ‥ 0xBF ∷ [];
-  listed = listed table 1 (omega arith);
-  fits = next {b = 0xC0 + c / 0x40} (omega arith) (omega arith) (next {b = 0x80 + c % 0x40} (omega arith) (omega arith) done);
-})
-
-three-stands : (c : ℕ) (r q : Range) → List·Memᴰ (r ∷ q ∷ 0x80 ‥ 0xBF ∷ []) table → 0x800 ≤ c → c < 0x10000 → r .lo ≤ 0xE0 + c / 0x1000 → 0xE0 + c / 0x1000 ≤ r .hi
-    → q .lo ≤ 0x80 + c / 0x40 % 0x40 → 0x80 + c / 0x40 % 0x40 ≤ q .hi → Stands (encode c)
-three-stands c r q m l h p₁ p₂ p₃ p₄ = subst Stands (sym (encode-three c l h)) (record {
-  row = r ∷ q ∷ 0x80 ‥ 0xBF ∷ [];
+three-stands : (c : ℕ) (r q p : Range) → List·Memᴰ (r ∷ q ∷ p ∷ []) table → 0x800 ≤ c → c < 0x10000 → r .lo ≤ 0xE0 + c / 0x1000 → 0xE0 + c / 0x1000 ≤ r .hi
+    → q .lo ≤ 0x80 + c / 0x40 % 0x40 → 0x80 + c / 0x40 % 0x40 ≤ q .hi → p .lo ≤ 0x80 → 0xBF ≤ p .hi → Stands (encode c)
+three-stands c r q p m l h p₁ p₂ p₃ p₄ p₅ p₆ = subst Stands (sym (encode-three c l h)) (record {
+  row = r ∷ q ∷ p ∷ [];
   listed = m;
   fits = next p₁ p₂ (next p₃ p₄ (next {b = 0x80 + c % 0x40} (omega arith) (omega arith) done));
 })
 
-four-stands : (c : ℕ) (r q : Range) → List·Memᴰ (r ∷ q ∷ 0x80 ‥ 0xBF ∷ 0x80 ‥ 0xBF ∷ []) table → 0x10000 ≤ c → r .lo ≤ 0xF0 + c / 0x40000 → 0xF0 + c / 0x40000 ≤ r .hi
-    → q .lo ≤ 0x80 + c / 0x1000 % 0x40 → 0x80 + c / 0x1000 % 0x40 ≤ q .hi → Stands (encode c)
-four-stands c r q m l p₁ p₂ p₃ p₄ = subst Stands (sym (encode-four c l)) (record {
-  row = r ∷ q ∷ 0x80 ‥ 0xBF ∷ 0x80 ‥ 0xBF ∷ [];
+four-stands : (c : ℕ) (r q p o : Range) → List·Memᴰ (r ∷ q ∷ p ∷ o ∷ []) table → 0x10000 ≤ c → r .lo ≤ 0xF0 + c / 0x40000 → 0xF0 + c / 0x40000 ≤ r .hi
+    → q .lo ≤ 0x80 + c / 0x1000 % 0x40 → 0x80 + c / 0x1000 % 0x40 ≤ q .hi → p .lo ≤ 0x80 → 0xBF ≤ p .hi → o .lo ≤ 0x80 → 0xBF ≤ o .hi → Stands (encode c)
+four-stands c r q p o m l p₁ p₂ p₃ p₄ p₅ p₆ p₇ p₈ = subst Stands (sym (encode-four c l)) (record {
+  row = r ∷ q ∷ p ∷ o ∷ [];
   listed = m;
   fits = next p₁ p₂ (next p₃ p₄ (next {b = 0x80 + c / 0x40 % 0x40} (omega arith) (omega arith) (next {b = 0x80 + c % 0x40} (omega arith) (omega arith) done)));
 })
@@ -142,16 +140,16 @@ pub encode-stands : (c : ℕ) → isScalar c ≡ true → Stands (encode c)
 unfolding table
 encode-stands c s =
     let n = scalar-last c s in
-    on-either-side c 0x80 (λ h. one-stands c h) (λ l.
-    on-either-side c 0x800 (λ h. two-stands c l h) (λ l.
-    on-either-side c 0x1000 (λ h. three-stands c (0xE0 ‥ 0xE0) (0xA0 ‥ 0xBF) (listed table 2 (omega arith)) l (omega arith) (omega arith) (omega arith) (omega arith) (omega arith)) (λ l.
-    on-either-side c 0xD000 (λ h. three-stands c (0xE1 ‥ 0xEC) (0x80 ‥ 0xBF) (listed table 3 (omega arith)) (omega arith) (omega arith) (omega arith) (omega arith) (omega arith) (omega arith)) (λ l.
-    on-either-side c 0xD800 (λ h. three-stands c (0xED ‥ 0xED) (0x80 ‥ 0x9F) (listed table 4 (omega arith)) (omega arith) (omega arith) (omega arith) (omega arith) (omega arith) (omega arith)) (λ l.
+    on-either-side c 0x80 (λ h. one-stands c _ (listed table 0 (omega arith)) (omega arith) (omega arith) (omega arith)) (λ l.
+    on-either-side c 0x800 (λ h. two-stands c _ _ (listed table 1 (omega arith)) (omega arith) (omega arith) (omega arith) (omega arith) (omega arith) (omega arith)) (λ l.
+    on-either-side c 0x1000 (λ h. three-stands c _ _ _ (listed table 2 (omega arith)) (omega arith) (omega arith) (omega arith) (omega arith) (omega arith) (omega arith) (omega arith) (omega arith)) (λ l.
+    on-either-side c 0xD000 (λ h. three-stands c _ _ _ (listed table 3 (omega arith)) (omega arith) (omega arith) (omega arith) (omega arith) (omega arith) (omega arith) (omega arith) (omega arith)) (λ l.
+    on-either-side c 0xD800 (λ h. three-stands c _ _ _ (listed table 4 (omega arith)) (omega arith) (omega arith) (omega arith) (omega arith) (omega arith) (omega arith) (omega arith) (omega arith)) (λ l.
     let l = scalar-past c s l in
-    on-either-side c 0x10000 (λ h. three-stands c (0xEE ‥ 0xEF) (0x80 ‥ 0xBF) (listed table 5 (omega arith)) (omega arith) h (omega arith) (omega arith) (omega arith) (omega arith)) (λ l.
-    on-either-side c 0x40000 (λ h. four-stands c (0xF0 ‥ 0xF0) (0x90 ‥ 0xBF) (listed table 6 (omega arith)) l (omega arith) (omega arith) (omega arith) (omega arith)) (λ l.
-    on-either-side c 0x100000 (λ h. four-stands c (0xF1 ‥ 0xF3) (0x80 ‥ 0xBF) (listed table 7 (omega arith)) (omega arith) (omega arith) (omega arith) (omega arith) (omega arith)) (λ l.
-    four-stands c (0xF4 ‥ 0xF4) (0x80 ‥ 0x8F) (listed table 8 (omega arith)) (omega arith) (omega arith) (omega arith) (omega arith) (omega arith)))))))))
+    on-either-side c 0x10000 (λ h. three-stands c _ _ _ (listed table 5 (omega arith)) (omega arith) (omega arith) (omega arith) (omega arith) (omega arith) (omega arith) (omega arith) (omega arith)) (λ l.
+    on-either-side c 0x40000 (λ h. four-stands c _ _ _ _ (listed table 6 (omega arith)) (omega arith) (omega arith) (omega arith) (omega arith) (omega arith) (omega arith) (omega arith) (omega arith) (omega arith)) (λ l.
+    on-either-side c 0x100000 (λ h. four-stands c _ _ _ _ (listed table 7 (omega arith)) (omega arith) (omega arith) (omega arith) (omega arith) (omega arith) (omega arith) (omega arith) (omega arith) (omega arith)) (λ l.
+    four-stands c _ _ _ _ (listed table 8 (omega arith)) (omega arith) (omega arith) (omega arith) (omega arith) (omega arith) (omega arith) (omega arith) (omega arith) (omega arith)))))))))
 
 -- ---- bytes that fit a row are those of a scalar value
 
@@ -165,17 +163,28 @@ of-three a b c = (a - 0xE0) * 0x1000 + (b - 0x80) * 0x40 + (c - 0x80)
 abbrev of-four : ℕ → ℕ → ℕ → ℕ → ℕ
 of-four a b c d = (a - 0xF0) * 0x40000 + (b - 0x80) * 0x1000 + (c - 0x80) * 0x40 + (d - 0x80)
 
+-- larger bytes make larger code points
+
+of-three-le : {a b c a′ b′ c′ : ℕ} → a ≤ a′ → b ≤ b′ → c ≤ c′ → of-three a b c ≤ of-three a′ b′ c′
+of-three-le h₁ h₂ h₃ = omega arith
+
+less : (a b k : ℕ) → a ≤ b → a - k ≤ b - k
+less a b k h = omega arith
+
+sums : {a b c d a′ b′ c′ d′ : ℕ} → a ≤ a′ → b ≤ b′ → c ≤ c′ → d ≤ d′ → a * 0x40000 + b * 0x1000 + c * 0x40 + d ≤ a′ * 0x40000 + b′ * 0x1000 + c′ * 0x40 + d′
+sums h₁ h₂ h₃ h₄ = omega arith
+
+of-four-le : {a b c d a′ b′ c′ d′ : ℕ} → a ≤ a′ → b ≤ b′ → c ≤ c′ → d ≤ d′ → of-four a b c d ≤ of-four a′ b′ c′ d′
+of-four-le {a} {b} {c} {d} {a′} {b′} {c′} {d′} h₁ h₂ h₃ h₄ = sums (less a a′ 0xF0 h₁) (less b b′ 0x80 h₂) (less c c′ 0x80 h₃) (less d d′ 0x80 h₄)
+
 -- the bytes are those of a scalar value
 pub record Encoded (xs : List ℕ) : Type 0 where
   pub code : ℕ
   pub scalar : isScalar code ≡ true
   pub bytes : xs ≡ encode code
 
-one-encoded : {xs : List ℕ} → Fits (0x00 ‥ 0x7F ∷ []) xs → Encoded xs
-one-encoded (next {b = a} l h done) = record { code = a; scalar = scalar-low a (omega arith); bytes = sym (encode-one a (omega arith)) }
-
-two-encoded : {xs : List ℕ} → Fits (0xC2 ‥ 0xDF ∷ 0x80 ‥ 0xBF ∷ []) xs → Encoded xs
-two-encoded (next {b = a} l₁ h₁ (next {b = b} l₂ h₂ done)) =
+two-encoded : (a b : ℕ) → 0xC2 ≤ a → a ≤ 0xDF → 0x80 ≤ b → b ≤ 0xBF → Encoded (a ∷ b ∷ [])
+two-encoded a b l₁ h₁ l₂ h₂ =
     let n = of-two a b in
     let p : a ≡ 0xC0 + n / 0x40 = omega arith in
     let q : b ≡ 0x80 + n % 0x40 = omega arith in
@@ -203,33 +212,34 @@ four-encoded a b c d l₁ l₂ h₂ l₃ h₃ l₄ h₄ l h =
     let e = encode-four n l in
     record { code = n; scalar = scalar-high n (omega arith) h; bytes = cc }
 
-row-E0 : {xs : List ℕ} → Fits (0xE0 ‥ 0xE0 ∷ 0xA0 ‥ 0xBF ∷ 0x80 ‥ 0xBF ∷ []) xs → Encoded xs
-row-E0 (next {b = a} l₁ h₁ (next {b = b} l₂ h₂ (next {b = c} l₃ h₃ done))) =
-    three-encoded a b c (omega arith) (omega arith) (omega arith) (omega arith) l₃ h₃ (omega arith) (scalar-low (of-three a b c) (omega arith))
+-- a row of each length, by the first and the last code point of its bytes
 
-row-E1 : {xs : List ℕ} → Fits (0xE1 ‥ 0xEC ∷ 0x80 ‥ 0xBF ∷ 0x80 ‥ 0xBF ∷ []) xs → Encoded xs
-row-E1 (next {b = a} l₁ h₁ (next {b = b} l₂ h₂ (next {b = c} l₃ h₃ done))) =
-    three-encoded a b c (omega arith) (omega arith) (omega arith) (omega arith) l₃ h₃ (omega arith) (scalar-low (of-three a b c) (omega arith))
+row-one : {xs : List ℕ} (r : Range) → r .hi ≤ 0x7F → Fits (r ∷ []) xs → Encoded xs
+row-one r k (next {b = a} l h done) = record { code = a; scalar = scalar-low a (omega arith); bytes = sym (encode-one a (omega arith)) }
 
-row-ED : {xs : List ℕ} → Fits (0xED ‥ 0xED ∷ 0x80 ‥ 0x9F ∷ 0x80 ‥ 0xBF ∷ []) xs → Encoded xs
-row-ED (next {b = a} l₁ h₁ (next {b = b} l₂ h₂ (next {b = c} l₃ h₃ done))) =
-    three-encoded a b c (omega arith) (omega arith) (omega arith) (omega arith) l₃ h₃ (omega arith) (scalar-low (of-three a b c) (omega arith))
+row-two : {xs : List ℕ} (r q : Range) → 0xC2 ≤ r .lo → r .hi ≤ 0xDF → 0x80 ≤ q .lo → q .hi ≤ 0xBF → Fits (r ∷ q ∷ []) xs → Encoded xs
+row-two r q k₁ k₂ k₃ k₄ (next {b = a} l₁ h₁ (next {b = b} l₂ h₂ done)) = two-encoded a b (omega arith) (omega arith) (omega arith) (omega arith)
 
-row-EE : {xs : List ℕ} → Fits (0xEE ‥ 0xEF ∷ 0x80 ‥ 0xBF ∷ 0x80 ‥ 0xBF ∷ []) xs → Encoded xs
-row-EE (next {b = a} l₁ h₁ (next {b = b} l₂ h₂ (next {b = c} l₃ h₃ done))) =
-    three-encoded a b c (omega arith) (omega arith) (omega arith) (omega arith) l₃ h₃ (omega arith) (scalar-high (of-three a b c) (omega arith) (omega arith))
+-- before the surrogates
+row-low : {xs : List ℕ} (r q p : Range) → 0xE0 ≤ r .lo → r .hi ≤ 0xEF → 0x80 ≤ q .lo → q .hi ≤ 0xBF → 0x80 ≤ p .lo → p .hi ≤ 0xBF
+    → 0x800 ≤ of-three (r .lo) (q .lo) (p .lo) → of-three (r .hi) (q .hi) (p .hi) < 0xD800 → Fits (r ∷ q ∷ p ∷ []) xs → Encoded xs
+row-low r q p k₁ k₂ k₃ k₄ k₅ k₆ k₇ k₈ (next {b = a} l₁ h₁ (next {b = b} l₂ h₂ (next {b = c} l₃ h₃ done))) =
+    let s = scalar-low (of-three a b c) (lt-of-le-of-lt (of-three-le h₁ h₂ h₃) k₈) in
+    three-encoded a b c (le-trans k₁ l₁) (le-trans h₁ k₂) (le-trans k₃ l₂) (le-trans h₂ k₄) (le-trans k₅ l₃) (le-trans h₃ k₆) (le-trans k₇ (of-three-le l₁ l₂ l₃)) s
 
-row-F0 : {xs : List ℕ} → Fits (0xF0 ‥ 0xF0 ∷ 0x90 ‥ 0xBF ∷ 0x80 ‥ 0xBF ∷ 0x80 ‥ 0xBF ∷ []) xs → Encoded xs
-row-F0 (next {b = a} l₁ h₁ (next {b = b} l₂ h₂ (next {b = c} l₃ h₃ (next {b = d} l₄ h₄ done)))) =
-    four-encoded a b c d (omega arith) (omega arith) (omega arith) l₃ h₃ l₄ h₄ (omega arith) (omega arith)
+-- after them
+row-high : {xs : List ℕ} (r q p : Range) → 0xE0 ≤ r .lo → r .hi ≤ 0xEF → 0x80 ≤ q .lo → q .hi ≤ 0xBF → 0x80 ≤ p .lo → p .hi ≤ 0xBF
+    → 0xE000 ≤ of-three (r .lo) (q .lo) (p .lo) → of-three (r .hi) (q .hi) (p .hi) ≤ 0xFFFF → Fits (r ∷ q ∷ p ∷ []) xs → Encoded xs
+row-high r q p k₁ k₂ k₃ k₄ k₅ k₆ k₇ k₈ (next {b = a} l₁ h₁ (next {b = b} l₂ h₂ (next {b = c} l₃ h₃ done))) =
+    let n = of-three a b c in
+    let first : 0xE000 ≤ n = le-trans k₇ (of-three-le l₁ l₂ l₃) in
+    let last : n ≤ 0xFFFF = le-trans (of-three-le h₁ h₂ h₃) k₈ in
+    three-encoded a b c (le-trans k₁ l₁) (le-trans h₁ k₂) (le-trans k₃ l₂) (le-trans h₂ k₄) (le-trans k₅ l₃) (le-trans h₃ k₆) (omega arith) (scalar-high n first (omega arith))
 
-row-F1 : {xs : List ℕ} → Fits (0xF1 ‥ 0xF3 ∷ 0x80 ‥ 0xBF ∷ 0x80 ‥ 0xBF ∷ 0x80 ‥ 0xBF ∷ []) xs → Encoded xs
-row-F1 (next {b = a} l₁ h₁ (next {b = b} l₂ h₂ (next {b = c} l₃ h₃ (next {b = d} l₄ h₄ done)))) =
-    four-encoded a b c d (omega arith) (omega arith) (omega arith) l₃ h₃ l₄ h₄ (omega arith) (omega arith)
-
-row-F4 : {xs : List ℕ} → Fits (0xF4 ‥ 0xF4 ∷ 0x80 ‥ 0x8F ∷ 0x80 ‥ 0xBF ∷ 0x80 ‥ 0xBF ∷ []) xs → Encoded xs
-row-F4 (next {b = a} l₁ h₁ (next {b = b} l₂ h₂ (next {b = c} l₃ h₃ (next {b = d} l₄ h₄ done)))) =
-    four-encoded a b c d (omega arith) (omega arith) (omega arith) l₃ h₃ l₄ h₄ (omega arith) (omega arith)
+row-four : {xs : List ℕ} (r q p o : Range) → 0xF0 ≤ r .lo → 0x80 ≤ q .lo → q .hi ≤ 0xBF → 0x80 ≤ p .lo → p .hi ≤ 0xBF → 0x80 ≤ o .lo → o .hi ≤ 0xBF
+    → 0x10000 ≤ of-four (r .lo) (q .lo) (p .lo) (o .lo) → of-four (r .hi) (q .hi) (p .hi) (o .hi) ≤ 0x10FFFF → Fits (r ∷ q ∷ p ∷ o ∷ []) xs → Encoded xs
+row-four r q p o k₁ k₂ k₃ k₄ k₅ k₆ k₇ k₈ k₉ (next {b = a} l₁ h₁ (next {b = b} l₂ h₂ (next {b = c} l₃ h₃ (next {b = d} l₄ h₄ done)))) =
+    four-encoded a b c d (le-trans k₁ l₁) (le-trans k₂ l₂) (le-trans h₂ k₃) (le-trans k₄ l₃) (le-trans h₃ k₅) (le-trans k₆ l₄) (le-trans h₄ k₇) (le-trans k₈ (of-four-le l₁ l₂ l₃ l₄)) (le-trans (of-four-le h₁ h₂ h₃ h₄) k₉)
 
 -- what holds of each row of a list
 abbrev Each : (List Range → Type 0) → List (List Range) → Type 0
@@ -244,8 +254,34 @@ each-at P (row ∷ rows) t (List·Memᴰ·tail m) = each-at P rows (t .1) m
 -- BYTES THAT FIT A ROW OF THE TABLE ARE THOSE OF A SCALAR VALUE
 pub fits-encoded : {row : List Range} {xs : List ℕ} → List·Memᴰ row table → Fits row xs → Encoded xs
 unfolding table
-fits-encoded {row} {xs} m f =
-    each-at (λ (r : List Range). Fits r xs → Encoded xs) table (one-encoded, (two-encoded, (row-E0, (row-E1, (row-ED, (row-EE, (row-F0, (row-F1, (row-F4, tt))))))))) m f
+fits-encoded {row} {xs} m f = each-at (λ (r : List Range). Fits r xs → Encoded xs) table (
+  row-one _ (omega arith),
+  (
+    row-two _ _ (omega arith) (omega arith) (omega arith) (omega arith),
+    (
+      row-low _ _ _ (omega arith) (omega arith) (omega arith) (omega arith) (omega arith) (omega arith) (omega arith) (omega arith),
+      (
+        row-low _ _ _ (omega arith) (omega arith) (omega arith) (omega arith) (omega arith) (omega arith) (omega arith) (omega arith),
+        (
+          row-low _ _ _ (omega arith) (omega arith) (omega arith) (omega arith) (omega arith) (omega arith) (omega arith) (omega arith),
+          (
+            row-high _ _ _ (omega arith) (omega arith) (omega arith) (omega arith) (omega arith) (omega arith) (omega arith) (omega arith),
+            (
+              row-four _ _ _ _ (omega arith) (omega arith) (omega arith) (omega arith) (omega arith) (omega arith) (omega arith) (omega arith) (omega arith),
+              (
+                row-four _ _ _ _ (omega arith) (omega arith) (omega arith) (omega arith) (omega arith) (omega arith) (omega arith) (omega arith) (omega arith),
+                (
+                  row-four _ _ _ _ (omega arith) (omega arith) (omega arith) (omega arith) (omega arith) (omega arith) (omega arith) (omega arith) (omega arith),
+                  tt,
+                ),
+              ),
+            ),
+          ),
+        ),
+      ),
+    ),
+  ),
+) m f
 
 -- ---- the first code point, read back
 
