@@ -17,7 +17,7 @@ ghost use Rattle.lattice.specs.JoinTable.{cell};
 ghost use Rattle.lattice.specs.JoinCases.{joinArrayOther};
 ghost use Rattle.lattice.specs.Unions.{kept};
 ghost use Rattle.lattice.specs.World.{worldOf};
-ghost use Rattle.joins.specs.Joins.{withFirst, Fits, Joinable, Apart, Known, Base, bothArrays, AllLegal};
+ghost use Rattle.joins.specs.Joins.{withFirst, Fits, Joinable, Apart, Known, Base, bothArrays, AllLegal, Ascend};
 
 // The joins of primitives, rows by the left category. Two equal ones join to themselves.
 const JOINS: [[u64; 11]; 11] = [
@@ -370,9 +370,10 @@ fn join_arrays(pairs: &[u64], marks: &[u64], t: Tables, left: TypeWord, right: T
     }
 }
 
-// The join of a list of types, from the first on; of none there is none.
+// The join of a list of types, from the first on; of none there is none. The order matters, and the Rust sorts its list: here a list
+// comes as the set that it is, in order (specs/Sort: then the sort changes nothing).
 pub fn join_all(pairs: &[u64], marks: &[u64], t: Tables, words: &[u64]) -> MaybeType
-    requires { ⌜ Fits t × AllLegal t (now words) ⌝ }
+    requires { ⌜ Fits t × AllLegal t (now words) × Ascend (map typeOf (now words)) ⌝ }
     ensures { λ r. ⌜ r ≡ maybeWord (joinAll (worldOf (now (pairs .entry)) (now (marks .entry)) t) (map typeOf (now (words .entry)))) ⌝ }
 {
     if words.len() == 0 {
