@@ -15,7 +15,7 @@ use Rattle.sorted.specs.Sorted.{runOf}
 use Rattle.sorted.specs.Places.{place-le}
 use Rattle.view.specs.View.{View, insertAll, withParents}
 use Rattle.view.specs.Frontier.{members-pop, members-none}
-use Rattle.hierarchy.specs.Table.{parentsIn, between, mark}
+use Rattle.tables.specs.Table.{parentsIn, between, mark}
 
 -- ---- with_parents: the keys of the run, one by one
 

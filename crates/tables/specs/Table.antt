@@ -15,9 +15,19 @@ use Rattle.sets.specs.Sets.{bit, at, member}
 use Rattle.sorted.specs.Sorted.{runOf, Sorted, place}
 use Rattle.sorted.specs.Laws.{elem-get}
 use Rattle.sorted.specs.Places.{run-only, run-all, has-elem, has-get}
-use Rattle.hierarchy.specs.declared.Classes.{Classes}
+use Rattle.tables.specs.declared.Tables.{Tables}
 use Rattle.view.specs.View.{View, reached, reach, steps, castByFacts}
 use Rattle.view.specs.Reach.{Good}
+
+-- how many names, keys and words of marks there may be: the lengths of the two slices
+abbrev pub namesRoom : ℕ
+namesRoom = 1024
+
+abbrev pub pairsRoom : ℕ
+pairsRoom = 4096
+
+abbrev pub marksRoom : ℕ
+marksRoom = 64
 
 -- the parents that a list of keys names; a number that is no class's is ignored
 unfoldable pub parentsIn : ℕ → List ℕ → List ℕ
@@ -46,7 +56,7 @@ unfolding mark at
 mark-at marks k c h = ap (bit (c % 64)) (getD-take 16 (drop (16 * k) marks) (c / 64) 0 (omega arith) ∙ getD-drop (16 * k) marks (c / 64) 0)
 
 -- THE VIEW of the tables
-abbrev pub viewOf : List ℕ → List ℕ → Classes → View
+abbrev pub viewOf : List ℕ → List ℕ → Tables → View
 viewOf pairs marks t = record {
   names = t .names;
   object = t .object;
@@ -56,24 +66,6 @@ viewOf pairs marks t = record {
   interface = member (mark marks 2);
   final = member (mark marks 3);
 }
-
--- the same where only parents are asked: the marks are not read
-abbrev pub parentView : List ℕ → Classes → View
-parentView pairs t = viewOf pairs [] t
-
--- the cast test by the marks of two classes
-unfoldable pub castMarked : List ℕ → ℕ → ℕ → Bool
-castMarked marks source target =
-    (member (mark marks 1) source && member (mark marks 1) target)
-    && castByFacts (member (mark marks 2) source) (member (mark marks 3) source) (member (mark marks 2) target) (member (mark marks 3) target)
-
--- ---- what a walk from x towards y tells
-
-pub record Walked (v : View) (x y : ℕ) (found : Bool) (level : ℕ) (seen : List ℕ) : Type 0 where
-  -- whether y is reached; then its level, else all that is reached
-  pub tells : found ≡ reach v x y
-  pub at-level : reach v x y ≡ true → level ≡ steps v x y
-  pub has-seen : reach v x y ≡ false → seen ≡ reached v x
 
 -- ---- the parents, on any contents
 
@@ -157,7 +149,7 @@ module _ (names y : ℕ) where
       (λ m. parents-exactly l c g h .0 m .1, λ e. parents-exactly l c g h .1 (let k = classes (c * 1024 + y) e in omega arith, e))
 
 -- THE TABLES GIVE A GOOD VIEW, on any contents
-pub view-good : (pairs marks : List ℕ) (t : Classes) → t .names ≤ 1024 → t .object < t .names → Good (viewOf pairs marks t)
+pub view-good : (pairs marks : List ℕ) (t : Tables) → t .names ≤ 1024 → t .object < t .names → Good (viewOf pairs marks t)
 view-good pairs marks t h o = record {
   few = h;
   object-in = o;
