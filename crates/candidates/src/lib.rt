@@ -47,7 +47,7 @@ pub fn producer_bound_compatible(
 }
 
 // Whether two known types take the same kind of register: two references, or two primitives that are both wide or both not.
-pub fn same_register_category(left: TypeWord, right: TypeWord) -> bool
+fn same_register_category(left: TypeWord, right: TypeWord) -> bool
     ensures { λ r. ⌜ r ≡ sameRegisterCategory (typeOf (left .word)) (typeOf (right .word)) ⌝ }
 {
     if are_references(left, right) {
@@ -66,7 +66,7 @@ pub fn same_register_category(left: TypeWord, right: TypeWord) -> bool
 }
 
 // Whether a type that was observed accepts a candidate.
-pub fn observed_accepts(observed: TypeWord, candidate: TypeWord) -> bool
+fn observed_accepts(observed: TypeWord, candidate: TypeWord) -> bool
     requires { ⌜ Legal (observed .word) × Legal (candidate .word) ⌝ }
     ensures { λ r. ⌜ r ≡ observedAccepts (typeOf (observed .word)) (typeOf (candidate .word)) ⌝ }
 {

@@ -167,7 +167,7 @@ const JOINS: [[u64; 11]; 11] = [
 ];
 
 // The join of two primitives, by the table.
-pub fn join_primitives(left: u64, right: u64) -> TypeWord
+fn join_primitives(left: u64, right: u64) -> TypeWord
     requires { ⌜ (left < 11) × (right < 11) ⌝ }
     ensures { λ r. ⌜ r .word ≡ cell left right ⌝ }
 {
@@ -205,7 +205,7 @@ fn keep_members(load: u64, set: u64) -> u64
 }
 
 // The Unknown of the categories of both, ascending.
-pub fn unknown_union(left: TypeWord, right: TypeWord) -> TypeWord
+fn unknown_union(left: TypeWord, right: TypeWord) -> TypeWord
     requires { ⌜ Legal (left .word) × Legal (right .word) ⌝ }
     ensures { λ r. ⌜ r .word ≡ wordOf (unknownUnion (typeOf (left .word)) (typeOf (right .word))) ⌝ }
 {
@@ -216,7 +216,7 @@ pub fn unknown_union(left: TypeWord, right: TypeWord) -> TypeWord
 }
 
 // The Unknown of the members of the first one's list that the second has; the full one where there are none.
-pub fn in_both(left: TypeWord, right: TypeWord) -> TypeWord
+fn in_both(left: TypeWord, right: TypeWord) -> TypeWord
     requires { ⌜ Legal (left .word) × Legal (right .word) × (isKnown (typeOf (left .word)) ≡ false) ⌝ }
     ensures { λ r. ⌜ r .word ≡ wordOf (orFull (inBoth (categories (typeOf (left .word))) (categories (typeOf (right .word))))) ⌝ }
 {
@@ -245,7 +245,7 @@ fn category(t: TypeWord) -> u64
 }
 
 // A known type with an Unknown: the known one where the Unknown accepts it, else the categories of both.
-pub fn join_known(known: TypeWord, unknown: TypeWord) -> TypeWord
+fn join_known(known: TypeWord, unknown: TypeWord) -> TypeWord
     requires { ⌜ Legal (known .word) × Legal (unknown .word) × (isKnown (typeOf (known .word)) ≡ true) ⌝ }
     ensures { λ r. ⌜ r .word ≡ wordOf (joinKnown (typeOf (known .word)) (categories (typeOf (unknown .word)))) ⌝ }
 {
