@@ -8,7 +8,7 @@ ghost use mathlib.Core.Bool.{true, false, _&&_};
 ghost use mathlib.Core.List.{[]};
 ghost use Prim.Native.Nat.{_^_, _≤_, _<_};
 ghost use lib.ListN.{length};
-ghost use Rattle.tables.specs.Table.{marksRoom};
+ghost use Rattle.tables.specs.Table.{namesRoom, marksRoom};
 ghost use Rattle.ty.specs.Types.{Object, categories, isKnown, isArray};
 ghost use Rattle.ty.specs.Words.{Legal, typeOf};
 ghost use Rattle.lattice.specs.Lattice.{notNo, unknownAccepts, primitiveAssignable, arrayParent, assignableApart, isAssignable};
@@ -42,7 +42,7 @@ pub fn primitive_assignable(value: u64, expected: u64) -> bool
 
 // Whether every array is assignable to the class: Object, Cloneable, Serializable.
 fn array_parent(t: Tables, class: u64) -> bool
-    requires { ⌜ class < 1024 ⌝ }
+    requires { ⌜ class < namesRoom ⌝ }
     ensures { λ r. ⌜ r ≡ arrayParent (worldOf [] [] t) class ⌝ }
 {
     if class == t.object {
@@ -67,7 +67,7 @@ fn not_no(r: Relation) -> bool
 
 // A known type to a class.
 fn to_class(pairs: &[u64], marks: &[u64], t: Tables, value: TypeWord, class: u64) -> bool
-    requires { ⌜ (length (now marks) ≡ marksRoom) × (isKnown (typeOf (value .word)) ≡ true) × (class < 1024) ⌝ }
+    requires { ⌜ (length (now marks) ≡ marksRoom) × (isKnown (typeOf (value .word)) ≡ true) × (class < namesRoom) ⌝ }
     ensures { λ r. ⌜ r ≡ assignableApart (worldOf (now (pairs .entry)) (now (marks .entry)) t) (typeOf (value .word)) (Object class) ⌝ }
 {
     if value.is_array() {

@@ -12,7 +12,7 @@ ghost use mathlib.Core.List.{map};
 ghost use Prim.Native.Nat.{_≤_, _<_};
 ghost use lib.ListN.{length};
 ghost use mathlib.Core.Option.{some};
-ghost use Rattle.tables.specs.Table.{marksRoom};
+ghost use Rattle.tables.specs.Table.{namesRoom, marksRoom};
 ghost use Rattle.ty.specs.Types.{isReference, concreteHint};
 ghost use Rattle.ty.specs.Words.{Legal, typeOf};
 ghost use Rattle.ty.specs.Answers.{maybeWord};
@@ -179,7 +179,7 @@ fn with_bound(
     bound: TypeWord,
     best: MaybeType,
 ) -> MaybeType
-    requires { ⌜ (length (now marks) ≡ marksRoom) × (t .object < 1024) × AllLegal (now upper) × Legal (bound .word) × LegalMaybe best ⌝ }
+    requires { ⌜ (length (now marks) ≡ marksRoom) × (t .object < namesRoom) × AllLegal (now upper) × Legal (bound .word) × LegalMaybe best ⌝ }
     ensures { λ r. ⌜ LegalMaybe r × (maybeType r ≡ candidate (worldOf (now (pairs .entry)) (now (marks .entry)) t) (map typeOf (now (upper .entry))) (concreteHint (t .object) (typeOf (bound .word))) (maybeType best)) ⌝ }
 {
     let object = t.object;
@@ -191,7 +191,7 @@ fn with_bound(
 
 // The least hint of an upper bound that is assignable to all of them, from the last bound to the first.
 pub fn most_specific_upper(pairs: &[u64], marks: &[u64], t: Tables, upper: &[u64]) -> MaybeType
-    requires { ⌜ (length (now marks) ≡ marksRoom) × (t .object < 1024) × AllLegal (now upper) ⌝ }
+    requires { ⌜ (length (now marks) ≡ marksRoom) × (t .object < namesRoom) × AllLegal (now upper) ⌝ }
     ensures { λ r. ⌜ r ≡ maybeWord (mostSpecificUpper (worldOf (now (pairs .entry)) (now (marks .entry)) t) (map typeOf (now (upper .entry)))) ⌝ }
 {
     let mut best = MaybeType::Nothing;

@@ -8,6 +8,7 @@ ghost use mathlib.Core.Path.{_≡_};
 ghost use mathlib.Core.Bool.{true, false, cond};
 ghost use mathlib.Core.List.{[], _∷_, map};
 ghost use Prim.Native.Nat.{_*_, _/_, _^_, _≤_, _<_};
+ghost use Rattle.tables.specs.Table.{namesRoom};
 ghost use Rattle.ty.specs.Types.{Object, categories, isKnown};
 ghost use Rattle.ty.specs.Words.{Legal, typeOf, wordOf, listOf};
 ghost use Rattle.ty.specs.Answers.{maybeWord};
@@ -258,7 +259,7 @@ fn join_known(known: TypeWord, unknown: TypeWord) -> TypeWord
 
 // An array and a known type that is none: Object where that is Object, else the categories of both.
 fn join_array(object: u64, array: TypeWord, other: TypeWord) -> TypeWord
-    requires { ⌜ Legal (array .word) × Legal (other .word) × (object < 1024) ⌝ }
+    requires { ⌜ Legal (array .word) × Legal (other .word) × (object < namesRoom) ⌝ }
     ensures { λ r. ⌜ r .word ≡ wordOf (joinArrayOther object (typeOf (array .word)) (typeOf (other .word))) ⌝ }
 {
     if other.word == 281474976710656 + object {
