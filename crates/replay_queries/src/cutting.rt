@@ -63,8 +63,12 @@ fn cut(
     x: u64,
     y: u64,
     r: &[u64],
+    room: usize,
     work: &mut [u64],
 ) -> Verdict {
+    if work.len() < room {
+        return Verdict::Unread;
+    }
     let a = lists::end(t, 3);
     if a <= 3 {
         return Verdict::Unread;
@@ -87,28 +91,31 @@ fn cut(
         x,
         y,
         r,
-        work,
+        &mut work[0..room],
     )
 }
 
-// How many arguments the line at a place of the names has: a table `n`, a pair two, another one.
+// How many arguments the line at a place of the names has: a table `n`, a pair two, each other one; none past the names.
 fn arguments(place: usize, n: usize) -> usize {
     match place {
         0 => n,
         1 => 2,
-        _ => 1,
+        2..=4 => 1,
+        _ => 0,
     }
 }
 
+// An argument; for a table the word of Int, of which it is asked.
+fn argument(place: usize, n: u64) -> u64 {
+    if place == 0 {
+        return 5;
+    }
+    n
+}
+
 // The verdict on the line at a place of the names about a table: its arguments, and the answers recorded.
-pub(crate) fn over(
-    place: usize,
-    t: &[u64],
-    store: &[u8],
-    q: &[u64],
-    r: &[u64],
-    work: &mut [u64],
-) -> Verdict {
+pub(crate) fn over(place: usize, t: &[u64], store: &[u8], q: &[u64], r: &[u64]) -> Verdict {
+    let mut work = [0u64; 8200];
     let n = q.len();
     if n == 0 || n != arguments(place, n) {
         return Verdict::Unread;
@@ -116,7 +123,6 @@ pub(crate) fn over(
     if t.len() < 3 {
         return Verdict::Unread;
     }
-    let room = t[0] as usize;
     let s = t[1] as usize;
     let e = t[2] as usize;
     if e < s {
@@ -125,16 +131,14 @@ pub(crate) fn over(
     if store.len() < e {
         return Verdict::Unread;
     }
-    if work.len() < room {
-        return Verdict::Unread;
-    }
     cut(
         place,
         &store[s..e],
         t,
-        q[0],
-        q[n - 1],
+        argument(place, q[0]),
+        argument(place, q[n - 1]),
         r,
-        &mut work[0..room],
+        t[0] as usize,
+        &mut work,
     )
 }

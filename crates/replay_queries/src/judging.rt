@@ -5,10 +5,40 @@ use replaying::answers;
 use replaying::answers::Verdict;
 use replaying::lists;
 
-// Whether the answers about x and each of `others` are those recorded: the refusal of all, then an answer for each. The
-// answers are to the questions from 0 on, one after the other, or all to question `first` where that is not 0.
+// The question whose answer stands at index i of a line's answers: a pair has four, one after the other, a table is asked for
+// a join.
+fn question(place: usize, i: usize) -> usize {
+    match place {
+        0 => 4,
+        1 => i,
+        3 => 4,
+        _ => 5,
+    }
+}
+
+// The number that x is put beside there.
+fn other(place: usize, types: &[u64], y: u64, i: usize) -> u64 {
+    if place < 2 {
+        return y;
+    }
+    if i < types.len() {
+        return types[i];
+    }
+    0
+}
+
+// How many answers there are.
+fn count(place: usize, types: &[u64]) -> usize {
+    match place {
+        0 => 1,
+        1 => 4,
+        _ => types.len(),
+    }
+}
+
+// Whether the answers to a line are those recorded: the refusal of all, then an answer for each.
 fn are_said(
-    first: usize,
+    place: usize,
     names: &[u8],
     name_at: &[u64],
     name_len: &[u64],
@@ -17,24 +47,25 @@ fn are_said(
     rec_at: &[u64],
     rec_len: &[u64],
     parents: &[u64],
+    types: &[u64],
     x: u64,
-    others: &[u64],
+    y: u64,
     r: &[u64],
     work: &mut [u64],
 ) -> bool {
-    if r.len() != others.len() + 1 {
+    if r.len() == 0 {
+        return false;
+    }
+    if r.len() - 1 != count(place, types) {
         return false;
     }
     let refusal = r[0];
-    let mut i: usize = 0;
-    while i < others.len() {
-        let next = i + 1;
-        if r.len() <= next {
-            return false;
-        }
+    let mut next: usize = 1;
+    while next < r.len() {
         let recorded = r[next];
+        let i = next - 1;
         let said = asking::answer(
-            question(first, i),
+            question(place, i),
             names,
             name_at,
             name_len,
@@ -44,22 +75,15 @@ fn are_said(
             rec_len,
             parents,
             x,
-            others[i],
+            other(place, types, y, i),
             work,
         );
         if said.refusal != refusal || said.value != recorded {
             return false;
         }
-        i = next;
+        next += 1;
     }
     true
-}
-
-fn question(first: usize, i: usize) -> usize {
-    if first == 0 {
-        return i;
-    }
-    first
 }
 
 // Whether the words of a set are those of a list and then zeros.
@@ -94,8 +118,7 @@ fn is_set(s: BpSet, r: &[u64]) -> Verdict {
     answers::judged(is_said && are_words(&s.words, &r[4..e]))
 }
 
-// The verdict on the line at a place of the names: its first and last argument, and the answers recorded. A table has the refusal of the
-// ancestors of class 0 and that of the join of Int and Int.
+// The verdict on the line at a place of the names: its first and last argument, and the answers recorded.
 pub(crate) fn judge(
     place: usize,
     names: &[u8],
@@ -112,38 +135,8 @@ pub(crate) fn judge(
     r: &[u64],
     work: &mut [u64],
 ) -> Verdict {
-    match place {
-        0 => {
-            let s = bracepuffin::bp_ancestors(
-                names,
-                name_at,
-                name_len,
-                rec_flags,
-                rec_class,
-                rec_at,
-                rec_len,
-                parents,
-                0,
-                work,
-            );
-            let a = asking::answer(
-                4,
-                names,
-                name_at,
-                name_len,
-                rec_flags,
-                rec_class,
-                rec_at,
-                rec_len,
-                parents,
-                5,
-                5,
-                work,
-            );
-            answers::all(&[s.refusal, a.refusal], r)
-        }
-        1 => answers::judged(are_said(
-            0,
+    if place == 2 {
+        let s = bracepuffin::bp_ancestors(
             names,
             name_at,
             name_len,
@@ -153,55 +146,25 @@ pub(crate) fn judge(
             rec_len,
             parents,
             x,
-            &[y, y, y, y],
-            r,
             work,
-        )),
-        2 => {
-            let s = bracepuffin::bp_ancestors(
-                names,
-                name_at,
-                name_len,
-                rec_flags,
-                rec_class,
-                rec_at,
-                rec_len,
-                parents,
-                x,
-                work,
-            );
-            is_set(s, r)
-        }
-        3 => answers::judged(are_said(
-            4,
-            names,
-            name_at,
-            name_len,
-            rec_flags,
-            rec_class,
-            rec_at,
-            rec_len,
-            parents,
-            x,
-            types,
-            r,
-            work,
-        )),
-        4 => answers::judged(are_said(
-            5,
-            names,
-            name_at,
-            name_len,
-            rec_flags,
-            rec_class,
-            rec_at,
-            rec_len,
-            parents,
-            x,
-            types,
-            r,
-            work,
-        )),
-        _ => Verdict::Unread,
+        );
+        return is_set(s, r);
     }
+    let is_said = are_said(
+        place,
+        names,
+        name_at,
+        name_len,
+        rec_flags,
+        rec_class,
+        rec_at,
+        rec_len,
+        parents,
+        types,
+        x,
+        y,
+        r,
+        work,
+    );
+    answers::judged(is_said)
 }

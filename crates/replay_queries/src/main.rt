@@ -28,14 +28,7 @@ fn is_table(line: &[u8]) -> bool {
 }
 
 // The verdict on a case whose numbers are in `numbers`, about the table of the first `held` numbers of `table`.
-fn judge(
-    c: Case,
-    numbers: &[u64],
-    held: usize,
-    table: &[u64],
-    store: &[u8],
-    work: &mut [u64],
-) -> Verdict
+fn judge(c: Case, numbers: &[u64], held: usize, table: &[u64], store: &[u8]) -> Verdict
     requires { ⌜ (c .split ≤ c .count) × (c .count ≤ length (now numbers)) ⌝ }
 {
     let split = c.split;
@@ -49,16 +42,15 @@ fn judge(
         store,
         &numbers[0..split],
         &numbers[split..count],
-        work,
     )
 }
 
 // A new table.
-fn new_table(line: &[u8], table: &mut [u64], store: &mut [u8], work: &mut [u64]) -> Outcome {
+fn new_table(line: &[u8], table: &mut [u64], store: &mut [u8]) -> Outcome {
     let c = cases::read(&NAMES, line, table, store);
     let held = c.split;
     let place = c.place;
-    let verdict = judge(c, table, held, table, store, work);
+    let verdict = judge(c, table, held, table, store);
     Outcome {
         held,
         place,
@@ -67,12 +59,12 @@ fn new_table(line: &[u8], table: &mut [u64], store: &mut [u8], work: &mut [u64])
 }
 
 // A question about the table.
-fn query(line: &[u8], held: usize, table: &[u64], store: &[u8], work: &mut [u64]) -> Outcome {
+fn query(line: &[u8], held: usize, table: &[u64], store: &[u8]) -> Outcome {
     let mut numbers = [0u64; 256];
     let mut bytes = [0u8; 16];
     let c = cases::read(&NAMES, line, &mut numbers, &mut bytes);
     let place = c.place;
-    let verdict = judge(c, &numbers, held, table, store, work);
+    let verdict = judge(c, &numbers, held, table, store);
     Outcome {
         held,
         place,
@@ -80,31 +72,19 @@ fn query(line: &[u8], held: usize, table: &[u64], store: &[u8], work: &mut [u64]
     }
 }
 
-fn one_line(
-    line: &[u8],
-    held: usize,
-    table: &mut [u64],
-    store: &mut [u8],
-    work: &mut [u64],
-) -> Outcome {
+fn one_line(line: &[u8], held: usize, table: &mut [u64], store: &mut [u8]) -> Outcome {
     if is_table(line) {
-        return new_table(line, table, store, work);
+        return new_table(line, table, store);
     }
-    query(line, held, table, store, work)
+    query(line, held, table, store)
 }
 
-fn each_line(
-    input: &[u8],
-    table: &mut [u64],
-    store: &mut [u8],
-    work: &mut [u64],
-    counts: &mut [u64],
-) {
+fn each_line(input: &[u8], table: &mut [u64], store: &mut [u8], counts: &mut [u64]) {
     let mut held: usize = 0;
     let mut i: usize = 0;
     while i < input.len() {
         let e = text::part_end(input, i, b'\n');
-        let o = one_line(&input[i..e], held, table, store, work);
+        let o = one_line(&input[i..e], held, table, store);
         let verdict = o.verdict;
         report::record(counts, o.place, verdict);
         held = o.held;
@@ -112,16 +92,10 @@ fn each_line(
     }
 }
 
-fn run(
-    input: &mut [u8],
-    table: &mut [u64],
-    store: &mut [u8],
-    work: &mut [u64],
-    counts: &mut [u64],
-) {
+fn run(input: &mut [u8], table: &mut [u64], store: &mut [u8], counts: &mut [u64]) {
     let n = io::read_full(libc::STDIN_FILENO, input);
     report::note_full(counts, n == input.len());
-    each_line(&input[..n], table, store, work, counts);
+    each_line(&input[..n], table, store, counts);
     report::print(&NAMES, counts);
 }
 
@@ -129,7 +103,6 @@ fn main() {
     let mut input = cases::room();
     let mut table = [0u64; 2048];
     let mut store = [0u8; 2048];
-    let mut work = [0u64; 8200];
     let mut counts = [0u64; 128];
-    run(&mut input, &mut table, &mut store, &mut work, &mut counts);
+    run(&mut input, &mut table, &mut store, &mut counts);
 }

@@ -81,7 +81,7 @@ const DESCRIPTORS: &[Function] = &[
 
 #[rustfmt::skip]
 const QUERIES: &[Function] = &[
-    function("table", "room names types rec_flags rec_class rec_at rec_len parents = refusal of the ancestors of class 0, and of the join of Int and Int", "rules", tables::tables),
+    function("table", "room names types rec_flags rec_class rec_at rec_len parents = refusal, and the join of Int and Int", "rules", tables::tables),
     function("pair", "a b = refusal relation distance supertype cast of a and b over the last table: relation 0 yes, 1 no, 2 unknown", "subtype_relation, distances, least_common_supertype, is_cast_convertible of ClassHierarchyIndex in hierarchy.rs; rules for refusals", with_the_table),
     function("ancestors", "class = refusal count lowest and the list of words of the set of its ancestors, without the zeros at its end", "ancestor_names of ClassHierarchyIndex; rules for refusals", with_the_table),
     function("join", "w = refusal, and the join of w and each of the types of the last table", "TypeLattice::join over ClassHierarchyIndex; rules for refusals", joins::types),

@@ -176,11 +176,11 @@ pub(crate) fn table_case(out: &mut Out, table: &Classes, types: &[u64], room: us
     for column in columns {
         arguments.extend(numbers(&list(column.iter().copied())));
     }
-    let refusals = [
-        table.refusal(&[0], room),
-        table.word_refusal(&[INT, INT], room),
-    ];
-    out.begin("table", &arguments, &numbers(&refusals));
+    let answer = match table.word_refusal(&[INT, INT], room) {
+        0 => [0, INT],
+        refusal => [refusal, 0],
+    };
+    out.begin("table", &arguments, &numbers(&answer));
 }
 
 /// What is asked about a table: nothing but refusals if it has no judge.

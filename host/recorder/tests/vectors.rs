@@ -347,7 +347,7 @@ fn telling_lines_are_there() {
         "lookup x 0 0 x = 17 0",
         "utf8 xeda080 = 0",
         // Object alone is its own ancestor
-        "table 2000 x6a6176612f6c616e672f4f626a656374 1 0 1 10 0 0 0 0 0 0 = 0 0",
+        "table 2000 x6a6176612f6c616e672f4f626a656374 1 0 1 10 0 0 0 0 0 0 = 0 5",
         "pair 0 0 = 0 0 0 0 1",
         "ancestors 0 = 0 1 0 1 1",
     ];

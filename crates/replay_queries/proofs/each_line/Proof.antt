@@ -7,10 +7,10 @@ use Rattle.replay_queries.proofs.each_line.Statement.{statement}
 use Rattle.replay_queries.proofs.each_line.Tie as tie
 
 abbrev Inv-loop : tie.InvT-loop
-Inv-loop input table₀ store₀ work₀ counts₀ held₀ i₀ table store work counts held i = (length input < 2 ^ 63) × (length table ≡ length table₀) × (length store ≡ length store₀) × (length work ≡ length work₀) × (length counts ≡ length counts₀)
+Inv-loop input table₀ store₀ counts₀ held₀ i₀ table store counts held i = (length input < 2 ^ 63) × (length table ≡ length table₀) × (length store ≡ length store₀) × (length counts ≡ length counts₀)
 
 abbrev μ-loop : tie.MeasureT-loop
-μ-loop input table₀ store₀ work₀ counts₀ held₀ i₀ table store work counts held i = length input + 1 - i
+μ-loop input table₀ store₀ counts₀ held₀ i₀ table store counts held i = length input + 1 - i
 
 loop-holds : tie.Need-loop-holds Inv-loop μ-loop
 loop-holds c = search needs
@@ -51,9 +51,6 @@ same-length-2 c = search needs
 same-length-3 : tie.Need-same-length-3 Inv-loop μ-loop
 same-length-3 c = search needs
 
-same-length-4 : tie.Need-same-length-4 Inv-loop μ-loop
-same-length-4 c = search needs
-
 returns : tie.Need-returns Inv-loop μ-loop
 returns c = search needs
 
@@ -76,5 +73,4 @@ each-line-spec =
     same-length
     same-length-2
     same-length-3
-    same-length-4
     returns)
