@@ -14,4 +14,6 @@ pub mod Masks
 pub mod Same
 pub mod Unions
 pub mod JoinTable
+pub mod JoinGrid
+pub mod Registers
 pub mod JoinCases
