@@ -199,7 +199,7 @@ joinApart w (Unknown cs) (Unknown ds) = orFull (inBoth cs ds)
 unfoldable pub join : World → ArgType → ArgType → ArgType
 join w left right = cond (sameType left right) left (joinApart w left right)
 
--- join_all of a sorted list
+-- join_all of a list that ascends: the Rust sorts first (JoinAll)
 unfoldable pub joinFrom : World → ArgType → List ArgType → ArgType
 joinFrom w left [] = left
 joinFrom w left (right ∷ rest) = joinFrom w (join w left right) rest

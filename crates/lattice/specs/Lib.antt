@@ -16,4 +16,6 @@ pub mod Unions
 pub mod JoinTable
 pub mod JoinGrid
 pub mod Registers
+pub mod Kinds
+pub mod JoinAll
 pub mod JoinCases
