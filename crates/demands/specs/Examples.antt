@@ -6,8 +6,8 @@ use mathlib.Core.Option.{some}
 use Rattle.descriptor.specs.declared.Base.the-variants.{Simple}
 use Rattle.descriptor.specs.declared.Read.the-variants.{Found, Refused}
 use Rattle.descriptor.specs.Read.{readWhole}
-use Rattle.descriptor.specs.Method.{Broken, readMethod}
-use Rattle.descriptor.specs.Examples as reading
+use Rattle.methods.specs.Method.{Broken, readMethod}
+use Rattle.methods.specs.Examples as reading
 use Rattle.ty.specs.Types.{Primitive, Object, Unknown}
 use Rattle.view.specs.declared.Relation.the-variants.{No, Unknown as Incomplete}
 use Rattle.view.specs.View.{relation, supertype}

@@ -14,7 +14,7 @@ use Rattle.descriptor.specs.declared.Base.{Base}
 use Rattle.descriptor.specs.declared.Read.{Read}
 use Rattle.descriptor.specs.declared.Read.the-variants.{Found, Refused}
 use Rattle.descriptor.specs.Read.{readType}
-use Rattle.descriptor.specs.Method.{Params, Listed, Stopped, Method, Whole, Broken, pickP, before, onward, readParams, strictParams}
+use Rattle.methods.specs.Method.{Params, Listed, Stopped, Method, Whole, Broken, pickP, before, onward, readParams, strictParams}
 use Rattle.jvms.specs.Jvms.{JavaType, dimensions, AnyName, FieldType, Parameter, Parameters, Parameters.none, Parameters.more}
 use Rattle.jvms.specs.Meaning.{typeAt, typeRead, upTo, parametersAt, placed, starts, ends}
 use Rattle.jvms.specs.Prefix.{prefix, Stop, sound}
