@@ -3,11 +3,12 @@ use mathlib.Core.Path.{_≡_}
 use mathlib.Core.Bool.{false}
 use mathlib.Core.List.{[], _∷_}
 use mathlib.Core.Option.{some}
+use Rattle.text.specs.Text.{ascii}
 use Rattle.descriptor.specs.declared.Base.the-variants.{Simple}
 use Rattle.descriptor.specs.declared.Read.the-variants.{Found, Refused}
 use Rattle.descriptor.specs.Read.{readWhole}
 use Rattle.methods.specs.Method.{Broken, readMethod}
-use Rattle.methods.specs.Examples as reading
+use Rattle.jvms.specs.ReadExamples as reading
 use Rattle.ty.specs.Types.{Primitive, Object, Unknown}
 use Rattle.view.specs.declared.Relation.the-variants.{No, Unknown as Incomplete}
 use Rattle.view.specs.View.{relation, supertype}
@@ -17,12 +18,12 @@ use Rattle.lattice.specs.Lattice.{join, joinAll, isAssignable}
 use Rattle.lattice.specs.Examples as types
 use Rattle.lattice.specs.Examples.{world}
 
--- `[V`, `L;`, `[[I`; method `()`; a/Probe to a/TrussA, a/TrussA with a/TrussB, a/Probe to a/TrussA without Object's record;
+-- four descriptors; a/Probe to a/TrussA, a/TrussA with a/TrussB, a/Probe to a/TrussA without Object's record;
 -- Boolean with Int; Boolean, a/TrussA, a/TrussB in order; Char to Short
-pub examples : (readWhole (91 ∷ 86 ∷ []) ≡ Refused 13 1 0)
-    × (readWhole (76 ∷ 59 ∷ []) ≡ Refused 14 0 0)
-    × (readWhole (91 ∷ 91 ∷ 73 ∷ []) ≡ Found 2 (Simple 5) 3)
-    × (readMethod (40 ∷ 41 ∷ []) ≡ Broken 11 2 0)
+pub examples : (readWhole (ascii "[V") ≡ Refused 13 1 0)
+    × (readWhole (ascii "L;") ≡ Refused 14 0 0)
+    × (readWhole (ascii "[[I") ≡ Found 2 (Simple 5) 3)
+    × (readMethod (ascii "()") ≡ Broken 11 2 0)
     × (relation whole 0 1 ≡ No)
     × (supertype whole 1 2 ≡ some 0)
     × (relation lacking 0 1 ≡ Incomplete)

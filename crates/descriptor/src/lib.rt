@@ -4,9 +4,32 @@ ghost use mathlib.Core.Bool.{true};
 ghost use Prim.Native.Nat.{_+_, _≤_, _<_};
 ghost use lib.Dec.{ltb};
 ghost use lib.ListN.{length, drop};
+ghost use Rattle.text.specs.Text.{byte};
 ghost use Rattle.descriptor.specs.declared.Read.the-variants.{Refused};
 ghost use Rattle.descriptor.specs.Read.{letterOf, indexOf, readName, readType, finish, readWhole};
 ghost use Rattle.descriptor.specs.Core.{coreOf, unCore, flatOf, endedOf, Sound};
+
+// Refusals: the errors of ty.rs in source order, and the limit of dimensions.
+const UNEXPECTED_END: u64 = 11;
+
+const UNEXPECTED_BYTE: u64 = 12;
+
+const VOID_NOT_ALLOWED: u64 = 13;
+
+const EMPTY_OBJECT: u64 = 14;
+
+const TRAILING_INPUT: u64 = 15;
+
+const TOO_DEEP: u64 = 18;
+
+// A core that is no refusal: FOUND, and DIMENSION for each bracket, and the category (CLASS for a class).
+const FOUND: u64 = 256;
+
+const DIMENSION: u64 = 1024;
+
+const CLASS: u64 = 9;
+
+const FOUND_CLASS: u64 = FOUND + CLASS;
 
 // What a type is made of below its dimensions: a category, or a class by the place of its name (first byte, length).
 pub enum Base {
@@ -20,8 +43,8 @@ pub enum Read {
     Refused { code: u64, at: usize, byte: u64 },
 }
 
-// The same in two words, cheaper to hand back at each bracket: a refusal's code and offset; or 256, 1024 for each dimension
-// and the category (9 for a class), and the offset after the type. The rest of a Read follows from the bytes.
+// The same in two words, cheaper to hand back at each bracket: a refusal's code and offset; or the type without its name, and the
+// offset after it. The rest of a Read follows from the bytes.
 struct Core {
     pub what: u64,
     pub at: usize,
@@ -68,7 +91,7 @@ fn letter(b: u8) -> u64
 // Whether a ';' stands among the eight bytes from i on. None ends the loop early, so that the machine tests them at once.
 fn ends_in_block(s: &[u8], i: usize) -> bool
     requires { ⌜ i + 8 ≤ length (now s) ⌝ }
-    ensures { λ r. ⌜ r ≡ ltb (indexOf 59 (drop i (now (s .entry)))) 8 ⌝ }
+    ensures { λ r. ⌜ r ≡ ltb (indexOf (byte ";") (drop i (now (s .entry)))) 8 ⌝ }
 {
     let mut found = false;
     let mut k = 0;
@@ -85,7 +108,7 @@ fn ends_in_block(s: &[u8], i: usize) -> bool
 fn skip_blocks(s: &[u8], from: usize) -> usize
     requires { ⌜ from ≤ length (now s) ⌝ }
     ensures { λ r. ⌜ (r ≤ length (now (s .entry)))
-        × (from + indexOf 59 (drop from (now (s .entry))) ≡ r + indexOf 59 (drop r (now (s .entry)))) ⌝ }
+        × (from + indexOf (byte ";") (drop from (now (s .entry))) ≡ r + indexOf (byte ";") (drop r (now (s .entry)))) ⌝ }
 {
     let mut i = from;
     while 8 <= s.len() - i {
@@ -100,7 +123,7 @@ fn skip_blocks(s: &[u8], from: usize) -> usize
 // Where the first ';' stands at or after `from`; the length where there is none.
 fn find_end(s: &[u8], from: usize) -> usize
     requires { ⌜ from ≤ length (now s) ⌝ }
-    ensures { λ r. ⌜ r ≡ from + indexOf 59 (drop from (now (s .entry))) ⌝ }
+    ensures { λ r. ⌜ r ≡ from + indexOf (byte ";") (drop from (now (s .entry))) ⌝ }
 {
     let mut i = skip_blocks(s, from);
     while i < s.len() {
@@ -120,19 +143,25 @@ fn name_core(s: &[u8], at: usize, dims: u64) -> Core
     let from = at + 1;
     let end = find_end(s, from);
     if end == s.len() {
-        Core { what: 11, at: end }
+        Core {
+            what: UNEXPECTED_END,
+            at: end,
+        }
     } else if end == from {
-        Core { what: 14, at: at }
+        Core {
+            what: EMPTY_OBJECT,
+            at: at,
+        }
     } else {
         let valid = utf8::valid_up_to(&s[0..], from, end);
         if valid < end {
             Core {
-                what: 12,
+                what: UNEXPECTED_BYTE,
                 at: valid,
             }
         } else {
             Core {
-                what: 265 + 1024 * dims,
+                what: FOUND_CLASS + DIMENSION * dims,
                 at: end + 1,
             }
         }
@@ -147,19 +176,25 @@ fn flat_core(k: u64, at: usize, void: bool, dims: u64) -> Core
     if k == 0 {
         if void {
             Core {
-                what: 256 + 1024 * dims,
+                what: FOUND + DIMENSION * dims,
                 at: at + 1,
             }
         } else {
-            Core { what: 13, at: at }
+            Core {
+                what: VOID_NOT_ALLOWED,
+                at: at,
+            }
         }
-    } else if k < 9 {
+    } else if k < CLASS {
         Core {
-            what: 256 + k + 1024 * dims,
+            what: FOUND + k + DIMENSION * dims,
             at: at + 1,
         }
     } else {
-        Core { what: 12, at: at }
+        Core {
+            what: UNEXPECTED_BYTE,
+            at: at,
+        }
     }
 }
 
@@ -170,14 +205,20 @@ fn read_core(s: &[u8], at: usize, void: bool, dims: u64) -> Core
     ensures { λ r. ⌜ r ≡ coreOf (readType (drop at (now (s .entry))) at void dims) ⌝ }
 {
     if s.len() <= at {
-        Core { what: 11, at: at }
+        Core {
+            what: UNEXPECTED_END,
+            at: at,
+        }
     } else {
         let k = letter(s[at]);
-        if k == 9 {
+        if k == CLASS {
             name_core(&s[0..], at, dims)
         } else if k == 10 {
             if 255 <= dims {
-                Core { what: 18, at: at }
+                Core {
+                    what: TOO_DEEP,
+                    at: at,
+                }
             } else {
                 read_core(&s[0..], at + 1, false, dims + 1)
             }
@@ -194,14 +235,14 @@ fn read_of(s: &[u8], at: usize, c: Core) -> Read
 {
     let what = c.what;
     let next = c.at;
-    if what == 12 {
-        refuse(12, next, wide(s[next]))
-    } else if what < 256 {
+    if what == UNEXPECTED_BYTE {
+        refuse(UNEXPECTED_BYTE, next, wide(s[next]))
+    } else if what < FOUND {
         refuse(what, next, 0)
     } else {
-        let found = what / 1024;
-        let k = what % 256;
-        if k < 9 {
+        let found = what / DIMENSION;
+        let k = what % FOUND;
+        if k < CLASS {
             Read::Found {
                 dims: found,
                 base: Base::Simple(k),
@@ -230,12 +271,15 @@ pub fn read_type(s: &[u8], at: usize, void: bool) -> Read
 fn ended(s: &[u8], c: Core) -> Core
     ensures { λ r. ⌜ r ≡ endedOf (length (now (s .entry))) c ⌝ }
 {
-    if c.what < 256 {
+    if c.what < FOUND {
         c
     } else if c.at == s.len() {
         c
     } else {
-        Core { what: 15, at: c.at }
+        Core {
+            what: TRAILING_INPUT,
+            at: c.at,
+        }
     }
 }
 

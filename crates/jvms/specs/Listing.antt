@@ -32,7 +32,7 @@ pub step-on : (s xs ys : List ℕ) (at : ℕ) → drop at s ≡ xs ++ ys → dro
 step-on s xs ys at e = sym (drop-drop (length xs) at s) ∙ ap (drop (length xs)) e ∙ drop-append-seam xs ys
 
 -- what stands at `at` stands inside
-inside : (s : List ℕ) (b : ℕ) (bs : List ℕ) (at : ℕ) → drop at s ≡ b ∷ bs → (at < length s) × (getD s at 0 ≡ b)
+pub inside : (s : List ℕ) (b : ℕ) (bs : List ℕ) (at : ℕ) → drop at s ≡ b ∷ bs → (at < length s) × (getD s at 0 ≡ b)
 inside s b bs at e =
     let size : suc (length bs) ≡ length s - at = sym (ap length e) ∙ length-drop at s in
     let here : getD s (at + 0) 0 ≡ b = sym (getD-drop at s 0 0) ∙ ap (λ (l : List ℕ). getD l 0 0) e in

@@ -4,4 +4,3 @@ pub mod Answers
 pub mod Strict
 pub mod Params
 pub mod Filled
-pub mod Examples

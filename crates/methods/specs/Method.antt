@@ -5,6 +5,7 @@ use mathlib.Core.List.{List, [], _∷_}
 use Prim.Native.Nat.{ℕ, zero, suc, _+_}
 use lib.Dec.{eqb, leb}
 use lib.ListN.{length, drop, getD}
+use Rattle.text.specs.Text.{byte}
 use Rattle.descriptor.specs.declared.Read.{Read}
 use Rattle.descriptor.specs.declared.Read.the-variants.{Found, Refused}
 use Rattle.descriptor.specs.Read.{readType, finish, strictly}
@@ -41,7 +42,7 @@ unfoldable pub readParams : ℕ → List ℕ → ℕ → ℕ → Params
 readParams zero s at count = Stopped 17 at 0
 readParams (suc turns) s at count =
     pickP (leb (length s) at) (Stopped 17 at 0)
-    (pickP (eqb (getD s at 0) 41) (Listed [] at)
+    (pickP (eqb (getD s at 0) (byte ")")) (Listed [] at)
     (pickP (leb 255 count) (Stopped 19 at 0) (onward at (λ next. readParams turns s next (count + 1)) (readType (drop at s) at false 0))))
 
 -- the return type after the ')' at `close`
@@ -55,7 +56,7 @@ afterParams s (Stopped code at byte) = Broken code at byte
 
 unfoldable pub readMethod : List ℕ → Method
 readMethod [] = Broken 16 0 0
-readMethod (b ∷ bs) = pickM (eqb b 40) (afterParams (b ∷ bs) (readParams (suc (length bs)) (b ∷ bs) 1 0)) (Broken 16 0 0)
+readMethod (b ∷ bs) = pickM (eqb b (byte "(")) (afterParams (b ∷ bs) (readParams (suc (length bs)) (b ∷ bs) 1 0)) (Broken 16 0 0)
 
 -- ---- strict reading: the first bad name in the order of the input
 

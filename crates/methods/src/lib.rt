@@ -16,6 +16,20 @@ ghost use Rattle.methods.specs.Answers.{answerOf, refusedMethod, methodO
 ghost use Rattle.methods.specs.Params.{ending, methodFrom};
 ghost use Rattle.methods.specs.Filled.{pickL, answerFrom, Left};
 
+// Refusals: the errors of ty.rs that only a method has, and what was added.
+const MISSING_METHOD_START: u64 = 16;
+
+const MISSING_METHOD_END: u64 = 17;
+
+const TOO_MANY: u64 = 19;
+
+const SHORT: u64 = 22;
+
+const NOT_STRICT: u64 = 24;
+
+// How many parameters a method has at most, and how many offsets there is room for.
+const PARAMETERS: usize = 255;
+
 // A method's number of parameters, the offset of its return type, and that type; or a refusal, with zeros in the other fields.
 pub struct MethodRead {
     pub refusal: u64,
@@ -63,7 +77,7 @@ fn not_strict(at: usize) -> Read
     ensures { λ r. ⌜ r ≡ Refused 24 at 0 ⌝ }
 {
     Read::Refused {
-        code: 24,
+        code: NOT_STRICT,
         at: at,
         byte: 0,
     }
@@ -209,13 +223,13 @@ fn read_params(
     ensures { λ r. ⌜ Left count (now (params .entry)) (methodFrom (now (s .entry)) strict bad at count) r (now (params .exit)) ⌝ }
 {
     if s.len() <= at {
-        return refused(17, at, 0);
+        return refused(MISSING_METHOD_END, at, 0);
     }
     if s[at] == b')' {
         return read_return(s, at, count, strict, bad);
     }
-    if 255 <= count {
-        return refused(19, at, 0);
+    if PARAMETERS <= count {
+        return refused(TOO_MANY, at, 0);
     }
     let t = read_type(s, at, false);
     match t {
@@ -234,14 +248,14 @@ pub fn read_method(s: &[u8], params: &mut [u64], strict: bool) -> MethodRead
     ensures { λ r. ⌜ (r ≡ methodAnswer (methodOf strict (now (s .entry)) (length (now (params .entry)))))
         × (now (params .exit) ≡ paramsAfter (now (params .entry)) (methodOf strict (now (s .entry)) (length (now (params .entry))))) ⌝ }
 {
-    if params.len() < 255 {
-        return refused(22, 0, 0);
+    if params.len() < PARAMETERS {
+        return refused(SHORT, 0, 0);
     }
     if s.len() == 0 {
-        return refused(16, 0, 0);
+        return refused(MISSING_METHOD_START, 0, 0);
     }
     if s[0] == b'(' {
         return read_params(&s[0..], params, 1, 0, strict, 0);
     }
-    refused(16, 0, 0)
+    refused(MISSING_METHOD_START, 0, 0)
 }

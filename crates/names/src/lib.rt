@@ -11,6 +11,24 @@ ghost use lib.ListN.{length};
 ghost use Rattle.order.specs.Compare.{compareLists};
 ghost use Rattle.names.specs.Names.{placeGood, nameOf, checkName, checkRow, checkNames, found, lookup, lookUp};
 
+// Refusals.
+const LENGTH: u64 = 3;
+
+const NAME_ORDER: u64 = 5;
+
+const ROOM: u64 = 8;
+
+const UTF8: u64 = 10;
+
+const ABSENT: u64 = 23;
+
+// How many bytes a name has at most, how many names a table, and how many bytes they have together.
+const NAME_BYTES: u64 = 255;
+
+const NAMES: u64 = 1024;
+
+const ALL_BYTES: u64 = 24576;
+
 // The class number of a name, or a refusal.
 pub struct LookedUp {
     pub refusal: u64,
@@ -21,13 +39,13 @@ pub struct LookedUp {
 fn is_full(length: u64, count: u64, total: u64) -> bool
     ensures { λ r. ⌜ r ≡ (leb 1024 count || ltb 24576 (total + length)) ⌝ }
 {
-    if 1024 <= count {
+    if NAMES <= count {
         return true;
     }
-    if 24576 < total {
+    if ALL_BYTES < total {
         return true;
     }
-    24576 - total < length
+    ALL_BYTES - total < length
 }
 
 // The refusal of a name after `count` others that have `total` bytes, the last of them `last`; 0 where there is none.
@@ -36,19 +54,19 @@ pub fn check_name(last: &[u8], name: &[u8], count: u64, total: u64) -> u64
 {
     let n = name.len();
     if n == 0 {
-        return 3;
+        return LENGTH;
     }
-    if 255 < n {
-        return 3;
+    if NAME_BYTES < n as u64 {
+        return LENGTH;
     }
     if !is_well_formed(name, 0, n) {
-        return 10;
+        return UTF8;
     }
     if is_not_above(last, name, count) {
-        return 5;
+        return NAME_ORDER;
     }
     if is_full(n as u64, count, total) {
-        return 8;
+        return ROOM;
     }
     0
 }
@@ -60,7 +78,7 @@ fn is_place(size: u64, at: u64, len: u64) -> bool
     if len == 0 {
         return false;
     }
-    if 255 < len {
+    if NAME_BYTES < len {
         return false;
     }
     if size < at {
@@ -75,7 +93,7 @@ fn check_row(names: &[u8], last: u64, span: u64, at: u64, len: u64, count: u64, 
     ensures { λ r. ⌜ r ≡ checkRow (now (names .entry)) at len (nameOf (now (names .entry)) last span) count total ⌝ }
 {
     if !is_place(names.len() as u64, at, len) {
-        return 3;
+        return LENGTH;
     }
     let from = last as usize;
     let to = from + span as usize;
@@ -89,7 +107,7 @@ pub fn check_names(names: &[u8], ats: &[u64], lens: &[u64]) -> u64
     ensures { λ r. ⌜ r ≡ checkNames (now (names .entry)) (now (ats .entry)) (now (lens .entry)) ⌝ }
 {
     if ats.len() != lens.len() {
-        return 3;
+        return LENGTH;
     }
     let mut last: u64 = 0;
     let mut span: u64 = 0;
@@ -146,7 +164,7 @@ fn search(names: &[u8], ats: &[u64], lens: &[u64], key: &[u8]) -> LookedUp
         }
     }
     LookedUp {
-        refusal: 23,
+        refusal: ABSENT,
         class_no: 0,
     }
 }

@@ -8,6 +8,7 @@ use native.Mathlib.Omega.{arith}
 use lib.Dec.{leb}
 use lib.ListN.{length}
 use borrow.Author.Tests.{lt-ltb, le-leb, leb-true}
+use Rattle.text.specs.Text.{ascii}
 use Rattle.order.specs.Truth.{and-left, and-right}
 use Rattle.ty.specs.Types.{ArgType, Primitive, Object, Array, depth}
 use Rattle.ty.specs.Words.{legalAtBase, legalType}
@@ -21,7 +22,7 @@ use Rattle.writer.specs.Print.{letterByte, print, printAll, printMethod}
 use Rattle.roundtrips.specs.ToWord.{toType, MethodType, methodType, toTypes, toMethod}
 
 letter-printed : {b k : ℕ} → BaseType b k → letterByte k ≡ b
-unfolding letterByte
+unfolding letterByte ascii
 letter-printed B = refl
 letter-printed C = refl
 letter-printed D = refl
@@ -46,7 +47,7 @@ module _ (name : ℕ → List ℕ) (find : List ℕ → Option ℕ) (holds : (n 
       ap (print name) (sym (f .2)) ∙ ap (λ (l : List ℕ). 91 ∷ l) (field-printed d (f .0) (f .1))
 
   pub return-printed : {xs : List ℕ} {j : JavaType} → ReturnDescriptor AnyName xs j → (t : ArgType) → toType find j ≡ some t → print name t ≡ xs
-  unfolding print toType letterByte
+  unfolding print toType letterByte ascii
   return-printed (field d) t e = field-printed d t e
   return-printed void t e = ap (print name) (sym (Option·some-injective (Primitive 0) t e))
 

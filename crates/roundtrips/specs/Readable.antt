@@ -8,6 +8,7 @@ use native.Mathlib.Omega.{arith}
 use lib.Dec.{eqb, ltb}
 use lib.ListN.{length}
 use borrow.Author.Tests.{ltb-true, eq-eqb, not-true}
+use Rattle.text.specs.Text.{ascii}
 use Rattle.order.specs.Truth.{both}
 use Rattle.order.specs.Lists.{elem}
 use Rattle.utf8.specs.Laws.{wellFormed-decides}
@@ -56,7 +57,7 @@ named-depth name (Unknown cs) = refl
 -- ---- letters and names
 
 letter-derived : (k : ℕ) → 0 < k → k < 9 → BaseType (letterByte k) k
-unfolding letterByte
+unfolding letterByte ascii
 letter-derived zero h l = absurd (omega arith)
 letter-derived (suc zero) h l = Z
 letter-derived (suc (suc zero)) h l = B
@@ -101,7 +102,7 @@ module _ (bytes ats lens : List ℕ) (k : Checked bytes ats lens) where
 
   pub return-derived : (t : ArgType) → legalAtBase (length ats) t ≡ true → readable (nameAt bytes ats lens) true t ≡ true
       → ReturnDescriptor AnyName (print (nameAt bytes ats lens) t) (named (nameAt bytes ats lens) t)
-  unfolding legalAtBase readable print named letterByte
+  unfolding legalAtBase readable print named letterByte ascii
   return-derived (Primitive zero) h r = void
   return-derived (Primitive (suc c)) h r =
       let b = both (ltb (suc c) 9) true r in
