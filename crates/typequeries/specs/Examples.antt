@@ -4,7 +4,7 @@ use mathlib.Core.Path.{_≡_, refl}
 use mathlib.Core.List.{[], _∷_}
 use Rattle.text.specs.Text.{ascii}
 use Rattle.order.specs.Compare.{compareNumbers, compareLists}
-use Rattle.order.specs.Lists.{elem as listed, elem}
+use Rattle.order.specs.Lists.{elem}
 use Rattle.ty.specs.Types.{arrays, compare, categories}
 use Rattle.ty.specs.Words.{unpack, pack, listOf, goodDigits, goodUnknown, baseOf, typeOf, wordOf, legalBase, legalWord, allLegal}
 use Rattle.utf8.specs.Utf8.{table, within, matches, firstMatch, sequence, scan, validPrefix, wellFormed}
@@ -40,7 +40,7 @@ refusals = (refl, refl, refl, refl, refl)
 -- Boolean with Int; an array of Int with a/TrussA; Char to Short; an array of Int to Object
 pub answers : (typeValue (worldIn all) Join 1 5 ≡ 0x0002215000000000) × (typeValue (worldIn all) Join 0x0100000000000005 0x0001000000000001 ≡ 0x000229a000000000)
     × (typeValue (worldIn all) Assignable 4 3 ≡ 0) × (typeValue (worldIn all) Assignable 0x0100000000000005 0x0001000000000003 ≡ 1)
-unfolding queries.table viewIn worldIn typeValue present typeOf arrays baseOf listOf unpack wordOf pack listed compare categories sameType hasAll unknownAccepts inEither unknownUnion primitiveAssignable assignableApart isAssignable narrow underDouble joinPrimitive joinKnown joinApart join arrayParent joinArrayClass checks.firstRefusal inside placedName nameRows placedRecord recordRows tableOf ascii objectName cloneableName serializableName noTables noted withName nameRow goodFlags allBelow putAll marked recordMarks recordChecks recordRefusal withRecord recordRow nameChecks checkName compareLists compareNumbers table within matches firstMatch sequence scan validPrefix wellFormed insert remove clear elem insertSorted put
+unfolding queries.table viewIn worldIn typeValue present typeOf arrays baseOf listOf unpack wordOf pack compare categories sameType hasAll unknownAccepts inEither unknownUnion primitiveAssignable assignableApart isAssignable narrow underDouble joinPrimitive joinKnown joinApart join arrayParent joinArrayClass checks.firstRefusal inside placedName nameRows placedRecord recordRows tableOf ascii objectName cloneableName serializableName noTables noted withName nameRow goodFlags allBelow putAll marked recordMarks recordChecks recordRefusal withRecord recordRow nameChecks checkName compareLists compareNumbers table within matches firstMatch sequence scan validPrefix wellFormed insert remove clear elem insertSorted put
 answers = (refl, refl, refl, refl)
 
 -- a/TrussA with a/TrussB: a/Probe
