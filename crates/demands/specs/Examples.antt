@@ -17,7 +17,7 @@ use Rattle.descriptor.specs.declared.Base.the-variants.{Simple}
 use Rattle.descriptor.specs.declared.Read.{Read}
 use Rattle.descriptor.specs.declared.Read.the-variants.{Found, Refused}
 use Rattle.descriptor.specs.Read.{letterOf, indexOf, nameRead, readName, readType, finish, readWhole}
-use Rattle.descriptor.specs.Method.{Method, Broken, readParams, returns, afterParams, readMethod}
+use Rattle.methods.specs.Method.{Method, Broken, readParams, returns, afterParams, readMethod}
 use Rattle.view.specs.declared.Relation.{Relation}
 use Rattle.view.specs.declared.Relation.the-variants.{No, Unknown as Incomplete}
 use Rattle.view.specs.View.{numberOf, insertAll, withParents, grow, level, reached, reach, steps, distance, ancestor, allRecorded, complete, relation, common, below, anyBelow, lowest, nearer, nearest, numbers, candidates, supertype}

@@ -2,6 +2,7 @@
 use mathlib.Core.Path.{_≡_, refl}
 use mathlib.Core.List.{List, [], _∷_}
 use Prim.Native.Nat.{ℕ}
+use Rattle.text.specs.Text.{ascii}
 use Rattle.order.specs.Lists.{elem}
 use Rattle.order.specs.Compare.{compareNumbers, compareLists}
 use Rattle.utf8.specs.Utf8.{table, within, matches, firstMatch, sequence, scan, validPrefix, wellFormed}
@@ -33,9 +34,9 @@ lacking = recording (0 ∷ 0 ∷ 0 ∷ []) (0 ∷ 1 ∷ 2 ∷ []) (0 ∷ 1 ∷ 1
 -- nothing is refused; a number that is no class's is 6, a work of 8,191 words 22, a column too short 3
 pub refusals : (queryRefusal all (0 ∷ 1 ∷ []) 8192 ≡ 0) × (queryRefusal all (0 ∷ 4 ∷ []) 8192 ≡ 6) × (queryRefusal all (0 ∷ 4 ∷ []) 8191 ≡ 22)
     × (queryRefusal (recording (0 ∷ []) (0 ∷ []) (0 ∷ []) []) (0 ∷ 4 ∷ []) 8192 ≡ 3)
-unfolding queries.table evenLengths even ranChecks queryChecks queryRefusal checks.firstRefusal inside placedName nameRows placedRecord recordRows tableOf objectName cloneableName serializableName noTables noted withName nameRow goodFlags allBelow putAll marked recordMarks recordChecks recordRefusal withRecord recordRow nameChecks checkName compareLists compareNumbers table within matches firstMatch sequence scan validPrefix wellFormed insert remove clear elem insertSorted put
+unfolding queries.table evenLengths even ranChecks queryChecks queryRefusal checks.firstRefusal inside placedName nameRows placedRecord recordRows tableOf ascii objectName cloneableName serializableName noTables noted withName nameRow goodFlags allBelow putAll marked recordMarks recordChecks recordRefusal withRecord recordRow nameChecks checkName compareLists compareNumbers table within matches firstMatch sequence scan validPrefix wellFormed insert remove clear elem insertSorted put
 refusals = (refl, refl, refl, refl)
 
 pub answers : (valueOf (viewIn all) Relation 0 1 ≡ 1) × (valueOf (viewIn all) Supertype 1 2 ≡ 0) × (valueOf (viewIn lacking) Relation 0 1 ≡ 2) × (valueOf (viewIn all) Distance 1 3 ≡ 2)
-unfolding queries.table viewIn valueOf checks.firstRefusal inside placedName nameRows placedRecord recordRows tableOf objectName cloneableName serializableName noTables noted withName nameRow goodFlags allBelow putAll marked recordMarks recordChecks recordRefusal withRecord recordRow nameChecks checkName compareLists compareNumbers table within matches firstMatch sequence scan validPrefix wellFormed insert remove clear elem insertSorted put bit at member members sets.first bisect place runOf parentsIn parentsOf mark insertAll withParents grow level reached reach steps distance numberOf ancestor allRecorded complete relation relationNumber common below anyBelow lowest nearer nearest numbers candidates supertype
+unfolding queries.table viewIn valueOf checks.firstRefusal inside placedName nameRows placedRecord recordRows tableOf ascii objectName cloneableName serializableName noTables noted withName nameRow goodFlags allBelow putAll marked recordMarks recordChecks recordRefusal withRecord recordRow nameChecks checkName compareLists compareNumbers table within matches firstMatch sequence scan validPrefix wellFormed insert remove clear elem insertSorted put bit at member members sets.first bisect place runOf parentsIn parentsOf mark insertAll withParents grow level reached reach steps distance numberOf ancestor allRecorded complete relation relationNumber common below anyBelow lowest nearer nearest numbers candidates supertype
 answers = (refl, refl, refl, refl)

@@ -5,6 +5,7 @@ use mathlib.Core.List.{List, [], _∷_, _++_}
 use Prim.Native.Nat.{ℕ, _+_, _-_, _*_, _/_, _%_, _^_, _<_}
 use lib.Dec.{eqb, leb, ltb}
 use lib.ListN.{length, take, drop, getD}
+use Rattle.text.specs.Text.{ascii}
 use Rattle.order.specs.Compare.{compareLists, isEqual}
 use Rattle.sets.specs.Sets.{member, insert, remove}
 use Rattle.sorted.specs.Sorted.{has, put}
@@ -16,17 +17,15 @@ use Rattle.rows.specs.declared.Outcome.{Outcome}
 
 -- ---- a name
 
--- java/lang/Object
+-- the three names that the tables keep the numbers of
 unfoldable pub objectName : List ℕ
-objectName = 106 ∷ 97 ∷ 118 ∷ 97 ∷ 47 ∷ 108 ∷ 97 ∷ 110 ∷ 103 ∷ 47 ∷ 79 ∷ 98 ∷ 106 ∷ 101 ∷ 99 ∷ 116 ∷ []
+objectName = ascii "java/lang/Object"
 
--- java/lang/Cloneable
 unfoldable pub cloneableName : List ℕ
-cloneableName = 106 ∷ 97 ∷ 118 ∷ 97 ∷ 47 ∷ 108 ∷ 97 ∷ 110 ∷ 103 ∷ 47 ∷ 67 ∷ 108 ∷ 111 ∷ 110 ∷ 101 ∷ 97 ∷ 98 ∷ 108 ∷ 101 ∷ []
+cloneableName = ascii "java/lang/Cloneable"
 
--- java/io/Serializable
 unfoldable pub serializableName : List ℕ
-serializableName = 106 ∷ 97 ∷ 118 ∷ 97 ∷ 47 ∷ 105 ∷ 111 ∷ 47 ∷ 83 ∷ 101 ∷ 114 ∷ 105 ∷ 97 ∷ 108 ∷ 105 ∷ 122 ∷ 97 ∷ 98 ∷ 108 ∷ 101 ∷ []
+serializableName = ascii "java/io/Serializable"
 
 -- the number of a name that is the wanted one; else what was known
 unfoldable pub noted : List ℕ → List ℕ → ℕ → ℕ → ℕ
