@@ -11,7 +11,7 @@ use Rattle.sets.specs.Sets.{bit, clear, at, member, insert, remove}
 use Rattle.sorted.specs.Sorted.{insertSorted, put}
 use Rattle.checks.specs.Checks.{firstRefusal}
 use Rattle.names.specs.Names.{nameChecks, checkName}
-use Rattle.rows.specs.declared.Tables.{Tables}
+use Rattle.tables.specs.declared.Tables.{Tables}
 use Rattle.rows.specs.Rows.{objectName, cloneableName, serializableName, noted, withName, nameRow, isMarked, goodFlags, allBelow, putAll, marked, recordMarks, recordChecks, recordRefusal}
 
 -- with three names before, of 24 bytes

@@ -2,21 +2,21 @@
 use mathlib.Core.Path.{_≡_, refl}
 use mathlib.Core.List.{List, [], _∷_}
 use mathlib.Core.Option.{some}
-use Prim.Native.Nat.{ℕ}
+use Prim.Native.Nat.{ℕ, _-_, _^_}
 use lib.ListN.{replicate}
 use Rattle.sets.specs.Sets.{bit, at, member, insert, members, first}
 use Rattle.sorted.specs.Sorted.{bisect, place, runOf}
-use Rattle.hierarchy.specs.declared.Classes.{Classes}
+use Rattle.tables.specs.declared.Tables.{Tables}
 use Rattle.view.specs.declared.Relation.the-variants.{No, Unknown}
 use Rattle.view.specs.View.{View, insertAll, withParents, grow, level, reached, reach, steps, distance, ancestor, allRecorded, complete, relation, common, below, anyBelow, lowest, nearer, nearest, numbers, candidates, supertype}
-use Rattle.hierarchy.specs.Table.{parentsIn, parentsOf, mark, viewOf}
+use Rattle.tables.specs.Table.{parentsIn, parentsOf, mark, viewOf}
 
 -- a/Probe has the parent Object, the other two have a/Probe
 abbrev keys : List ℕ
 keys = 3 ∷ 1024 ∷ 2048 ∷ []
 
-abbrev classes : Classes
-classes = record { names = 4; object = 3; pairs = 3 }
+abbrev classes : Tables
+classes = record { names = 4; bytes = 39; object = 3; cloneable = 2 ^ 64 - 1; serializable = 2 ^ 64 - 1; pairs = 3 }
 
 -- the classes of which the digits of a word tell that they are recorded
 abbrev recording : ℕ → View
