@@ -63,28 +63,28 @@ bp-lookup-one κs a r₁ r₂ x₁ x₂ p q = p ∙ sym q
 
 pub bp-relation-one : (κs : Lfts 9) (a : Dens κs bp-relation-kinds.ps) (r₁ r₂ : resT bp-relation-kinds.r κs .Denot) (x₁ x₂ : AtExit (endedOf 9 bp-relation-kinds.ps bp-relation-kinds.r) κs)
     → bp-relation-reads.Post κs a r₁ x₁ → bp-relation-reads.Post κs a r₂ x₂ → (r₁ ≡ r₂) × (now (x₁ .1 .1 .1 .1 .1 .1 .1 .1 .1 .1 .0) ≡ now (x₂ .1 .1 .1 .1 .1 .1 .1 .1 .1 .1 .0))
-bp-relation-one κs a r₁ r₂ x₁ x₂ p q = (p .result ∙ sym (q .result), p .memory ∙ sym (q .memory))
+bp-relation-one κs a r₁ r₂ x₁ x₂ p q = (p .0 ∙ sym (q .0), p .1 ∙ sym (q .1))
 
 pub bp-distance-one : (κs : Lfts 9) (a : Dens κs bp-distance-kinds.ps) (r₁ r₂ : resT bp-distance-kinds.r κs .Denot) (x₁ x₂ : AtExit (endedOf 9 bp-distance-kinds.ps bp-distance-kinds.r) κs)
     → bp-distance-reads.Post κs a r₁ x₁ → bp-distance-reads.Post κs a r₂ x₂ → (r₁ ≡ r₂) × (now (x₁ .1 .1 .1 .1 .1 .1 .1 .1 .1 .1 .0) ≡ now (x₂ .1 .1 .1 .1 .1 .1 .1 .1 .1 .1 .0))
-bp-distance-one κs a r₁ r₂ x₁ x₂ p q = (p .result ∙ sym (q .result), p .memory ∙ sym (q .memory))
+bp-distance-one κs a r₁ r₂ x₁ x₂ p q = (p .0 ∙ sym (q .0), p .1 ∙ sym (q .1))
 
 pub bp-ancestors-one : (κs : Lfts 9) (a : Dens κs bp-ancestors-kinds.ps) (r₁ r₂ : resT bp-ancestors-kinds.r κs .Denot) (x₁ x₂ : AtExit (endedOf 9 bp-ancestors-kinds.ps bp-ancestors-kinds.r) κs)
     → bp-ancestors-reads.Post κs a r₁ x₁ → bp-ancestors-reads.Post κs a r₂ x₂ → (r₁ ≡ r₂) × (now (x₁ .1 .1 .1 .1 .1 .1 .1 .1 .1 .0) ≡ now (x₂ .1 .1 .1 .1 .1 .1 .1 .1 .1 .0))
-bp-ancestors-one κs a r₁ r₂ x₁ x₂ p q = (p .result ∙ sym (q .result), p .memory ∙ sym (q .memory))
+bp-ancestors-one κs a r₁ r₂ x₁ x₂ p q = (p .0 ∙ sym (q .0), p .1 ∙ sym (q .1))
 
 pub bp-supertype-one : (κs : Lfts 9) (a : Dens κs bp-supertype-kinds.ps) (r₁ r₂ : resT bp-supertype-kinds.r κs .Denot) (x₁ x₂ : AtExit (endedOf 9 bp-supertype-kinds.ps bp-supertype-kinds.r) κs)
     → bp-supertype-reads.Post κs a r₁ x₁ → bp-supertype-reads.Post κs a r₂ x₂ → (r₁ ≡ r₂) × (now (x₁ .1 .1 .1 .1 .1 .1 .1 .1 .1 .1 .0) ≡ now (x₂ .1 .1 .1 .1 .1 .1 .1 .1 .1 .1 .0))
-bp-supertype-one κs a r₁ r₂ x₁ x₂ p q = (p .result ∙ sym (q .result), p .memory ∙ sym (q .memory))
+bp-supertype-one κs a r₁ r₂ x₁ x₂ p q = (p .0 ∙ sym (q .0), p .1 ∙ sym (q .1))
 
 pub bp-cast-one : (κs : Lfts 9) (a : Dens κs bp-cast-kinds.ps) (r₁ r₂ : resT bp-cast-kinds.r κs .Denot) (x₁ x₂ : AtExit (endedOf 9 bp-cast-kinds.ps bp-cast-kinds.r) κs)
     → bp-cast-reads.Post κs a r₁ x₁ → bp-cast-reads.Post κs a r₂ x₂ → (r₁ ≡ r₂) × (now (x₁ .1 .1 .1 .1 .1 .1 .1 .1 .1 .1 .0) ≡ now (x₂ .1 .1 .1 .1 .1 .1 .1 .1 .1 .1 .0))
-bp-cast-one κs a r₁ r₂ x₁ x₂ p q = (p .result ∙ sym (q .result), p .memory ∙ sym (q .memory))
+bp-cast-one κs a r₁ r₂ x₁ x₂ p q = (p .0 ∙ sym (q .0), p .1 ∙ sym (q .1))
 
 pub bp-join-one : (κs : Lfts 9) (a : Dens κs bp-join-kinds.ps) (r₁ r₂ : resT bp-join-kinds.r κs .Denot) (x₁ x₂ : AtExit (endedOf 9 bp-join-kinds.ps bp-join-kinds.r) κs)
     → bp-join-reads.Post κs a r₁ x₁ → bp-join-reads.Post κs a r₂ x₂ → (r₁ ≡ r₂) × (now (x₁ .1 .1 .1 .1 .1 .1 .1 .1 .1 .1 .0) ≡ now (x₂ .1 .1 .1 .1 .1 .1 .1 .1 .1 .1 .0))
-bp-join-one κs a r₁ r₂ x₁ x₂ p q = (p .result ∙ sym (q .result), p .memory ∙ sym (q .memory))
+bp-join-one κs a r₁ r₂ x₁ x₂ p q = (p .0 ∙ sym (q .0), p .1 ∙ sym (q .1))
 
 pub bp-assignable-one : (κs : Lfts 9) (a : Dens κs bp-assignable-kinds.ps) (r₁ r₂ : resT bp-assignable-kinds.r κs .Denot) (x₁ x₂ : AtExit (endedOf 9 bp-assignable-kinds.ps bp-assignable-kinds.r) κs)
     → bp-assignable-reads.Post κs a r₁ x₁ → bp-assignable-reads.Post κs a r₂ x₂ → (r₁ ≡ r₂) × (now (x₁ .1 .1 .1 .1 .1 .1 .1 .1 .1 .1 .0) ≡ now (x₂ .1 .1 .1 .1 .1 .1 .1 .1 .1 .1 .0))
-bp-assignable-one κs a r₁ r₂ x₁ x₂ p q = (p .result ∙ sym (q .result), p .memory ∙ sym (q .memory))
+bp-assignable-one κs a r₁ r₂ x₁ x₂ p q = (p .0 ∙ sym (q .0), p .1 ∙ sym (q .1))

@@ -1,10 +1,13 @@
 -- What the functions of the boundary answer: the fields of each result, from the definitions below. Assumes nothing.
 use mathlib.Core.Path.{_≡_}
+use mathlib.Core.Bool.{cond}
 use mathlib.Core.List.{List}
 use Prim.Native.Nat.{ℕ}
+use lib.ListN.{length}
+use Rattle.ty.specs.Words.{typeOf, wordOf}
 use Rattle.names.specs.declared.LookedUp.{LookedUp}
 use Rattle.writer.specs.declared.Written.{Written}
-use Rattle.writer.specs.Print.{answer, output}
+use Rattle.writer.specs.Print.{printWord, printMethodWords, typeRefusal, methodRefusal, answer, output}
 use Rattle.descriptor.specs.declared.Base.{Base}
 use Rattle.descriptor.specs.declared.Base.the-variants.{Simple, Class}
 use Rattle.descriptor.specs.declared.Read.{Read}
@@ -12,9 +15,14 @@ use Rattle.descriptor.specs.declared.Read.the-variants.{Found, Refused}
 use Rattle.methods.specs.declared.MethodRead.{MethodRead}
 use Rattle.methods.specs.Method.{Method}
 use Rattle.methods.specs.Answers.{methodAnswer}
-use Rattle.queries.specs.declared.Answer.{Answer}
-use Rattle.queries.specs.declared.Ancestors.{Ancestors}
-use Rattle.queries.specs.Queries.{workAfter}
+use Rattle.view.specs.View.{relation, relationNumber, distance, numberOf, ancestors, supertype, cast}
+use Rattle.lattice.specs.Lattice.{join, isAssignable}
+use Rattle.columns.specs.Given.{Given}
+use Rattle.tableview.specs.TableRows.{rowsView, rowsWorld, rowsIn}
+use Rattle.questions.specs.declared.Question.the-variants.{Relation, Distance, Supertype, Cast, Join, Assignable}
+use Rattle.questions.specs.declared.Answer.{Answer}
+use Rattle.questions.specs.declared.Ancestors.{Ancestors}
+use Rattle.questions.specs.Questions.{questionRefusal, ancestorsRefusal, answered, gathered}
 use Rattle.bracepuffin.specs.declared.BpType.{BpType}
 use Rattle.bracepuffin.specs.declared.BpMethod.{BpMethod}
 use Rattle.bracepuffin.specs.declared.BpWritten.{BpWritten}
@@ -54,10 +62,18 @@ pub record Wrote (refusal : ℕ) (printed out out′ : List ℕ) (r : BpWritten)
   pub result : r ≡ writtenAnswer (answer refusal printed)
   pub memory : out′ ≡ output refusal printed out
 
+-- of a word, and of the words of a method, over a table of names
+abbrev pub WroteType : List ℕ → List ℕ → List ℕ → ℕ → List ℕ → List ℕ → BpWritten → Type 0
+WroteType names at len word out out′ r = Wrote (typeRefusal names at len word (length out)) (printWord names at len word) out out′ r
+
+abbrev pub WroteMethod : List ℕ → List ℕ → List ℕ → List ℕ → ℕ → List ℕ → List ℕ → BpWritten → Type 0
+WroteMethod names at len params result out out′ r =
+    Wrote (methodRefusal names at len params result (length out)) (printMethodWords names at len params result) out out′ r
+
 abbrev pub foundAnswer : LookedUp → BpFound
 foundAnswer f = record { refusal = f .refusal; «class_no» = f .«class_no» }
 
--- ---- what is asked of classes
+-- ---- what is asked, of the rows that the columns hold; the last number is the length of the work
 
 abbrev pub relationAnswer : Answer → BpRelation
 relationAnswer a = record { refusal = a .refusal; relation = a .value }
@@ -68,7 +84,29 @@ numberAnswer a = record { refusal = a .refusal; value = a .value }
 abbrev pub setAnswer : Ancestors → BpSet
 setAnswer a = record { refusal = a .refusal; count = a .count; lowest = a .lowest; words = a .set .words }
 
--- what a question promises of its result and of the work at its end
-pub record Told {A : Type 0} (answer : A) (work work′ : List ℕ) (r : A) : Type 0 where
-  pub result : r ≡ answer
-  pub memory : work′ ≡ workAfter work
+unfoldable pub relationTold : Given → ℕ → ℕ → ℕ → BpRelation
+relationTold g value expected room =
+    relationAnswer (answered (questionRefusal g Relation value expected room) (relationNumber (relation (rowsView (rowsIn g)) value expected)))
+
+unfoldable pub distanceTold : Given → ℕ → ℕ → ℕ → BpAnswer
+distanceTold g value expected room =
+    numberAnswer (answered (questionRefusal g Distance value expected room) (numberOf (distance (rowsView (rowsIn g)) value expected)))
+
+unfoldable pub ancestorsTold : Given → ℕ → ℕ → BpSet
+ancestorsTold g class room = setAnswer (gathered (ancestorsRefusal g class room) (ancestors (rowsView (rowsIn g)) class))
+
+unfoldable pub supertypeTold : Given → ℕ → ℕ → ℕ → BpAnswer
+supertypeTold g left right room =
+    numberAnswer (answered (questionRefusal g Supertype left right room) (numberOf (supertype (rowsView (rowsIn g)) left right)))
+
+unfoldable pub castTold : Given → ℕ → ℕ → ℕ → BpAnswer
+castTold g source target room =
+    numberAnswer (answered (questionRefusal g Cast source target room) (cond (cast (rowsView (rowsIn g)) source target) 1 0))
+
+unfoldable pub joinTold : Given → ℕ → ℕ → ℕ → BpAnswer
+joinTold g left right room =
+    numberAnswer (answered (questionRefusal g Join left right room) (wordOf (join (rowsWorld (rowsIn g)) (typeOf left) (typeOf right))))
+
+unfoldable pub assignableTold : Given → ℕ → ℕ → ℕ → BpAnswer
+assignableTold g value expected room =
+    numberAnswer (answered (questionRefusal g Assignable value expected room) (cond (isAssignable (rowsWorld (rowsIn g)) (typeOf value) (typeOf expected)) 1 0))

@@ -8,30 +8,23 @@ use methods::read_method;
 use methods::read_strict;
 use names::LookedUp;
 use names::look_up;
-use queries::Ancestors;
-use queries::Answer;
-use queries::Query;
-use queries::ancestors_of;
-use queries::ask;
-use typequeries::TypeQuery;
-use typequeries::ask_types;
+use questions::Ancestors;
+use questions::Answer;
+use questions::Question;
+use questions::ancestors_of;
+use questions::ask;
 use writer::Written;
 use writer::write_method;
 use writer::write_type;
 ghost use mathlib.Core.Path.{_≡_};
-ghost use mathlib.Core.Bool.{true, false, cond};
-ghost use mathlib.Core.List.{[], _∷_};
+ghost use mathlib.Core.Bool.{true, false};
 ghost use lib.ListN.{length};
-ghost use Rattle.ty.specs.Words.{typeOf, wordOf};
 ghost use Rattle.descriptor.specs.Read.{readWhole, readStrict};
 ghost use Rattle.methods.specs.Answers.{methodOf, paramsAfter};
 ghost use Rattle.names.specs.Names.{lookUp};
-ghost use Rattle.writer.specs.Print.{printWord, printMethodWords, typeRefusal, methodRefusal};
-ghost use Rattle.view.specs.View.{relation, relationNumber, distance, numberOf, ancestors, supertype, cast};
-ghost use Rattle.lattice.specs.Lattice.{join, isAssignable};
-ghost use Rattle.queries.specs.Queries.{given, viewIn, queryRefusal, answered, gathered};
-ghost use Rattle.typequeries.specs.TypeQueries.{worldIn, typeQueryRefusal};
-ghost use Rattle.bracepuffin.specs.Boundary.{typeFound, typeAnswer, methodResult, bpMethod, foundAnswer, writtenAnswer, Wrote, relationAnswer, numberAnswer, setAnswer, Told};
+ghost use Rattle.columns.specs.Given.{given};
+ghost use Rattle.questions.specs.Questions.{workAfter};
+ghost use Rattle.bracepuffin.specs.Boundary.{typeFound, typeAnswer, methodResult, bpMethod, foundAnswer, writtenAnswer, WroteType, WroteMethod, relationAnswer, numberAnswer, setAnswer, relationTold, distanceTold, ancestorsTold, supertypeTold, castTold, joinTold, assignableTold};
 
 #[repr(C)]
 pub struct BpType {
@@ -221,7 +214,7 @@ pub extern "C" fn bp_write_type(
     word: u64,
     out: &mut [u8],
 ) -> BpWritten
-    ensures { λ r. ⌜ Wrote (typeRefusal (now (names .entry)) (now («name_at» .entry)) (now («name_len» .entry)) word (length (now (out .entry)))) (printWord (now (names .entry)) (now («name_at» .entry)) (now («name_len» .entry)) word) (now (out .entry)) (now (out .exit)) r ⌝ }
+    ensures { λ r. ⌜ WroteType (now (names .entry)) (now («name_at» .entry)) (now («name_len» .entry)) word (now (out .entry)) (now (out .exit)) r ⌝ }
 {
     written_answer(write_type(names, name_at, name_len, word, out))
 }
@@ -235,7 +228,7 @@ pub extern "C" fn bp_write_method(
     result: u64,
     out: &mut [u8],
 ) -> BpWritten
-    ensures { λ r. ⌜ Wrote (methodRefusal (now (names .entry)) (now («name_at» .entry)) (now («name_len» .entry)) (now (params .entry)) result (length (now (out .entry)))) (printMethodWords (now (names .entry)) (now («name_at» .entry)) (now («name_len» .entry)) (now (params .entry)) result) (now (out .entry)) (now (out .exit)) r ⌝ }
+    ensures { λ r. ⌜ WroteMethod (now (names .entry)) (now («name_at» .entry)) (now («name_len» .entry)) (now (params .entry)) result (now (out .entry)) (now (out .exit)) r ⌝ }
 {
     written_answer(write_method(names, name_at, name_len, params, result, out))
 }
@@ -305,7 +298,8 @@ pub extern "C" fn bp_relation(
     expected: u64,
     work: &mut [u64],
 ) -> BpRelation
-    ensures { λ r. ⌜ Told (relationAnswer (answered (queryRefusal (given (now (names .entry)) (now («name_at» .entry)) (now («name_len» .entry)) (now («rec_flags» .entry)) (now («rec_class» .entry)) (now («rec_at» .entry)) (now («rec_len» .entry)) (now (parents .entry))) (value ∷ expected ∷ []) (length (now (work .entry)))) (relationNumber (relation (viewIn (given (now (names .entry)) (now («name_at» .entry)) (now («name_len» .entry)) (now («rec_flags» .entry)) (now («rec_class» .entry)) (now («rec_at» .entry)) (now («rec_len» .entry)) (now (parents .entry)))) value expected)))) (now (work .entry)) (now (work .exit)) r ⌝ }
+    ensures { λ r. ⌜ r ≡ relationTold (given (now (names .entry)) (now («name_at» .entry)) (now («name_len» .entry)) (now («rec_flags» .entry)) (now («rec_class» .entry)) (now («rec_at» .entry)) (now («rec_len» .entry)) (now (parents .entry))) value expected (length (now (work .entry))) ⌝ }
+    ensures { λ _. ⌜ now (work .exit) ≡ workAfter (now (work .entry)) ⌝ }
 {
     let a = ask(
         names,
@@ -316,7 +310,7 @@ pub extern "C" fn bp_relation(
         rec_at,
         rec_len,
         parents,
-        Query::Relation,
+        Question::Relation,
         value,
         expected,
         work,
@@ -338,7 +332,8 @@ pub extern "C" fn bp_distance(
     expected: u64,
     work: &mut [u64],
 ) -> BpAnswer
-    ensures { λ r. ⌜ Told (numberAnswer (answered (queryRefusal (given (now (names .entry)) (now («name_at» .entry)) (now («name_len» .entry)) (now («rec_flags» .entry)) (now («rec_class» .entry)) (now («rec_at» .entry)) (now («rec_len» .entry)) (now (parents .entry))) (value ∷ expected ∷ []) (length (now (work .entry)))) (numberOf (distance (viewIn (given (now (names .entry)) (now («name_at» .entry)) (now («name_len» .entry)) (now («rec_flags» .entry)) (now («rec_class» .entry)) (now («rec_at» .entry)) (now («rec_len» .entry)) (now (parents .entry)))) value expected)))) (now (work .entry)) (now (work .exit)) r ⌝ }
+    ensures { λ r. ⌜ r ≡ distanceTold (given (now (names .entry)) (now («name_at» .entry)) (now («name_len» .entry)) (now («rec_flags» .entry)) (now («rec_class» .entry)) (now («rec_at» .entry)) (now («rec_len» .entry)) (now (parents .entry))) value expected (length (now (work .entry))) ⌝ }
+    ensures { λ _. ⌜ now (work .exit) ≡ workAfter (now (work .entry)) ⌝ }
 {
     let a = ask(
         names,
@@ -349,7 +344,7 @@ pub extern "C" fn bp_distance(
         rec_at,
         rec_len,
         parents,
-        Query::Distance,
+        Question::Distance,
         value,
         expected,
         work,
@@ -370,7 +365,8 @@ pub extern "C" fn bp_ancestors(
     class_no: u64,
     work: &mut [u64],
 ) -> BpSet
-    ensures { λ r. ⌜ Told (setAnswer (gathered (queryRefusal (given (now (names .entry)) (now («name_at» .entry)) (now («name_len» .entry)) (now («rec_flags» .entry)) (now («rec_class» .entry)) (now («rec_at» .entry)) (now («rec_len» .entry)) (now (parents .entry))) («class_no» ∷ []) (length (now (work .entry)))) (ancestors (viewIn (given (now (names .entry)) (now («name_at» .entry)) (now («name_len» .entry)) (now («rec_flags» .entry)) (now («rec_class» .entry)) (now («rec_at» .entry)) (now («rec_len» .entry)) (now (parents .entry)))) «class_no»))) (now (work .entry)) (now (work .exit)) r ⌝ }
+    ensures { λ r. ⌜ r ≡ ancestorsTold (given (now (names .entry)) (now («name_at» .entry)) (now («name_len» .entry)) (now («rec_flags» .entry)) (now («rec_class» .entry)) (now («rec_at» .entry)) (now («rec_len» .entry)) (now (parents .entry))) «class_no» (length (now (work .entry))) ⌝ }
+    ensures { λ _. ⌜ now (work .exit) ≡ workAfter (now (work .entry)) ⌝ }
 {
     let a = ancestors_of(
         names,
@@ -401,7 +397,8 @@ pub extern "C" fn bp_supertype(
     right: u64,
     work: &mut [u64],
 ) -> BpAnswer
-    ensures { λ r. ⌜ Told (numberAnswer (answered (queryRefusal (given (now (names .entry)) (now («name_at» .entry)) (now («name_len» .entry)) (now («rec_flags» .entry)) (now («rec_class» .entry)) (now («rec_at» .entry)) (now («rec_len» .entry)) (now (parents .entry))) (left ∷ right ∷ []) (length (now (work .entry)))) (numberOf (supertype (viewIn (given (now (names .entry)) (now («name_at» .entry)) (now («name_len» .entry)) (now («rec_flags» .entry)) (now («rec_class» .entry)) (now («rec_at» .entry)) (now («rec_len» .entry)) (now (parents .entry)))) left right)))) (now (work .entry)) (now (work .exit)) r ⌝ }
+    ensures { λ r. ⌜ r ≡ supertypeTold (given (now (names .entry)) (now («name_at» .entry)) (now («name_len» .entry)) (now («rec_flags» .entry)) (now («rec_class» .entry)) (now («rec_at» .entry)) (now («rec_len» .entry)) (now (parents .entry))) left right (length (now (work .entry))) ⌝ }
+    ensures { λ _. ⌜ now (work .exit) ≡ workAfter (now (work .entry)) ⌝ }
 {
     let a = ask(
         names,
@@ -412,7 +409,7 @@ pub extern "C" fn bp_supertype(
         rec_at,
         rec_len,
         parents,
-        Query::Supertype,
+        Question::Supertype,
         left,
         right,
         work,
@@ -434,7 +431,8 @@ pub extern "C" fn bp_cast(
     target: u64,
     work: &mut [u64],
 ) -> BpAnswer
-    ensures { λ r. ⌜ Told (numberAnswer (answered (queryRefusal (given (now (names .entry)) (now («name_at» .entry)) (now («name_len» .entry)) (now («rec_flags» .entry)) (now («rec_class» .entry)) (now («rec_at» .entry)) (now («rec_len» .entry)) (now (parents .entry))) (source ∷ target ∷ []) (length (now (work .entry)))) (cond (cast (viewIn (given (now (names .entry)) (now («name_at» .entry)) (now («name_len» .entry)) (now («rec_flags» .entry)) (now («rec_class» .entry)) (now («rec_at» .entry)) (now («rec_len» .entry)) (now (parents .entry)))) source target) 1 0))) (now (work .entry)) (now (work .exit)) r ⌝ }
+    ensures { λ r. ⌜ r ≡ castTold (given (now (names .entry)) (now («name_at» .entry)) (now («name_len» .entry)) (now («rec_flags» .entry)) (now («rec_class» .entry)) (now («rec_at» .entry)) (now («rec_len» .entry)) (now (parents .entry))) source target (length (now (work .entry))) ⌝ }
+    ensures { λ _. ⌜ now (work .exit) ≡ workAfter (now (work .entry)) ⌝ }
 {
     let a = ask(
         names,
@@ -445,7 +443,7 @@ pub extern "C" fn bp_cast(
         rec_at,
         rec_len,
         parents,
-        Query::Cast,
+        Question::Cast,
         source,
         target,
         work,
@@ -469,9 +467,10 @@ pub extern "C" fn bp_join(
     right: u64,
     work: &mut [u64],
 ) -> BpAnswer
-    ensures { λ r. ⌜ Told (numberAnswer (answered (typeQueryRefusal (given (now (names .entry)) (now («name_at» .entry)) (now («name_len» .entry)) (now («rec_flags» .entry)) (now («rec_class» .entry)) (now («rec_at» .entry)) (now («rec_len» .entry)) (now (parents .entry))) (left ∷ right ∷ []) (length (now (work .entry)))) (wordOf (join (worldIn (given (now (names .entry)) (now («name_at» .entry)) (now («name_len» .entry)) (now («rec_flags» .entry)) (now («rec_class» .entry)) (now («rec_at» .entry)) (now («rec_len» .entry)) (now (parents .entry)))) (typeOf left) (typeOf right))))) (now (work .entry)) (now (work .exit)) r ⌝ }
+    ensures { λ r. ⌜ r ≡ joinTold (given (now (names .entry)) (now («name_at» .entry)) (now («name_len» .entry)) (now («rec_flags» .entry)) (now («rec_class» .entry)) (now («rec_at» .entry)) (now («rec_len» .entry)) (now (parents .entry))) left right (length (now (work .entry))) ⌝ }
+    ensures { λ _. ⌜ now (work .exit) ≡ workAfter (now (work .entry)) ⌝ }
 {
-    let a = ask_types(
+    let a = ask(
         names,
         name_at,
         name_len,
@@ -480,7 +479,7 @@ pub extern "C" fn bp_join(
         rec_at,
         rec_len,
         parents,
-        TypeQuery::Join,
+        Question::Join,
         left,
         right,
         work,
@@ -502,9 +501,10 @@ pub extern "C" fn bp_assignable(
     expected: u64,
     work: &mut [u64],
 ) -> BpAnswer
-    ensures { λ r. ⌜ Told (numberAnswer (answered (typeQueryRefusal (given (now (names .entry)) (now («name_at» .entry)) (now («name_len» .entry)) (now («rec_flags» .entry)) (now («rec_class» .entry)) (now («rec_at» .entry)) (now («rec_len» .entry)) (now (parents .entry))) (value ∷ expected ∷ []) (length (now (work .entry)))) (cond (isAssignable (worldIn (given (now (names .entry)) (now («name_at» .entry)) (now («name_len» .entry)) (now («rec_flags» .entry)) (now («rec_class» .entry)) (now («rec_at» .entry)) (now («rec_len» .entry)) (now (parents .entry)))) (typeOf value) (typeOf expected)) 1 0))) (now (work .entry)) (now (work .exit)) r ⌝ }
+    ensures { λ r. ⌜ r ≡ assignableTold (given (now (names .entry)) (now («name_at» .entry)) (now («name_len» .entry)) (now («rec_flags» .entry)) (now («rec_class» .entry)) (now («rec_at» .entry)) (now («rec_len» .entry)) (now (parents .entry))) value expected (length (now (work .entry))) ⌝ }
+    ensures { λ _. ⌜ now (work .exit) ≡ workAfter (now (work .entry)) ⌝ }
 {
-    let a = ask_types(
+    let a = ask(
         names,
         name_at,
         name_len,
@@ -513,7 +513,7 @@ pub extern "C" fn bp_assignable(
         rec_at,
         rec_len,
         parents,
-        TypeQuery::Assignable,
+        Question::Assignable,
         value,
         expected,
         work,

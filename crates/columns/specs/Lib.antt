@@ -3,4 +3,6 @@ pub mod Columns
 pub mod Laws
 pub mod Names
 pub mod Fold
+pub mod Given
+pub mod GivenLaws
 pub mod Examples

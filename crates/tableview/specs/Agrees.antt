@@ -1,7 +1,6 @@
--- THE TABLE OF COLUMNS HAS THE VIEW AND THE WORLD OF ITS ROWS, wherever it is taken; and where a question is not refused, its view is
--- good and Object is a class. Assumes nothing.
+-- THE TABLE OF COLUMNS HAS THE VIEW AND THE WORLD OF ITS ROWS, wherever it is taken. Assumes nothing.
 use mathlib.Core.Path.{_≡_, refl, sym, ap, _∙_, subst}
-use mathlib.Core.Bool.{Bool, true, false, cond, not, _||_, true≢false, false≢true}
+use mathlib.Core.Bool.{Bool, true, false, cond, _||_, true≢false, false≢true}
 use mathlib.Core.List.{List, [], _∷_, List·Memᴰ, List·Memᴰ·head, List·Memᴰ·tail, List·Memᴰ·not-nil, List·Memᴰ·cases-cons}
 use mathlib.Core.Logic.{_↔_, ⊎-elim}
 use mathlib.Core.Option.{Option, some, none}
@@ -23,24 +22,22 @@ use Rattle.sorted.specs.Laws.{above-sorted, put-sorted, elem-put, same-members}
 use Rattle.sorted.specs.Places.{run-only}
 use Rattle.order.specs.declared.Order.{Order}
 use Rattle.order.specs.declared.Order.the-variants.{Less, Equal, Greater}
-use Rattle.checks.specs.Checks as checks
 use Rattle.names.specs.Names.{nameOf, nameAt, next}
 use Rattle.names.specs.Table.{number-of-name}
-use Rattle.view.specs.View.{View, numberOf}
-use Rattle.view.specs.Reach as view
-use Rattle.hierarchy.specs.Table.{parentsIn, mark, mark-length, parentsOf as keyParents, parents-below, parents-entry, view-good}
+use Rattle.view.specs.View.{numberOf}
+use Rattle.tables.specs.Table.{parentsIn, mark, mark-length, parentsOf as keyParents, parents-below, parents-entry}
 use Rattle.lattice.specs.World.{present, worldWith}
 use Rattle.rows.specs.declared.Outcome.{Outcome}
-use Rattle.rows.specs.Rows.{objectName, cloneableName, serializableName, noTables, allBelow, State, key, isMarked, Ran}
+use Rattle.rows.specs.Rows.{objectName, cloneableName, serializableName, noTables, State, key, isMarked, Ran}
 use Rattle.rows.specs.Marks.{mark-set}
 use Rattle.rows.specs.Laws.{Sound}
 use Rattle.columns.specs.Columns.{nameRows, recordRows, tableOf}
 use Rattle.columns.specs.Laws.{names-good}
 use Rattle.columns.specs.Names.{names-checked, names-counted, notedIn, names-noted, noted-none, noted-one}
-use Rattle.queries.specs.Queries.{Given, even, noMarks, table, classesOf, viewIn, ranChecks, queryChecks, queryRefusal, valueOf}
-use Rattle.queries.specs.declared.Query.{Query}
-use Rattle.queries.specs.Laws.{even-is, good-in, object-known}
-use Rattle.tableview.specs.TableRows.{Record, isRecorded, parentsOf, setOf, lastDeclared, factFrom, anyFlags, interfaceFlag, finalFlag, indexOf, rowsView, rowsWorld, stateWorld, namesOf, recordsOf, rowsIn}
+use Rattle.columns.specs.Given.{Given, even, noMarks, table}
+use Rattle.columns.specs.GivenLaws.{even-is, good-in}
+use Rattle.tableview.specs.TableRows.{Record, isRecorded, parentsOf, setOf, lastDeclared, factFrom, anyFlags, interfaceFlag, finalFlag, indexOf, rowsView, rowsWorld, namesOf, recordsOf, rowsIn}
+use Rattle.tableview.specs.Inner.{viewIn, worldIn}
 use Rattle.tableview.specs.Taken.{After, records-after}
 
 -- ---- names
@@ -215,21 +212,21 @@ present-number (some i) h = rw (ne-eqb i (2 ^ 64 - 1) (λ e. let k = h i refl in
 
 module _ (g : Given) (e : even g ≡ true) (z : table g .refusal ≡ 0) where
   named : Outcome
-  named = nameRows (g .names) (g .ats) (g .lens) [] noTables
+  named = nameRows (g .names) (g .«name_at») (g .«name_len») [] noTables
 
   first : State
   first = record { tables = named .tables; keys = []; marks = noMarks }
 
-  columns-even : length (g .ats) ≡ length (g .lens)
+  columns-even : length (g .«name_at») ≡ length (g .«name_len»)
   unfolding even
-  columns-even = even-is (length (g .ats)) (length (g .lens)) (length (g .flags)) (length (g .classes)) (length (g .starts)) (length (g .sizes)) e .0
+  columns-even = even-is (length (g .«name_at»)) (length (g .«name_len»)) (length (g .«rec_flags»)) (length (g .«rec_class»)) (length (g .«rec_at»)) (length (g .«rec_len»)) e .0
 
   good-first : Sound first
   unfolding first named
-  good-first = names-good (g .names) (g .ats) (g .lens) noMarks refl
+  good-first = names-good (g .names) (g .«name_at») (g .«name_len») noMarks refl
 
   rs : List Record
-  rs = recordsOf (g .parents) (g .flags) (g .classes) (g .starts) (g .sizes)
+  rs = recordsOf (g .parents) (g .«rec_flags») (g .«rec_class») (g .«rec_at») (g .«rec_len»)
 
   -- the names are taken, and then the records
   both-taken : (named .refusal ≡ 0) × After first rs (table g .state)
@@ -237,9 +234,9 @@ module _ (g : Given) (e : even g ≡ true) (z : table g .refusal ≡ 0) where
   both-taken = go (eqb (named .refusal) 0) refl z
     where
       go : (b : Bool) → eqb (named .refusal) 0 ≡ b
-          → cond {A = Ran} b (recordRows (g .parents) (g .flags) (g .classes) (g .starts) (g .sizes) first) (record { refusal = named .refusal; state = first }) .refusal ≡ 0
-          → (named .refusal ≡ 0) × After first rs (cond {A = Ran} b (recordRows (g .parents) (g .flags) (g .classes) (g .starts) (g .sizes) first) (record { refusal = named .refusal; state = first }) .state)
-      go true q r = (eqb-true (named .refusal) 0 q, records-after (g .parents) (g .flags) (g .classes) (g .starts) (g .sizes) first good-first r)
+          → cond {A = Ran} b (recordRows (g .parents) (g .«rec_flags») (g .«rec_class») (g .«rec_at») (g .«rec_len») first) (record { refusal = named .refusal; state = first }) .refusal ≡ 0
+          → (named .refusal ≡ 0) × After first rs (cond {A = Ran} b (recordRows (g .parents) (g .«rec_flags») (g .«rec_class») (g .«rec_at») (g .«rec_len») first) (record { refusal = named .refusal; state = first }) .state)
+      go true q r = (eqb-true (named .refusal) 0 q, records-after (g .parents) (g .«rec_flags») (g .«rec_class») (g .«rec_at») (g .«rec_len») first good-first r)
       go false q r = absurd (eqb-false (named .refusal) 0 q r)
 
   after : After first rs (table g .state)
@@ -248,29 +245,29 @@ module _ (g : Given) (e : even g ≡ true) (z : table g .refusal ≡ 0) where
   s : State
   s = table g .state
 
-  names-many : s .tables .names ≡ length (namesOf (g .names) (g .ats) (g .lens))
+  names-many : s .tables .names ≡ length (namesOf (g .names) (g .«name_at») (g .«name_len»))
   unfolding s first named noTables
   names-many =
-      after .numbers .names ∙ names-counted (g .names) (g .ats) (g .lens) [] noTables columns-even (both-taken .0)
-      ∙ (let k : 0 + length (g .ats) ≡ length (g .ats) = omega arith in k) ∙ sym (names-length (g .names) (g .ats) (g .lens) columns-even)
+      after .numbers .names ∙ names-counted (g .names) (g .«name_at») (g .«name_len») [] noTables columns-even (both-taken .0)
+      ∙ (let k : 0 + length (g .«name_at») ≡ length (g .«name_at») = omega arith in k) ∙ sym (names-length (g .names) (g .«name_at») (g .«name_len») columns-even)
 
-  object-is : s .tables .object ≡ numberOf (indexOf objectName (namesOf (g .names) (g .ats) (g .lens)))
+  object-is : s .tables .object ≡ numberOf (indexOf objectName (namesOf (g .names) (g .«name_at») (g .«name_len»)))
   unfolding s first named noTables
   object-is =
-      after .numbers .object ∙ names-noted (g .names) (g .ats) (g .lens) [] noTables (both-taken .0) .0
-      ∙ noted-index objectName (g .names) (g .ats) (g .lens) columns-even (both-taken .0)
+      after .numbers .object ∙ names-noted (g .names) (g .«name_at») (g .«name_len») [] noTables (both-taken .0) .0
+      ∙ noted-index objectName (g .names) (g .«name_at») (g .«name_len») columns-even (both-taken .0)
 
-  pub cloneable-is : table g .state .tables .cloneable ≡ numberOf (indexOf cloneableName (namesOf (g .names) (g .ats) (g .lens)))
+  pub cloneable-is : table g .state .tables .cloneable ≡ numberOf (indexOf cloneableName (namesOf (g .names) (g .«name_at») (g .«name_len»)))
   unfolding first named noTables
   cloneable-is =
-      after .numbers .cloneable ∙ names-noted (g .names) (g .ats) (g .lens) [] noTables (both-taken .0) .1
-      ∙ noted-index cloneableName (g .names) (g .ats) (g .lens) columns-even (both-taken .0)
+      after .numbers .cloneable ∙ names-noted (g .names) (g .«name_at») (g .«name_len») [] noTables (both-taken .0) .1
+      ∙ noted-index cloneableName (g .names) (g .«name_at») (g .«name_len») columns-even (both-taken .0)
 
-  pub serializable-is : table g .state .tables .serializable ≡ numberOf (indexOf serializableName (namesOf (g .names) (g .ats) (g .lens)))
+  pub serializable-is : table g .state .tables .serializable ≡ numberOf (indexOf serializableName (namesOf (g .names) (g .«name_at») (g .«name_len»)))
   unfolding first named noTables
   serializable-is =
-      after .numbers .serializable ∙ names-noted (g .names) (g .ats) (g .lens) [] noTables (both-taken .0) .2
-      ∙ noted-index serializableName (g .names) (g .ats) (g .lens) columns-even (both-taken .0)
+      after .numbers .serializable ∙ names-noted (g .names) (g .«name_at») (g .«name_len») [] noTables (both-taken .0) .2
+      ∙ noted-index serializableName (g .names) (g .«name_at») (g .«name_len») columns-even (both-taken .0)
 
   -- rows are of classes of the table, so below 1,024
   small-class : (c : ℕ) → isRecorded c rs ≡ true → c < 1024
@@ -356,57 +353,24 @@ module _ (g : Given) (e : even g ≡ true) (z : table g .refusal ≡ 0) where
   unfolding viewIn rowsIn s rs keys
   parents-listed c y = parents-are c y
 
-  few-names : length (g .ats) ≤ 1024
+  few-names : length (g .«name_at») ≤ 1024
   unfolding s first named noTables
   few-names =
-      let n = names-counted (g .names) (g .ats) (g .lens) [] noTables columns-even (both-taken .0) in
+      let n = names-counted (g .names) (g .«name_at») (g .«name_len») [] noTables columns-even (both-taken .0) in
       let k = good-first .few in
       omega arith
 
-  placed-small : (wanted : List ℕ) (i : ℕ) → indexOf wanted (namesOf (g .names) (g .ats) (g .lens)) ≡ some i → i < 2 ^ 64 - 1
+  placed-small : (wanted : List ℕ) (i : ℕ) → indexOf wanted (namesOf (g .names) (g .«name_at») (g .«name_len»)) ≡ some i → i < 2 ^ 64 - 1
   unfolding Placed
   placed-small wanted i q =
-      let p = subst (Placed wanted (g .names) (g .ats) (g .lens)) q (index-placed wanted (g .names) (g .ats) (g .lens) columns-even) .0 in
+      let p = subst (Placed wanted (g .names) (g .«name_at») (g .«name_len»)) q (index-placed wanted (g .names) (g .«name_at») (g .«name_len») columns-even) .0 in
       let k = few-names in
       omega arith
 
   -- THE WORLD IN THE WORDS OF THE ROWS: so every join, every assignability and every solve over it is that of the rows
-  pub world-rows : stateWorld (table g .state) ≡ rowsWorld (rowsIn g)
-  unfolding rowsWorld rowsIn viewIn
+  pub world-rows : worldIn g ≡ rowsWorld (rowsIn g)
+  unfolding worldIn rowsWorld rowsIn viewIn
   world-rows =
-      let a = ap present cloneable-is ∙ present-number (indexOf cloneableName (namesOf (g .names) (g .ats) (g .lens))) (placed-small cloneableName) in
-      let b = ap present serializable-is ∙ present-number (indexOf serializableName (namesOf (g .names) (g .ats) (g .lens))) (placed-small serializableName) in
+      let a = ap present cloneable-is ∙ present-number (indexOf cloneableName (namesOf (g .names) (g .«name_at») (g .«name_len»))) (placed-small cloneableName) in
+      let b = ap present serializable-is ∙ present-number (indexOf serializableName (namesOf (g .names) (g .«name_at») (g .«name_len»))) (placed-small serializableName) in
       λ i. worldWith (view-rows i) (a i) (b i)
-
--- ---- a question that is not refused
-
-pub record Accepted (g : Given) (numbers : List ℕ) : Type 0 where
-  pub columns : even g ≡ true
-  pub taken : table g .refusal ≡ 0
-  pub numbers-in : allBelow (viewIn g .names) numbers ≡ true
-  pub good : view.Good (viewIn g)
-
--- Object is a class, parents are classes, and the numbers asked are
-pub accepted : (g : Given) (numbers : List ℕ) (room : ℕ) → queryRefusal g numbers room ≡ 0 → Accepted g numbers
-unfolding queryRefusal queryChecks ranChecks checks.firstRefusal viewIn
-accepted g numbers room h = go (ltb room 8192) (even g) refl (eqb (table g .refusal) 0) refl (allBelow (table g .state .tables .names) numbers) refl (eqb (table g .state .tables .object) (2 ^ 64 - 1)) refl h
-  where
-    go : (a b : Bool) → even g ≡ b → (c : Bool) → eqb (table g .refusal) 0 ≡ c → (d : Bool) → allBelow (table g .state .tables .names) numbers ≡ d
-        → (o : Bool) → eqb (table g .state .tables .object) (2 ^ 64 - 1) ≡ o
-        → cond a 22 (cond (not b) 3 (cond (not c) (table g .refusal) (cond (not d) 6 (cond o 9 0)))) ≡ 0 → Accepted g numbers
-    go true b eb c ec d ed o eo q = absurd (omega arith)
-    go false false eb c ec d ed o eo q = absurd (omega arith)
-    go false true eb false ec d ed o eo q = absurd (eqb-false (table g .refusal) 0 ec q)
-    go false true eb true ec false ed o eo q = absurd (omega arith)
-    go false true eb true ec true ed true eo q = absurd (omega arith)
-    go false true eb true ec true ed false eo q = record {
-      columns = eb;
-      taken = eqb-true (table g .refusal) 0 ec;
-      numbers-in = ed;
-      good = view-good (table g .state .keys) (table g .state .marks) (classesOf (table g .state .tables)) (good-in g .few) (object-known g (eqb-false (table g .state .tables .object) (2 ^ 64 - 1) eo));
-    }
-
--- SO EVERY ANSWER IS THAT OF THE ROWS
-pub value-rows : (g : Given) (numbers : List ℕ) (room : ℕ) → queryRefusal g numbers room ≡ 0
-    → (q : Query) (a b : ℕ) → valueOf (viewIn g) q a b ≡ valueOf (rowsView (rowsIn g)) q a b
-value-rows g numbers room h q a b = let k = accepted g numbers room h in ap (λ (v : View). valueOf v q a b) (view-rows g (k .columns) (k .taken))

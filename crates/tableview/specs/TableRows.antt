@@ -11,9 +11,9 @@ use Rattle.names.specs.Names.{nameOf, next}
 use Rattle.view.specs.View.{View, numberOf}
 use Rattle.sorted.specs.Sorted.{put}
 use Rattle.lattice.specs.Lattice.{World}
-use Rattle.lattice.specs.World.{present, worldWith}
-use Rattle.rows.specs.Rows.{objectName, cloneableName, serializableName, State}
-use Rattle.queries.specs.Queries.{Given, stateView}
+use Rattle.lattice.specs.World.{worldWith}
+use Rattle.rows.specs.Rows.{objectName, cloneableName, serializableName}
+use Rattle.columns.specs.Given.{Given}
 
 pub record Record : Type 0 where
   pub flags : ℕ
@@ -91,11 +91,6 @@ rowsView t = record {
 unfoldable pub rowsWorld : Rows → World
 rowsWorld t = worldWith (rowsView t) (indexOf cloneableName (t .names)) (indexOf serializableName (t .names))
 
--- ---- the world that the tables of the code give, by their slices
-
-abbrev pub stateWorld : State → World
-stateWorld s = worldWith (stateView s) (present (s .tables .cloneable)) (present (s .tables .serializable))
-
 -- ---- the rows that columns give
 
 unfoldable pub namesOf : List ℕ → List ℕ → List ℕ → List (List ℕ)
@@ -111,4 +106,4 @@ recordsOf parents (f ∷ fs) (c ∷ cs) (a ∷ ats) [] = []
 recordsOf parents (f ∷ fs) (c ∷ cs) (a ∷ ats) (l ∷ ls) = record { flags = f; class = c; parents = take l (drop a parents) } ∷ recordsOf parents fs cs ats ls
 
 unfoldable pub rowsIn : Given → Rows
-rowsIn g = record { names = namesOf (g .names) (g .ats) (g .lens); records = recordsOf (g .parents) (g .flags) (g .classes) (g .starts) (g .sizes) }
+rowsIn g = record { names = namesOf (g .names) (g .«name_at») (g .«name_len»); records = recordsOf (g .parents) (g .«rec_flags») (g .«rec_class») (g .«rec_at») (g .«rec_len») }

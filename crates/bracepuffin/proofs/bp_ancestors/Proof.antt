@@ -1,7 +1,8 @@
 -- `bp_ancestors` meets its contract: the answer of the question, and the work that it leaves. Assumes nothing.
 use borrow.Author.Needs.{needs}
 use mathlib.Core.Path.{ap, _∙_}
-use Rattle.bracepuffin.specs.Boundary.{setAnswer}
+use Rattle.questions.specs.Questions.{ancestorsOf}
+use Rattle.bracepuffin.specs.Boundary.{setAnswer, ancestorsTold}
 use Rattle.bracepuffin.proofs.bp_ancestors.Statement.{statement}
 use Rattle.bracepuffin.proofs.bp_ancestors.Tie as tie
 
@@ -15,7 +16,8 @@ same-length : tie.Need-same-length
 same-length c = search needs
 
 returns : tie.Need-returns
-returns c = let r = c .before .before .before .ancestors-of .ensures in record { result = c .set-answer .ensures ∙ ap setAnswer (r .result); memory = r .memory }
+unfolding ancestorsOf ancestorsTold
+returns c = let r = c .before .before .before .ancestors-of .ensures in (c .set-answer .ensures ∙ ap setAnswer (r .result), r .memory)
 
 pub bp-ancestors-spec : {M : Type 1} → statement M
 bp-ancestors-spec =

@@ -1,8 +1,8 @@
 -- `bp_relation` meets its contract: the answer of the question, and the work that it leaves. Assumes nothing.
 use borrow.Author.Needs.{needs}
 use mathlib.Core.Path.{ap, _∙_}
-use Rattle.queries.specs.Queries.{valueOf}
-use Rattle.bracepuffin.specs.Boundary.{relationAnswer}
+use Rattle.questions.specs.Questions.{valueOf, answerOf}
+use Rattle.bracepuffin.specs.Boundary.{relationAnswer, relationTold}
 use Rattle.bracepuffin.proofs.bp_relation.Statement.{statement}
 use Rattle.bracepuffin.proofs.bp_relation.Tie as tie
 
@@ -16,8 +16,8 @@ same-length : tie.Need-same-length
 same-length c = search needs
 
 returns : tie.Need-returns
-unfolding valueOf
-returns c = let r = c .before .before .before .ask .ensures in record { result = c .relation-answer .ensures ∙ ap relationAnswer (r .result); memory = r .memory }
+unfolding valueOf answerOf relationTold
+returns c = let r = c .before .before .before .ask .ensures in (c .relation-answer .ensures ∙ ap relationAnswer (r .result), r .memory)
 
 pub bp-relation-spec : {M : Type 1} → statement M
 bp-relation-spec = tie.close (tie.spec ask-requires relation-answer-requires same-length returns)

@@ -1,8 +1,8 @@
 -- `bp_supertype` meets its contract: the answer of the question, and the work that it leaves. Assumes nothing.
 use borrow.Author.Needs.{needs}
 use mathlib.Core.Path.{ap, _∙_}
-use Rattle.queries.specs.Queries.{valueOf}
-use Rattle.bracepuffin.specs.Boundary.{numberAnswer}
+use Rattle.questions.specs.Questions.{valueOf, answerOf}
+use Rattle.bracepuffin.specs.Boundary.{numberAnswer, supertypeTold}
 use Rattle.bracepuffin.proofs.bp_supertype.Statement.{statement}
 use Rattle.bracepuffin.proofs.bp_supertype.Tie as tie
 
@@ -16,8 +16,8 @@ same-length : tie.Need-same-length
 same-length c = search needs
 
 returns : tie.Need-returns
-unfolding valueOf
-returns c = let r = c .before .before .before .ask .ensures in record { result = c .number-answer .ensures ∙ ap numberAnswer (r .result); memory = r .memory }
+unfolding valueOf answerOf supertypeTold
+returns c = let r = c .before .before .before .ask .ensures in (c .number-answer .ensures ∙ ap numberAnswer (r .result), r .memory)
 
 pub bp-supertype-spec : {M : Type 1} → statement M
 bp-supertype-spec = tie.close (tie.spec ask-requires number-answer-requires same-length returns)

@@ -1,0 +1,106 @@
+-- The examples of the scope paper from their columns, and a case for each refusal: one statement over one list, by computation.
+-- a/Probe 0, a/TrussA 1, a/TrussB 2, java/lang/Object 3. Assumes nothing.
+use mathlib.Core.Path.{_≡_, refl}
+use mathlib.Core.List.{List, [], _∷_}
+use Prim.Native.Nat.{ℕ, _-_, _^_}
+use Rattle.order.specs.Lists.{elem}
+use Rattle.order.specs.Compare.{compareNumbers, compareLists}
+use Rattle.utf8.specs.Utf8.{table, within, matches, firstMatch, sequence, scan, validPrefix, wellFormed}
+use Rattle.sets.specs.Sets as sets
+use Rattle.sets.specs.Sets.{bit, at, member, insert, remove, clear, members}
+use Rattle.sorted.specs.Sorted.{insertSorted, put}
+use Rattle.checks.specs.Checks.{firstRefusal}
+use Rattle.ty.specs.Types.{arrays, compare, categories}
+use Rattle.ty.specs.Words.{unpack, pack, listOf, goodDigits, goodUnknown, baseOf, typeOf, wordOf, legalBase, legalWord, allLegal}
+use Rattle.names.specs.Names.{nameChecks, checkName}
+use Rattle.view.specs.View.{insertAll, withParents, grow, level, reached, reach, steps, distance, numberOf, ancestor, allRecorded, complete, relation, relationNumber, castByFacts, cast, common, below, anyBelow, lowest, nearer, nearest, numbers, candidates, supertype}
+use Rattle.lattice.specs.Lattice.{sameType, hasAll, unknownAccepts, inEither, unknownUnion, primitiveAssignable, assignableApart, isAssignable, narrow, underDouble, joinPrimitive, joinKnown, joinApart, join, arrayParent, joinArrayClass}
+use Rattle.rows.specs.Rows.{objectName, cloneableName, serializableName, noTables, noted, withName, nameRow, goodFlags, allBelow, putAll, marked, recordMarks, recordChecks, recordRefusal, withRecord, recordRow}
+use Rattle.columns.specs.Columns.{inside, placedName, nameRows, placedRecord, recordRows, tableOf}
+use Rattle.columns.specs.Examples.{bytes}
+use Rattle.columns.specs.Given as columns
+use Rattle.columns.specs.Given.{Given, given, evenLengths, even}
+use Rattle.tableview.specs.TableRows.{isRecorded, parentsOf, setOf, lastDeclared, indexOf, rowsView, rowsWorld, namesOf, recordsOf, rowsIn}
+use Rattle.questions.specs.declared.Question.{Question}
+use Rattle.questions.specs.declared.Question.the-variants.{Relation, Distance, Supertype, Cast, Join, Assignable}
+use Rattle.questions.specs.declared.Answer.{Answer}
+use Rattle.questions.specs.Questions.{goodNumbers, tableChecks, refusalOf, valueOf, answered, answerOf}
+
+-- the records of the given classes: a/Probe with parent 3, both others with parent 0, Object with none, from the parents 3, 0
+abbrev pub recording : List ℕ → List ℕ → List ℕ → List ℕ → Given
+recording flags classes starts sizes = given bytes (0 ∷ 7 ∷ 15 ∷ 23 ∷ []) (7 ∷ 8 ∷ 8 ∷ 16 ∷ []) flags classes starts sizes (3 ∷ 0 ∷ [])
+
+abbrev pub whole : Given
+whole = recording (0 ∷ 0 ∷ 0 ∷ 0 ∷ []) (0 ∷ 1 ∷ 2 ∷ 3 ∷ []) (0 ∷ 1 ∷ 1 ∷ 2 ∷ []) (1 ∷ 1 ∷ 1 ∷ 0 ∷ [])
+
+-- without the record of Object
+abbrev pub lacking : Given
+lacking = recording (0 ∷ 0 ∷ 0 ∷ []) (0 ∷ 1 ∷ 2 ∷ []) (0 ∷ 1 ∷ 1 ∷ []) (1 ∷ 1 ∷ 1 ∷ [])
+
+-- with a column too short
+abbrev pub uneven : Given
+uneven = recording (0 ∷ []) (0 ∷ []) (0 ∷ []) []
+
+-- with a/TrussA an interface, and a/TrussB a class with the given flags
+abbrev pub declaring : ℕ → Given
+declaring flags = recording (0 ∷ 3 ∷ flags ∷ 0 ∷ []) (0 ∷ 1 ∷ 2 ∷ 3 ∷ []) (0 ∷ 1 ∷ 1 ∷ 2 ∷ []) (1 ∷ 1 ∷ 1 ∷ 0 ∷ [])
+
+-- a/Probe alone
+abbrev pub objectless : Given
+objectless = given bytes (0 ∷ []) (7 ∷ []) [] [] [] [] []
+
+-- ---- one list
+
+pub record Example : Type 0 where
+  pub table : Given
+  pub asked : Question
+  pub a : ℕ
+  pub b : ℕ
+  pub room : ℕ
+  pub answer : Answer
+
+abbrev value : Given → Question → ℕ → ℕ → ℕ → Example
+value g q a b x = record { table = g; asked = q; a = a; b = b; room = 8192; answer = record { refusal = 0; value = x } }
+
+abbrev refused : Given → Question → ℕ → ℕ → ℕ → ℕ → Example
+refused g q a b room k = record { table = g; asked = q; a = a; b = b; room = room; answer = record { refusal = k; value = 0 } }
+
+abbrev pub holds : Example → Type 0
+holds e = answerOf (e .table) (e .asked) (e .a) (e .b) (e .room) ≡ e .answer
+
+abbrev pub All : (Example → Type 0) → List Example → Type 0
+All P [] = Unit {0}
+All P (e ∷ es) = P e × All P es
+
+abbrev pub examples : List Example
+examples =
+    -- a/Probe to a/TrussA: no, and unknown without Object's record; the Trusses: a/Probe; a/TrussA to Object: 2
+    value whole Relation 0 1 1
+    ∷ value lacking Relation 0 1 2
+    ∷ value whole Supertype 1 2 0
+    ∷ value whole Distance 1 3 2
+    ∷ value whole Distance 0 1 (2 ^ 64 - 1)
+    -- Object to a/TrussA: a cast; a/TrussA to a/TrussB: none of two undeclared classes, one from an interface, but not to a final class
+    ∷ value whole Cast 3 1 1
+    ∷ value whole Cast 1 2 0
+    ∷ value (declaring 1) Cast 1 2 1
+    ∷ value (declaring 5) Cast 1 2 0
+    -- Boolean with Int; an array of Int with a/TrussA; a/TrussA with a/TrussB; Char to Short; an array of Int to Object
+    ∷ value whole Join 1 5 0x0002215000000000
+    ∷ value whole Join 0x0100000000000005 0x0001000000000001 0x000229a000000000
+    ∷ value whole Join 0x0001000000000001 0x0001000000000002 0x0001000000000000
+    ∷ value whole Assignable 4 3 0
+    ∷ value whole Assignable 0x0100000000000005 0x0001000000000003 1
+    -- a work of 8,191 words, a column too short, no class 4, no type of class 4, no java/lang/Object
+    ∷ refused uneven Relation 0 4 8191 22
+    ∷ refused uneven Relation 0 4 8192 3
+    ∷ refused whole Relation 0 4 8192 6
+    ∷ refused whole Join 5 0x0001000000000004 8192 7
+    ∷ refused objectless Join 5 0x0001000000000004 8192 7
+    ∷ refused objectless Assignable 5 0x0001000000000000 8192 9
+    ∷ []
+
+-- EVERY EXAMPLE HOLDS
+pub all-hold : All holds examples
+unfolding answerOf answered refusalOf tableChecks goodNumbers valueOf columns.table evenLengths even rowsView rowsWorld rowsIn namesOf recordsOf isRecorded parentsOf setOf lastDeclared indexOf allLegal legalWord legalBase goodUnknown goodDigits unpack typeOf arrays baseOf listOf wordOf pack compare categories sameType hasAll unknownAccepts inEither unknownUnion primitiveAssignable assignableApart isAssignable narrow underDouble joinPrimitive joinKnown joinApart join arrayParent joinArrayClass firstRefusal inside placedName nameRows placedRecord recordRows tableOf objectName cloneableName serializableName noTables noted withName nameRow goodFlags allBelow putAll marked recordMarks recordChecks recordRefusal withRecord recordRow nameChecks checkName compareLists compareNumbers table within matches firstMatch sequence scan validPrefix wellFormed insert remove clear elem insertSorted put bit at member members sets.first insertAll withParents grow level reached reach steps distance numberOf ancestor allRecorded complete relation relationNumber castByFacts cast common below anyBelow lowest nearer nearest numbers candidates supertype
+all-hold = (refl, (refl, (refl, (refl, (refl, (refl, (refl, (refl, (refl, (refl, (refl, (refl, (refl, (refl, (refl, (refl, (refl, (refl, (refl, (refl, tt))))))))))))))))))))

@@ -1,0 +1,4 @@
+-- Laws of the questions that no proof of code cites.
+pub mod Accepted
+pub mod Refusals
+pub mod Examples

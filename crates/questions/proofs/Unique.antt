@@ -1,0 +1,22 @@
+-- The contract of each public function, as the check reads it, allows one result and one content of lent memory. Assumes nothing.
+use mathlib.Core.Path.{_≡_, sym, _∙_}
+use borrow.Fn.Kinds.{Dens, resT, endedOf}
+use denote.Triple.Clauses.{AtExit}
+use denote.Ref.{now}
+use contract.Lifetimes.{Lfts}
+use Rattle.questions.proofs.ask.Reads as ask-reads
+use Rattle.questions.proofs.ask.Kinds as ask-kinds
+use Rattle.questions.proofs.ancestors_of.Reads as ancestors-of-reads
+use Rattle.questions.proofs.ancestors_of.Kinds as ancestors-of-kinds
+
+-- the twelfth parameter is lent
+pub ask-one : (κs : Lfts 9) (a : Dens κs ask-kinds.ps) (r₁ r₂ : resT ask-kinds.r κs .Denot)
+    (x₁ x₂ : AtExit (endedOf 9 ask-kinds.ps ask-kinds.r) κs) → ask-reads.Post κs a r₁ x₁ → ask-reads.Post κs a r₂ x₂
+    → (r₁ ≡ r₂) × (now (x₁ .1 .1 .1 .1 .1 .1 .1 .1 .1 .1 .1 .0) ≡ now (x₂ .1 .1 .1 .1 .1 .1 .1 .1 .1 .1 .1 .0))
+ask-one κs a r₁ r₂ x₁ x₂ p q = (p .result ∙ sym (q .result), p .memory ∙ sym (q .memory))
+
+-- the tenth
+pub ancestors-of-one : (κs : Lfts 9) (a : Dens κs ancestors-of-kinds.ps) (r₁ r₂ : resT ancestors-of-kinds.r κs .Denot)
+    (x₁ x₂ : AtExit (endedOf 9 ancestors-of-kinds.ps ancestors-of-kinds.r) κs) → ancestors-of-reads.Post κs a r₁ x₁ → ancestors-of-reads.Post κs a r₂ x₂
+    → (r₁ ≡ r₂) × (now (x₁ .1 .1 .1 .1 .1 .1 .1 .1 .1 .0) ≡ now (x₂ .1 .1 .1 .1 .1 .1 .1 .1 .1 .0))
+ancestors-of-one κs a r₁ r₂ x₁ x₂ p q = (p .result ∙ sym (q .result), p .memory ∙ sym (q .memory))

@@ -1,0 +1,52 @@
+-- What the inner functions promise each other: the checks over the tables as they were built, and slices that hold what the rows say.
+-- Assumes nothing.
+use mathlib.Core.Path.{_≡_}
+use mathlib.Core.Bool.{Bool, true, false, cond, not}
+use mathlib.Core.List.{List, [], _∷_}
+use Prim.Native.Nat.{ℕ, _-_, _^_}
+use lib.Dec.{eqb}
+use lib.ListN.{length, replicate}
+use Rattle.checks.specs.Checks.{Check, check, firstRefusal}
+use Rattle.view.specs.View.{ancestors}
+use Rattle.tables.specs.declared.Tables.{Tables}
+use Rattle.tables.specs.Table.{marksRoom, viewOf}
+use Rattle.lattice.specs.World.{worldOf}
+use Rattle.joins.specs.Joins.{Fits}
+use Rattle.rows.specs.declared.Outcome.{Outcome}
+use Rattle.columns.specs.Given.{Given}
+use Rattle.tableview.specs.TableRows.{rowsView, rowsWorld, rowsIn}
+use Rattle.questions.specs.declared.Question.{Question}
+use Rattle.questions.specs.declared.Answer.{Answer}
+use Rattle.questions.specs.declared.Ancestors.{Ancestors}
+use Rattle.questions.specs.Questions.{ofTypes, goodNumbers, tableChecks, valueOf, answered, gathered}
+
+-- the checks after the rows: their own, the numbers', that of Object
+unfoldable pub ranChecks : ℕ → Tables → Bool → List ℕ → List Check
+ranChecks refusal t types numbers =
+    check (not (eqb refusal 0)) refusal
+    ∷ check (not (goodNumbers types (t .names) numbers)) (cond types 7 6)
+    ∷ check (eqb (t .object) (2 ^ 64 - 1)) 9
+    ∷ []
+
+-- answers where the work was long enough
+unfoldable pub tableAnswer : Given → Question → ℕ → ℕ → Answer
+tableAnswer g q a b = answered (firstRefusal (tableChecks g (ofTypes q) (a ∷ b ∷ []))) (valueOf (rowsView (rowsIn g)) (rowsWorld (rowsIn g)) q a b)
+
+unfoldable pub tableAncestors : Given → ℕ → Ancestors
+tableAncestors g class = gathered (firstRefusal (tableChecks g false (class ∷ []))) (ancestors (rowsView (rowsIn g)) class)
+
+abbrev pub noAncestors : ℕ → Ancestors
+noAncestors refusal = record { refusal = refusal; count = 0; lowest = 0; set = record { words = replicate 16 0 } }
+
+-- the slices hold the view and the world of the rows, and both numbers are classes, or types
+pub record Ready (g : Given) (types : Bool) (a b : ℕ) (pairs marks : List ℕ) (t : Tables) : Type 0 where
+  pub view-is : viewOf pairs marks t ≡ rowsView (rowsIn g)
+  pub world-is : worldOf pairs marks t ≡ rowsWorld (rowsIn g)
+  pub wide : length marks ≡ marksRoom
+  pub fits : Fits t
+  pub numbers-in : goodNumbers types (t .names) (a ∷ b ∷ []) ≡ true
+
+-- the refusal, and where there is none the slices are ready
+pub record Opens (g : Given) (types : Bool) (a b : ℕ) (pairs marks : List ℕ) (r : Outcome) : Type 0 where
+  pub refusal-is : r .refusal ≡ firstRefusal (tableChecks g types (a ∷ b ∷ []))
+  pub ready : r .refusal ≡ 0 → Ready g types a b pairs marks (r .tables)

@@ -1,2 +1,0 @@
--- What stands beside the proofs of this crate's functions.
-pub mod Unique
