@@ -5,3 +5,8 @@ pub mod Zeros
 pub mod Descriptors
 pub mod Contracts
 pub mod Parts
+pub mod Numbers
+pub mod Writers
+pub mod Asked
+pub mod Classes
+pub mod Types

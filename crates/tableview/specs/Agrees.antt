@@ -42,7 +42,7 @@ use Rattle.tableview.specs.Taken.{After, records-after}
 
 -- ---- names
 
-names-length : (bytes ats lens : List ℕ) → length ats ≡ length lens → length (namesOf bytes ats lens) ≡ length ats
+pub names-length : (bytes ats lens : List ℕ) → length ats ≡ length lens → length (namesOf bytes ats lens) ≡ length ats
 unfolding namesOf
 names-length bytes [] lens e = refl
 names-length bytes (at ∷ ats) [] e = absurd (omega arith)
@@ -92,7 +92,7 @@ module _ (wanted bytes ats lens : List ℕ) (e : length ats ≡ length lens) (z 
 
 -- ---- parents and facts
 
-elem-member : (p : ℕ) (xs : List ℕ) → elem p xs ≡ true → List·Memᴰ p xs
+pub elem-member : (p : ℕ) (xs : List ℕ) → elem p xs ≡ true → List·Memᴰ p xs
 unfolding elem
 elem-member p [] h = absurd (false≢true h)
 elem-member p (x ∷ xs) h = go (eqb x p) refl h (elem-member p xs)
@@ -101,7 +101,7 @@ elem-member p (x ∷ xs) h = go (eqb x p) refl h (elem-member p xs)
     go true e k ih = List·Memᴰ·head (sym (eqb-true x p e))
     go false e k ih = List·Memᴰ·tail (ih k)
 
-member-elem : (p : ℕ) (xs : List ℕ) → List·Memᴰ p xs → elem p xs ≡ true
+pub member-elem : (p : ℕ) (xs : List ℕ) → List·Memᴰ p xs → elem p xs ≡ true
 unfolding elem
 member-elem p [] m = absurd (List·Memᴰ·not-nil m)
 member-elem p (x ∷ xs) m = go (eqb x p) refl (member-elem p xs)
@@ -134,12 +134,12 @@ fact-none f c (r ∷ rs) h = go (eqb (r .class) c) refl h (lastDeclared c rs) re
 
 -- ---- parents as ascending sets
 
-set-sorted : (xs : List ℕ) → Sorted (setOf xs)
+pub set-sorted : (xs : List ℕ) → Sorted (setOf xs)
 unfolding setOf
 set-sorted [] = tt
 set-sorted (x ∷ xs) = put-sorted x (setOf xs) (set-sorted xs)
 
-elem-set : (z : ℕ) (xs : List ℕ) → elem z (setOf xs) ≡ elem z xs
+pub elem-set : (z : ℕ) (xs : List ℕ) → elem z (setOf xs) ≡ elem z xs
 unfolding setOf elem
 elem-set z [] = refl
 elem-set z (x ∷ xs) = elem-put x z (setOf xs) ∙ ap (λ (b : Bool). eqb x z || b) (elem-set z xs)

@@ -64,7 +64,7 @@ elem-append z (x ∷ xs) ys = go (eqb x z) (elem-append z xs ys)
 below-rest : (n x : ℕ) (xs : List ℕ) → Below n (x ∷ xs) → (x < n) × Below n xs
 below-rest n x xs b = (b 0 (omega arith), λ i h. b (suc i) (omega arith))
 
-elem-below : (n p : ℕ) (xs : List ℕ) → Below n xs → elem p xs ≡ true → p < n
+pub elem-below : (n p : ℕ) (xs : List ℕ) → Below n xs → elem p xs ≡ true → p < n
 unfolding elem
 elem-below n p [] b h = absurd (false≢true h)
 elem-below n p (x ∷ xs) b h = go (eqb x p) refl h (elem-below n p xs (below-rest n x xs b .1))
@@ -194,7 +194,7 @@ after-none s = record {
 }
 
 -- a record that is taken lies inside, is not refused and leaves the state with it
-placed-taken : (parents : List ℕ) (f c a l : ℕ) (s : State) → placedRecord parents f c a l s .refusal ≡ 0
+pub placed-taken : (parents : List ℕ) (f c a l : ℕ) (s : State) → placedRecord parents f c a l s .refusal ≡ 0
     → (recordRefusal (s .tables .names) (s .keys) f c (take l (drop a parents)) ≡ 0) × (placedRecord parents f c a l s .state ≡ withRecord s f c (take l (drop a parents)))
 placed-taken parents f c a l s z = go (inside (length parents) a l) refl
   where
