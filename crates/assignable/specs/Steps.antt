@@ -6,8 +6,6 @@ use Prim.Native.Nat.{ℕ, zero, suc, _-_, _^_, _≤_, _<_}
 use native.Mathlib.Omega.{arith}
 use lib.Dec.{eqb, leb}
 use borrow.Author.Tests.{eq-eqb, ne-eqb, eqb-true, leb-true, leb-false, ltb-true}
-use Rattle.order.specs.Compare.{isEqual}
-use Rattle.order.specs.Laws.{numbers-by}
 use Rattle.ty.specs.Types.{ArgType, Primitive, Object, Array, Unknown, compare, categories, isKnown, isPrimitive, isObject, isArray}
 use Rattle.ty.specs.Words.{Legal, tagOf, loadOf, typeOf, baseOf}
 use Rattle.ty.specs.Shape.{type-array, type-flat, legal-element}
@@ -175,8 +173,8 @@ pub legal-elements : (v : ℕ) → 2 ^ 56 ≤ v → Legal v → Legal (v - 2 ^ 5
 legal-elements v h l = legal-element 1024 v h ∙ l
 
 elements-same : (t u : ArgType) (b : Bool) → isPrimitive t ≡ true → isPrimitive u ≡ true → sameType t u ≡ elementsAssignable t u b
-unfolding isPrimitive elementsAssignable sameType compare
-elements-same (Primitive k) (Primitive l) b g h = numbers-by (λ o. isEqual o ≡ eqb k l) k l (λ p. sym (ne-eqb k l (λ q. omega arith))) (λ p. sym (eq-eqb k l p)) (λ p. sym (ne-eqb k l (λ q. omega arith)))
+unfolding isPrimitive elementsAssignable
+elements-same (Primitive k) (Primitive l) b g h = refl
 elements-same (Primitive k) (Object c) b g h = never (sym h)
 elements-same (Primitive k) (Array u) b g h = never (sym h)
 elements-same (Primitive k) (Unknown cs) b g h = never (sym h)

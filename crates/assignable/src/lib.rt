@@ -1,6 +1,6 @@
 // Assignability of lattice.rs on type words: what an Unknown accepts, primitives, classes and arrays. The class tables are those of
 // the crate hierarchy; every word is legal for at most 1,024 names.
-use lattice::Numbers;
+use tables::Tables;
 use ty::TypeWord;
 use view::Relation;
 ghost use mathlib.Core.Path.{_≡_};
@@ -8,6 +8,7 @@ ghost use mathlib.Core.Bool.{true, false, _&&_};
 ghost use mathlib.Core.List.{[]};
 ghost use Prim.Native.Nat.{_^_, _≤_, _<_};
 ghost use lib.ListN.{length};
+ghost use Rattle.tables.specs.Table.{namesRoom, marksRoom};
 ghost use Rattle.ty.specs.Types.{Object, categories, isKnown, isArray};
 ghost use Rattle.ty.specs.Words.{Legal, typeOf};
 ghost use Rattle.lattice.specs.Lattice.{notNo, unknownAccepts, primitiveAssignable, arrayParent, assignableApart, isAssignable};
@@ -40,17 +41,17 @@ pub fn primitive_assignable(value: u64, expected: u64) -> bool
 }
 
 // Whether every array is assignable to the class: Object, Cloneable, Serializable.
-fn array_parent(n: Numbers, class: u64) -> bool
-    requires { ⌜ class < 1024 ⌝ }
-    ensures { λ r. ⌜ r ≡ arrayParent (worldOf [] [] n) class ⌝ }
+fn array_parent(t: Tables, class: u64) -> bool
+    requires { ⌜ class < namesRoom ⌝ }
+    ensures { λ r. ⌜ r ≡ arrayParent (worldOf [] [] t) class ⌝ }
 {
-    if class == n.classes.object {
+    if class == t.object {
         return true;
     }
-    if class == n.cloneable {
+    if class == t.cloneable {
         return true;
     }
-    class == n.serializable
+    class == t.serializable
 }
 
 // What is not known of the classes counts as assignable.
@@ -65,15 +66,15 @@ fn not_no(r: Relation) -> bool
 }
 
 // A known type to a class.
-fn to_class(pairs: &[u64], marks: &[u64], n: Numbers, value: TypeWord, class: u64) -> bool
-    requires { ⌜ (length (now marks) ≡ 64) × (isKnown (typeOf (value .word)) ≡ true) × (class < 1024) ⌝ }
-    ensures { λ r. ⌜ r ≡ assignableApart (worldOf (now (pairs .entry)) (now (marks .entry)) n) (typeOf (value .word)) (Object class) ⌝ }
+fn to_class(pairs: &[u64], marks: &[u64], t: Tables, value: TypeWord, class: u64) -> bool
+    requires { ⌜ (length (now marks) ≡ marksRoom) × (isKnown (typeOf (value .word)) ≡ true) × (class < namesRoom) ⌝ }
+    ensures { λ r. ⌜ r ≡ assignableApart (worldOf (now (pairs .entry)) (now (marks .entry)) t) (typeOf (value .word)) (Object class) ⌝ }
 {
     if value.is_array() {
-        return array_parent(n, class);
+        return array_parent(t, class);
     }
     if value.is_object() {
-        let r = hierarchy::subtype_relation(pairs, marks, n.classes, value.load(), class);
+        let r = hierarchy::subtype_relation(pairs, marks, t, value.load(), class);
         return not_no(r);
     }
     false
@@ -83,15 +84,15 @@ fn to_class(pairs: &[u64], marks: &[u64], n: Numbers, value: TypeWord, class: u6
 fn known_assignable(
     pairs: &[u64],
     marks: &[u64],
-    n: Numbers,
+    t: Tables,
     value: TypeWord,
     expected: TypeWord,
 ) -> bool
-    requires { ⌜ (length (now marks) ≡ 64) × Legal (expected .word) × (isKnown (typeOf (value .word)) ≡ true) × (isKnown (typeOf (expected .word)) ≡ true) × ((isArray (typeOf (value .word)) && isArray (typeOf (expected .word))) ≡ false) ⌝ }
-    ensures { λ r. ⌜ r ≡ assignableApart (worldOf (now (pairs .entry)) (now (marks .entry)) n) (typeOf (value .word)) (typeOf (expected .word)) ⌝ }
+    requires { ⌜ (length (now marks) ≡ marksRoom) × Legal (expected .word) × (isKnown (typeOf (value .word)) ≡ true) × (isKnown (typeOf (expected .word)) ≡ true) × ((isArray (typeOf (value .word)) && isArray (typeOf (expected .word))) ≡ false) ⌝ }
+    ensures { λ r. ⌜ r ≡ assignableApart (worldOf (now (pairs .entry)) (now (marks .entry)) t) (typeOf (value .word)) (typeOf (expected .word)) ⌝ }
 {
     if expected.is_object() {
-        return to_class(pairs, marks, n, value, expected.load());
+        return to_class(pairs, marks, t, value, expected.load());
     }
     if value.is_primitive() {
         if expected.is_primitive() {
@@ -106,16 +107,16 @@ fn known_assignable(
 fn bases_assignable(
     pairs: &[u64],
     marks: &[u64],
-    n: Numbers,
+    t: Tables,
     value: TypeWord,
     expected: TypeWord,
 ) -> bool
-    requires { ⌜ (length (now marks) ≡ 64) × Legal (value .word) × Legal (expected .word) × ((isArray (typeOf (value .word)) && isArray (typeOf (expected .word))) ≡ false) ⌝ }
-    ensures { λ r. ⌜ r ≡ assignableApart (worldOf (now (pairs .entry)) (now (marks .entry)) n) (typeOf (value .word)) (typeOf (expected .word)) ⌝ }
+    requires { ⌜ (length (now marks) ≡ marksRoom) × Legal (value .word) × Legal (expected .word) × ((isArray (typeOf (value .word)) && isArray (typeOf (expected .word))) ≡ false) ⌝ }
+    ensures { λ r. ⌜ r ≡ assignableApart (worldOf (now (pairs .entry)) (now (marks .entry)) t) (typeOf (value .word)) (typeOf (expected .word)) ⌝ }
 {
     if expected.is_known() {
         if value.is_known() {
-            return known_assignable(pairs, marks, n, value, expected);
+            return known_assignable(pairs, marks, t, value, expected);
         }
         return unknown_accepts(value, expected);
     }
@@ -135,26 +136,26 @@ fn are_arrays(left: TypeWord, right: TypeWord) -> bool
 pub fn is_assignable(
     pairs: &[u64],
     marks: &[u64],
-    n: Numbers,
+    t: Tables,
     value: TypeWord,
     expected: TypeWord,
 ) -> bool
-    requires { ⌜ (length (now marks) ≡ 64) × Legal (value .word) × Legal (expected .word) ⌝ }
-    ensures { λ r. ⌜ r ≡ isAssignable (worldOf (now (pairs .entry)) (now (marks .entry)) n) (typeOf (value .word)) (typeOf (expected .word)) ⌝ }
+    requires { ⌜ (length (now marks) ≡ marksRoom) × Legal (value .word) × Legal (expected .word) ⌝ }
+    ensures { λ r. ⌜ r ≡ isAssignable (worldOf (now (pairs .entry)) (now (marks .entry)) t) (typeOf (value .word)) (typeOf (expected .word)) ⌝ }
 {
     if value.word == expected.word {
         return true;
     }
     if are_arrays(value, expected) {
-        return array_rule(pairs, marks, n, value, expected);
+        return array_rule(pairs, marks, t, value, expected);
     }
-    bases_assignable(pairs, marks, n, value, expected)
+    bases_assignable(pairs, marks, t, value, expected)
 }
 
 // Two arrays: equal primitives, no mix with a primitive, else the question about the elements.
-fn array_rule(pairs: &[u64], marks: &[u64], n: Numbers, value: TypeWord, expected: TypeWord) -> bool
-    requires { ⌜ (length (now marks) ≡ 64) × Legal (value .word) × Legal (expected .word) × (2 ^ 56 ≤ value .word) × (2 ^ 56 ≤ expected .word) ⌝ }
-    ensures { λ r. ⌜ r ≡ assignableApart (worldOf (now (pairs .entry)) (now (marks .entry)) n) (typeOf (value .word)) (typeOf (expected .word)) ⌝ }
+fn array_rule(pairs: &[u64], marks: &[u64], t: Tables, value: TypeWord, expected: TypeWord) -> bool
+    requires { ⌜ (length (now marks) ≡ marksRoom) × Legal (value .word) × Legal (expected .word) × (2 ^ 56 ≤ value .word) × (2 ^ 56 ≤ expected .word) ⌝ }
+    ensures { λ r. ⌜ r ≡ assignableApart (worldOf (now (pairs .entry)) (now (marks .entry)) t) (typeOf (value .word)) (typeOf (expected .word)) ⌝ }
 {
     let v = value.word - 72057594037927936;
     let e = expected.word - 72057594037927936;
@@ -169,5 +170,5 @@ fn array_rule(pairs: &[u64], marks: &[u64], n: Numbers, value: TypeWord, expecte
     if wanted.is_primitive() {
         return false;
     }
-    is_assignable(pairs, marks, n, inner, wanted)
+    is_assignable(pairs, marks, t, inner, wanted)
 }

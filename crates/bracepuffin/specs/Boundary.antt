@@ -12,9 +12,9 @@ use Rattle.descriptor.specs.declared.Base.{Base}
 use Rattle.descriptor.specs.declared.Base.the-variants.{Simple, Class}
 use Rattle.descriptor.specs.declared.Read.{Read}
 use Rattle.descriptor.specs.declared.Read.the-variants.{Found, Refused}
-use Rattle.descriptor.specs.declared.MethodRead.{MethodRead}
-use Rattle.descriptor.specs.Method.{Method}
-use Rattle.descriptor.specs.Answers.{methodAnswer}
+use Rattle.methods.specs.declared.MethodRead.{MethodRead}
+use Rattle.methods.specs.Method.{Method}
+use Rattle.methods.specs.Answers.{methodAnswer}
 use Rattle.view.specs.View.{relation, relationNumber, distance, numberOf, ancestors, supertype, cast}
 use Rattle.lattice.specs.Lattice.{join, isAssignable}
 use Rattle.columns.specs.Given.{Given}

@@ -1,11 +1,11 @@
 // What C and Rust call: thin functions over the crates below, with no logic of their own. Every call takes arbitrary numbers
 // and bytes. A refused result is its number, offset and byte, and zero in every other field.
 use descriptor::Base;
-use descriptor::MethodRead;
 use descriptor::Read;
-use descriptor::read_method;
-use descriptor::read_strict;
 use descriptor::read_whole;
+use methods::MethodRead;
+use methods::read_method;
+use methods::read_strict;
 use names::LookedUp;
 use names::look_up;
 use questions::Ancestors;
@@ -20,7 +20,7 @@ ghost use mathlib.Core.Path.{_≡_};
 ghost use mathlib.Core.Bool.{true, false};
 ghost use lib.ListN.{length};
 ghost use Rattle.descriptor.specs.Read.{readWhole, readStrict};
-ghost use Rattle.descriptor.specs.Answers.{methodOf, paramsAfter};
+ghost use Rattle.methods.specs.Answers.{methodOf, paramsAfter};
 ghost use Rattle.names.specs.Names.{lookUp};
 ghost use Rattle.columns.specs.Given.{given};
 ghost use Rattle.questions.specs.Questions.{workAfter};

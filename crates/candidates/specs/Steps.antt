@@ -31,7 +31,7 @@ module _ (w : World) (t u : ArgType) where
 -- ---- same_register_category
 
 pub registers-references : (t u : ArgType) → (isReference t && isReference u) ≡ true → true ≡ sameRegisterCategory t u
-unfolding isReference sameRegisterCategory
+unfolding isPrimitive isReference sameRegisterCategory
 registers-references (Primitive k) u h = never (sym h)
 registers-references (Object c) (Primitive l) h = never (sym h)
 registers-references (Object c) (Object d) h = refl
@@ -61,7 +61,7 @@ module _ (t u : ArgType) (g : isPrimitive t ≡ true) (h : isPrimitive u ≡ tru
   registers-narrow e = sym (registers-primitives t u g h ∙ ap (λ (b : Bool). cond b (isWide u) (not (isWide u))) e)
 
 pub registers-left : (t u : ArgType) → isPrimitive t ≡ true → isPrimitive u ≡ false → false ≡ sameRegisterCategory t u
-unfolding isPrimitive sameRegisterCategory
+unfolding isPrimitive isReference sameRegisterCategory
 registers-left (Primitive k) (Primitive l) g h = never h
 registers-left (Primitive k) (Object d) g h = refl
 registers-left (Primitive k) (Array u) g h = refl

@@ -2,8 +2,8 @@
 // was observed accepts it, whether it is assignable to every upper bound, and which upper bound is the most specific.
 use assignable::is_assignable;
 use assignable::unknown_accepts;
-use lattice::Numbers;
 use order::Order;
+use tables::Tables;
 use ty::MaybeType;
 use ty::TypeWord;
 ghost use mathlib.Core.Path.{_≡_};
@@ -12,6 +12,7 @@ ghost use mathlib.Core.List.{map};
 ghost use Prim.Native.Nat.{_≤_, _<_};
 ghost use lib.ListN.{length};
 ghost use mathlib.Core.Option.{some};
+ghost use Rattle.tables.specs.Table.{namesRoom, marksRoom};
 ghost use Rattle.ty.specs.Types.{isReference, concreteHint};
 ghost use Rattle.ty.specs.Words.{Legal, typeOf};
 ghost use Rattle.ty.specs.Answers.{maybeWord};
@@ -32,21 +33,21 @@ fn are_references(left: TypeWord, right: TypeWord) -> bool
 pub fn producer_bound_compatible(
     pairs: &[u64],
     marks: &[u64],
-    n: Numbers,
+    t: Tables,
     produced: TypeWord,
     expected: TypeWord,
 ) -> bool
-    requires { ⌜ (length (now marks) ≡ 64) × Legal (produced .word) × Legal (expected .word) ⌝ }
-    ensures { λ r. ⌜ r ≡ producerBoundCompatible (worldOf (now (pairs .entry)) (now (marks .entry)) n) (typeOf (produced .word)) (typeOf (expected .word)) ⌝ }
+    requires { ⌜ (length (now marks) ≡ marksRoom) × Legal (produced .word) × Legal (expected .word) ⌝ }
+    ensures { λ r. ⌜ r ≡ producerBoundCompatible (worldOf (now (pairs .entry)) (now (marks .entry)) t) (typeOf (produced .word)) (typeOf (expected .word)) ⌝ }
 {
     if are_references(produced, expected) {
         return true;
     }
-    is_assignable(pairs, marks, n, produced, expected)
+    is_assignable(pairs, marks, t, produced, expected)
 }
 
 // Whether two known types take the same kind of register: two references, or two primitives that are both wide or both not.
-pub fn same_register_category(left: TypeWord, right: TypeWord) -> bool
+fn same_register_category(left: TypeWord, right: TypeWord) -> bool
     ensures { λ r. ⌜ r ≡ sameRegisterCategory (typeOf (left .word)) (typeOf (right .word)) ⌝ }
 {
     if are_references(left, right) {
@@ -65,7 +66,7 @@ pub fn same_register_category(left: TypeWord, right: TypeWord) -> bool
 }
 
 // Whether a type that was observed accepts a candidate.
-pub fn observed_accepts(observed: TypeWord, candidate: TypeWord) -> bool
+fn observed_accepts(observed: TypeWord, candidate: TypeWord) -> bool
     requires { ⌜ Legal (observed .word) × Legal (candidate .word) ⌝ }
     ensures { λ r. ⌜ r ≡ observedAccepts (typeOf (observed .word)) (typeOf (candidate .word)) ⌝ }
 {
@@ -109,17 +110,17 @@ pub fn domain_accepts(domain: &[u64], candidate: TypeWord) -> bool
 pub fn is_assignable_to_all(
     pairs: &[u64],
     marks: &[u64],
-    n: Numbers,
+    t: Tables,
     candidate: TypeWord,
     upper: &[u64],
 ) -> bool
-    requires { ⌜ (length (now marks) ≡ 64) × Legal (candidate .word) × AllLegal (now upper) ⌝ }
-    ensures { λ r. ⌜ r ≡ assignableToAll (worldOf (now (pairs .entry)) (now (marks .entry)) n) (typeOf (candidate .word)) (map typeOf (now (upper .entry))) ⌝ }
+    requires { ⌜ (length (now marks) ≡ marksRoom) × Legal (candidate .word) × AllLegal (now upper) ⌝ }
+    ensures { λ r. ⌜ r ≡ assignableToAll (worldOf (now (pairs .entry)) (now (marks .entry)) t) (typeOf (candidate .word)) (map typeOf (now (upper .entry))) ⌝ }
 {
     let mut i: usize = 0;
     while i < upper.len() {
         let other = TypeWord { word: upper[i] };
-        if is_assignable(pairs, marks, n, candidate, other) {
+        if is_assignable(pairs, marks, t, candidate, other) {
             i += 1;
         } else {
             return false;
@@ -155,15 +156,15 @@ fn lesser(t: TypeWord, best: MaybeType) -> MaybeType
 fn with_hint(
     pairs: &[u64],
     marks: &[u64],
-    n: Numbers,
+    t: Tables,
     upper: &[u64],
     hint: TypeWord,
     best: MaybeType,
 ) -> MaybeType
-    requires { ⌜ (length (now marks) ≡ 64) × AllLegal (now upper) × Legal (hint .word) × LegalMaybe best ⌝ }
-    ensures { λ r. ⌜ LegalMaybe r × (maybeType r ≡ candidate (worldOf (now (pairs .entry)) (now (marks .entry)) n) (map typeOf (now (upper .entry))) (some (typeOf (hint .word))) (maybeType best)) ⌝ }
+    requires { ⌜ (length (now marks) ≡ marksRoom) × AllLegal (now upper) × Legal (hint .word) × LegalMaybe best ⌝ }
+    ensures { λ r. ⌜ LegalMaybe r × (maybeType r ≡ candidate (worldOf (now (pairs .entry)) (now (marks .entry)) t) (map typeOf (now (upper .entry))) (some (typeOf (hint .word))) (maybeType best)) ⌝ }
 {
-    if is_assignable_to_all(pairs, marks, n, hint, upper) {
+    if is_assignable_to_all(pairs, marks, t, hint, upper) {
         return lesser(hint, best);
     }
     best
@@ -173,32 +174,32 @@ fn with_hint(
 fn with_bound(
     pairs: &[u64],
     marks: &[u64],
-    n: Numbers,
+    t: Tables,
     upper: &[u64],
     bound: TypeWord,
     best: MaybeType,
 ) -> MaybeType
-    requires { ⌜ (length (now marks) ≡ 64) × (n .classes .object < 1024) × AllLegal (now upper) × Legal (bound .word) × LegalMaybe best ⌝ }
-    ensures { λ r. ⌜ LegalMaybe r × (maybeType r ≡ candidate (worldOf (now (pairs .entry)) (now (marks .entry)) n) (map typeOf (now (upper .entry))) (concreteHint (n .classes .object) (typeOf (bound .word))) (maybeType best)) ⌝ }
+    requires { ⌜ (length (now marks) ≡ marksRoom) × (t .object < namesRoom) × AllLegal (now upper) × Legal (bound .word) × LegalMaybe best ⌝ }
+    ensures { λ r. ⌜ LegalMaybe r × (maybeType r ≡ candidate (worldOf (now (pairs .entry)) (now (marks .entry)) t) (map typeOf (now (upper .entry))) (concreteHint (t .object) (typeOf (bound .word))) (maybeType best)) ⌝ }
 {
-    let object = n.classes.object;
+    let object = t.object;
     match bound.concrete_hint(object) {
-        MaybeType::Is(hint) => with_hint(pairs, marks, n, upper, hint, best),
+        MaybeType::Is(hint) => with_hint(pairs, marks, t, upper, hint, best),
         MaybeType::Nothing => best,
     }
 }
 
 // The least hint of an upper bound that is assignable to all of them, from the last bound to the first.
-pub fn most_specific_upper(pairs: &[u64], marks: &[u64], n: Numbers, upper: &[u64]) -> MaybeType
-    requires { ⌜ (length (now marks) ≡ 64) × (n .classes .object < 1024) × AllLegal (now upper) ⌝ }
-    ensures { λ r. ⌜ r ≡ maybeWord (mostSpecificUpper (worldOf (now (pairs .entry)) (now (marks .entry)) n) (map typeOf (now (upper .entry)))) ⌝ }
+pub fn most_specific_upper(pairs: &[u64], marks: &[u64], t: Tables, upper: &[u64]) -> MaybeType
+    requires { ⌜ (length (now marks) ≡ marksRoom) × (t .object < namesRoom) × AllLegal (now upper) ⌝ }
+    ensures { λ r. ⌜ r ≡ maybeWord (mostSpecificUpper (worldOf (now (pairs .entry)) (now (marks .entry)) t) (map typeOf (now (upper .entry)))) ⌝ }
 {
     let mut best = MaybeType::Nothing;
     let mut i = upper.len();
     while 0 < i {
         i -= 1;
         let bound = TypeWord { word: upper[i] };
-        best = with_bound(pairs, marks, n, upper, bound, best);
+        best = with_bound(pairs, marks, t, upper, bound, best);
     }
     best
 }

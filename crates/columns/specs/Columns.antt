@@ -5,7 +5,7 @@ use Prim.Native.Nat.{ℕ, _-_}
 use lib.Dec.{eqb, leb}
 use lib.ListN.{length, take, drop}
 use Rattle.names.specs.Names.{nameOf}
-use Rattle.rows.specs.declared.Tables.{Tables}
+use Rattle.tables.specs.declared.Tables.{Tables}
 use Rattle.rows.specs.declared.Outcome.{Outcome}
 use Rattle.rows.specs.Rows.{nameRow, State, Ran, recordRan}
 

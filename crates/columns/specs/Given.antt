@@ -4,6 +4,7 @@ use mathlib.Core.List.{List, []}
 use Prim.Native.Nat.{ℕ}
 use lib.Dec.{eqb}
 use lib.ListN.{length, replicate}
+use Rattle.tables.specs.Table.{marksRoom}
 use Rattle.rows.specs.Rows.{noTables, Ran}
 use Rattle.columns.specs.Columns.{nameRows, tableOf}
 
@@ -39,7 +40,7 @@ even g = evenLengths (length (g .«name_at»)) (length (g .«name_len»)) (lengt
 
 -- no class is marked
 abbrev pub noMarks : List ℕ
-noMarks = replicate 64 0
+noMarks = replicate marksRoom 0
 
 -- what the rows come to: the names, then the records, until one is refused
 unfoldable pub table : Given → Ran

@@ -11,7 +11,7 @@ use borrow.Author.Tests.{eq-eqb, eqb-true}
 use Rattle.order.specs.Truth.{both}
 use Rattle.order.specs.Compare.{compareLists, isEqual}
 use Rattle.names.specs.Names.{checkName}
-use Rattle.rows.specs.declared.Tables.{Tables}
+use Rattle.tables.specs.declared.Tables.{Tables}
 use Rattle.rows.specs.declared.Outcome.{Outcome}
 use Rattle.rows.specs.Rows.{objectName, noTables, noted, withName, nameRow, State, recordRefusal, withRecord, recordRow, Ran}
 use Rattle.rows.specs.Laws.{Sound}

@@ -11,7 +11,8 @@ use lib.Seq.{drop-cons}
 use borrow.Author.Tests.{ne-eqb, leb-true}
 use Rattle.order.specs.Truth.{both}
 use Rattle.names.specs.Names.{nameOf, checkName}
-use Rattle.rows.specs.declared.Tables.{Tables}
+use Rattle.tables.specs.declared.Tables.{Tables}
+use Rattle.tables.specs.Table.{pairsRoom, marksRoom}
 use Rattle.rows.specs.declared.Outcome.{Outcome}
 use Rattle.rows.specs.Rows.{noTables, withName, nameRow, State, stateOf, recordRefusal, withRecord, recordRow, Ran, recordRan, filled, Fills}
 use Rattle.rows.specs.Keys.{all-longer, filled-same, filled-again, length-filled}
@@ -96,13 +97,13 @@ names-pairs bytes ats lens last t =
     names-keep (λ (u : Tables). u .pairs ≡ t .pairs) (λ l n u e. name-pairs l n u ∙ e) bytes ats lens last t refl
 
 -- THE NAMES LEAVE A GOOD STATE
-pub names-good : (bytes ats lens marks : List ℕ) → length marks ≡ 64 → Sound (record { tables = nameRows bytes ats lens [] noTables .tables; keys = []; marks = marks })
+pub names-good : (bytes ats lens marks : List ℕ) → length marks ≡ marksRoom → Sound (record { tables = nameRows bytes ats lens [] noTables .tables; keys = []; marks = marks })
 names-good bytes ats lens marks w =
     names-keep (λ (t : Tables). Sound (record { tables = t; keys = []; marks = marks }))
     (λ l n t g. good-name l n (record { tables = t; keys = []; marks = marks }) g) bytes ats lens [] noTables (good-start marks w)
 
 -- whatever stands in the slice of pairs
-pub names-leave : (bytes ats lens pairs marks : List ℕ) → length marks ≡ 64 → Sound (stateOf pairs marks (nameRows bytes ats lens [] noTables .tables))
+pub names-leave : (bytes ats lens pairs marks : List ℕ) → length marks ≡ marksRoom → Sound (stateOf pairs marks (nameRows bytes ats lens [] noTables .tables))
 unfolding noTables
 names-leave bytes ats lens pairs marks w = rw (names-pairs bytes ats lens [] noTables) (names-good bytes ats lens marks w)
 
@@ -178,7 +179,7 @@ records-good parents (f ∷ fs) (c ∷ cs) (a ∷ ats) (l ∷ ls) s g =
     go false one all = one
 
 -- EVERY TABLE IS GOOD, refused or not: its keys are sorted and at most 4,096, of classes that it names
-pub table-good : (bytes ats lens parents fs cs starts sizes marks : List ℕ) → length marks ≡ 64
+pub table-good : (bytes ats lens parents fs cs starts sizes marks : List ℕ) → length marks ≡ marksRoom
     → Sound (tableOf (nameRows bytes ats lens [] noTables) parents fs cs starts sizes marks .state)
 unfolding tableOf
 table-good bytes ats lens parents fs cs starts sizes marks w =
@@ -215,7 +216,7 @@ pub record Turned (after : Ran) (pairs₀ pairs pairs′ marks′ : List ℕ) (r
   pub fills : Fills after pairs₀ pairs′ marks′ r
 
 pub turned : (parents : List ℕ) (flags class at len : ℕ) (pairs₀ pairs marks : List ℕ) (t : Tables) (pairs′ marks′ : List ℕ) (r : Outcome)
-    → Sound (stateOf pairs marks t) → length pairs ≡ 4096 → pairs ≡ filled (take (t .pairs) pairs) pairs₀
+    → Sound (stateOf pairs marks t) → length pairs ≡ pairsRoom → pairs ≡ filled (take (t .pairs) pairs) pairs₀
     → Fills (placedRecord parents flags class at len (stateOf pairs marks t)) pairs pairs′ marks′ r
     → Turned (placedRecord parents flags class at len (stateOf pairs marks t)) pairs₀ pairs pairs′ marks′ r
 turned parents flags class at len pairs₀ pairs marks t pairs′ marks′ r g l e f =

@@ -12,7 +12,7 @@ use borrow.Author.Tests.{eq-eqb, ne-eqb, lt-ltb, le-leb, leb-true, leb-false, eq
 use Rattle.checks.specs.Checks.{firstRefusal, orElse, else-none, else-some}
 use Rattle.names.specs.Names.{placeGood, nameOf, nameAt, nameChecks, checkName, checkRow, checkRows, checkNames}
 use Rattle.names.specs.Table.{Inside, place-inside, row-misplaced, row-placed, Checked, checked, number-of-name}
-use Rattle.rows.specs.declared.Tables.{Tables}
+use Rattle.tables.specs.declared.Tables.{Tables}
 use Rattle.rows.specs.declared.Outcome.{Outcome}
 use Rattle.rows.specs.Rows.{objectName, cloneableName, serializableName, noTables, noted, withName, nameRow}
 use Rattle.rows.specs.Laws.{noted-wanted, noted-other, name-taken}

@@ -16,8 +16,8 @@ use Rattle.descriptor.specs.declared.Base.the-variants.{Simple, Class}
 use Rattle.descriptor.specs.declared.Read.{Read}
 use Rattle.descriptor.specs.declared.Read.the-variants.{Found, Refused}
 use Rattle.descriptor.specs.Read.{pickR, readWhole, readStrict}
-use Rattle.descriptor.specs.Method.{Method, Whole, Broken, pickM, readMethod, strictMethod, readMethodStrict}
-use Rattle.descriptor.specs.Answers.{foundMethod, refusedMethod, methodAnswer, paramsAfter, methodOf}
+use Rattle.methods.specs.Method.{Method, Whole, Broken, pickM, readMethod, strictMethod, readMethodStrict}
+use Rattle.methods.specs.Answers.{foundMethod, refusedMethod, methodAnswer, paramsAfter, methodOf}
 use Rattle.jvms.specs.Jvms.{JavaType, dimensions, AnyName, ClassName, ReturnDescriptor, Parameter, Signature, MethodDescriptor}
 use Rattle.jvms.specs.Meaning.{typeAt, typeRead, Limits, placed, starts, ends, answer}
 use Rattle.jvms.specs.Derive.{method-strict}

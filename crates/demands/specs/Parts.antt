@@ -12,7 +12,7 @@ use contract.Lifetimes.{Lfts}
 use Rattle.names.specs.Names.{checkNames}
 use Rattle.writer.specs.Print.{printWord, printMethodWords, typeRefusal, methodRefusal, answer, output}
 use Rattle.writer.specs.Print as print
-use Rattle.writer.specs.Lent.{ascending, picked, renumbered, Lent, AllLent, type-lent, method-lent}
+use Rattle.roundtrips.specs.Lent.{ascending, picked, renumbered, Lent, AllLent, type-lent, method-lent}
 use Rattle.bracepuffin.proofs.bp_write_type.Reads as bp-write-type-reads
 use Rattle.bracepuffin.proofs.bp_write_type.Kinds as bp-write-type-kinds
 use Rattle.bracepuffin.proofs.bp_write_method.Reads as bp-write-method-reads

@@ -5,6 +5,7 @@ use mathlib.Core.List.{List, [], _∷_}
 use Prim.Native.Nat.{ℕ, suc, _+_, _-_}
 use lib.Dec.{eqb, leb, ltb}
 use lib.ListN.{length, take, drop, getD}
+use Rattle.text.specs.Text.{byte}
 use Rattle.utf8.specs.Utf8.{validPrefix}
 use Rattle.descriptor.specs.declared.Base.the-variants.{Simple, Class}
 use Rattle.descriptor.specs.declared.Read.{Read}
@@ -19,8 +20,9 @@ pickR false a b = b
 -- what a byte begins: the category of its letter, 9 for 'L', 10 for '[', 11 for any other byte
 unfoldable pub letterOf : ℕ → ℕ
 letterOf b =
-    pickN (eqb b 86) 0 (pickN (eqb b 90) 1 (pickN (eqb b 66) 2 (pickN (eqb b 83) 3 (pickN (eqb b 67) 4 (pickN (eqb b 73) 5
-    (pickN (eqb b 74) 6 (pickN (eqb b 70) 7 (pickN (eqb b 68) 8 (pickN (eqb b 76) 9 (pickN (eqb b 91) 10 11))))))))))
+    pickN (eqb b (byte "V")) 0 (pickN (eqb b (byte "Z")) 1 (pickN (eqb b (byte "B")) 2 (pickN (eqb b (byte "S")) 3 (pickN (eqb b (byte "C")) 4
+    (pickN (eqb b (byte "I")) 5 (pickN (eqb b (byte "J")) 6 (pickN (eqb b (byte "F")) 7 (pickN (eqb b (byte "D")) 8
+    (pickN (eqb b (byte "L")) 9 (pickN (eqb b (byte "[")) 10 11))))))))))
   where
     pickN : Bool → ℕ → ℕ → ℕ
     pickN true a b = a
@@ -44,7 +46,7 @@ nameRead bs at dims n v =
     (pickR (eqb n 0) (Refused 14 at 0) (pickR (ltb v n) (Refused 12 (at + 1 + v) (getD bs v 0)) (Found dims (Class (at + 1) n) (at + 1 + n + 1))))
 
 unfoldable pub readName : List ℕ → ℕ → ℕ → Read
-readName bs at dims = nameRead bs at dims (indexOf 59 bs) (validPrefix (take (indexOf 59 bs) bs))
+readName bs at dims = nameRead bs at dims (indexOf (byte ";") bs) (validPrefix (take (indexOf (byte ";") bs) bs))
 
 -- ---- a type
 
@@ -75,7 +77,7 @@ readWhole s = finish s (readType s 0 true 0)
 -- whether a name is made of parts that are not empty, with a '/' between them, and has no '.' and no '['
 unfoldable pub partsFrom : Bool → List ℕ → Bool
 partsFrom begun [] = begun
-partsFrom begun (b ∷ bs) = part (eqb b 47) (not (eqb b 46) && not (eqb b 91)) (partsFrom false bs) (partsFrom true bs)
+partsFrom begun (b ∷ bs) = part (eqb b (byte "/")) (not (eqb b (byte ".")) && not (eqb b (byte "["))) (partsFrom false bs) (partsFrom true bs)
   where
     part : Bool → Bool → Bool → Bool → Bool
     part true plain next rest = begun && next

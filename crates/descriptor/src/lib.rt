@@ -1,16 +1,35 @@
-// Type and method descriptors of ty.rs: read from bytes, ordinary and strict.
+// Type descriptors of ty.rs, read from bytes.
 ghost use mathlib.Core.Path.{_≡_};
 ghost use mathlib.Core.Bool.{true};
-ghost use Prim.Native.Nat.{_+_, _-_, _≤_, _<_};
-ghost use lib.Dec.{eqb, ltb};
-ghost use lib.ListN.{length, take, drop, set};
+ghost use Prim.Native.Nat.{_+_, _≤_, _<_};
+ghost use lib.Dec.{ltb};
+ghost use lib.ListN.{length, drop};
+ghost use Rattle.text.specs.Text.{byte};
 ghost use Rattle.descriptor.specs.declared.Read.the-variants.{Refused};
-ghost use Rattle.descriptor.specs.Read.{letterOf, indexOf, readName, readType, finish, readWhole, strictName, strictly, readStrict};
+ghost use Rattle.descriptor.specs.Read.{letterOf, indexOf, readName, readType, finish, readWhole};
 ghost use Rattle.descriptor.specs.Core.{coreOf, unCore, flatOf, endedOf, Sound};
-ghost use Rattle.descriptor.specs.Answers.{answerOf, refusedMethod, methodOf, methodAnswer, paramsAfter};
-ghost use Rattle.descriptor.specs.Steps.{stopsAt, Placed, refusedAt, firstBad, closing};
-ghost use Rattle.descriptor.specs.Params.{ending, methodFrom};
-ghost use Rattle.descriptor.specs.Filled.{pickL, answerFrom, Left};
+
+// Refusals: the errors of ty.rs in source order, and the limit of dimensions.
+const UNEXPECTED_END: u64 = 11;
+
+const UNEXPECTED_BYTE: u64 = 12;
+
+const VOID_NOT_ALLOWED: u64 = 13;
+
+const EMPTY_OBJECT: u64 = 14;
+
+const TRAILING_INPUT: u64 = 15;
+
+const TOO_DEEP: u64 = 18;
+
+// A core that is no refusal: FOUND, and DIMENSION for each bracket, and the category (CLASS for a class).
+const FOUND: u64 = 256;
+
+const DIMENSION: u64 = 1024;
+
+const CLASS: u64 = 9;
+
+const FOUND_CLASS: u64 = FOUND + CLASS;
 
 // What a type is made of below its dimensions: a category, or a class by the place of its name (first byte, length).
 pub enum Base {
@@ -24,22 +43,11 @@ pub enum Read {
     Refused { code: u64, at: usize, byte: u64 },
 }
 
-// The same in two words, cheaper to hand back at each bracket: a refusal's code and offset; or 256, 1024 for each dimension
-// and the category (9 for a class), and the offset after the type. The rest of a Read follows from the bytes.
+// The same in two words, cheaper to hand back at each bracket: a refusal's code and offset; or the type without its name, and the
+// offset after it. The rest of a Read follows from the bytes.
 struct Core {
     pub what: u64,
     pub at: usize,
-}
-
-// A method's number of parameters, the offset of its return type, and that type; or a refusal, with zeros in the other fields.
-pub struct MethodRead {
-    pub refusal: u64,
-    pub offset: usize,
-    pub byte: u64,
-    pub count: u64,
-    pub return_at: usize,
-    pub dims: u64,
-    pub base: Base,
 }
 
 fn wide(b: u8) -> u64
@@ -83,7 +91,7 @@ fn letter(b: u8) -> u64
 // Whether a ';' stands among the eight bytes from i on. None ends the loop early, so that the machine tests them at once.
 fn ends_in_block(s: &[u8], i: usize) -> bool
     requires { ⌜ i + 8 ≤ length (now s) ⌝ }
-    ensures { λ r. ⌜ r ≡ ltb (indexOf 59 (drop i (now (s .entry)))) 8 ⌝ }
+    ensures { λ r. ⌜ r ≡ ltb (indexOf (byte ";") (drop i (now (s .entry)))) 8 ⌝ }
 {
     let mut found = false;
     let mut k = 0;
@@ -100,7 +108,7 @@ fn ends_in_block(s: &[u8], i: usize) -> bool
 fn skip_blocks(s: &[u8], from: usize) -> usize
     requires { ⌜ from ≤ length (now s) ⌝ }
     ensures { λ r. ⌜ (r ≤ length (now (s .entry)))
-        × (from + indexOf 59 (drop from (now (s .entry))) ≡ r + indexOf 59 (drop r (now (s .entry)))) ⌝ }
+        × (from + indexOf (byte ";") (drop from (now (s .entry))) ≡ r + indexOf (byte ";") (drop r (now (s .entry)))) ⌝ }
 {
     let mut i = from;
     while 8 <= s.len() - i {
@@ -115,7 +123,7 @@ fn skip_blocks(s: &[u8], from: usize) -> usize
 // Where the first ';' stands at or after `from`; the length where there is none.
 fn find_end(s: &[u8], from: usize) -> usize
     requires { ⌜ from ≤ length (now s) ⌝ }
-    ensures { λ r. ⌜ r ≡ from + indexOf 59 (drop from (now (s .entry))) ⌝ }
+    ensures { λ r. ⌜ r ≡ from + indexOf (byte ";") (drop from (now (s .entry))) ⌝ }
 {
     let mut i = skip_blocks(s, from);
     while i < s.len() {
@@ -135,19 +143,25 @@ fn name_core(s: &[u8], at: usize, dims: u64) -> Core
     let from = at + 1;
     let end = find_end(s, from);
     if end == s.len() {
-        Core { what: 11, at: end }
+        Core {
+            what: UNEXPECTED_END,
+            at: end,
+        }
     } else if end == from {
-        Core { what: 14, at: at }
+        Core {
+            what: EMPTY_OBJECT,
+            at: at,
+        }
     } else {
         let valid = utf8::valid_up_to(&s[0..], from, end);
         if valid < end {
             Core {
-                what: 12,
+                what: UNEXPECTED_BYTE,
                 at: valid,
             }
         } else {
             Core {
-                what: 265 + 1024 * dims,
+                what: FOUND_CLASS + DIMENSION * dims,
                 at: end + 1,
             }
         }
@@ -162,19 +176,25 @@ fn flat_core(k: u64, at: usize, void: bool, dims: u64) -> Core
     if k == 0 {
         if void {
             Core {
-                what: 256 + 1024 * dims,
+                what: FOUND + DIMENSION * dims,
                 at: at + 1,
             }
         } else {
-            Core { what: 13, at: at }
+            Core {
+                what: VOID_NOT_ALLOWED,
+                at: at,
+            }
         }
-    } else if k < 9 {
+    } else if k < CLASS {
         Core {
-            what: 256 + k + 1024 * dims,
+            what: FOUND + k + DIMENSION * dims,
             at: at + 1,
         }
     } else {
-        Core { what: 12, at: at }
+        Core {
+            what: UNEXPECTED_BYTE,
+            at: at,
+        }
     }
 }
 
@@ -185,14 +205,20 @@ fn read_core(s: &[u8], at: usize, void: bool, dims: u64) -> Core
     ensures { λ r. ⌜ r ≡ coreOf (readType (drop at (now (s .entry))) at void dims) ⌝ }
 {
     if s.len() <= at {
-        Core { what: 11, at: at }
+        Core {
+            what: UNEXPECTED_END,
+            at: at,
+        }
     } else {
         let k = letter(s[at]);
-        if k == 9 {
+        if k == CLASS {
             name_core(&s[0..], at, dims)
         } else if k == 10 {
             if 255 <= dims {
-                Core { what: 18, at: at }
+                Core {
+                    what: TOO_DEEP,
+                    at: at,
+                }
             } else {
                 read_core(&s[0..], at + 1, false, dims + 1)
             }
@@ -209,14 +235,14 @@ fn read_of(s: &[u8], at: usize, c: Core) -> Read
 {
     let what = c.what;
     let next = c.at;
-    if what == 12 {
-        refuse(12, next, wide(s[next]))
-    } else if what < 256 {
+    if what == UNEXPECTED_BYTE {
+        refuse(UNEXPECTED_BYTE, next, wide(s[next]))
+    } else if what < FOUND {
         refuse(what, next, 0)
     } else {
-        let found = what / 1024;
-        let k = what % 256;
-        if k < 9 {
+        let found = what / DIMENSION;
+        let k = what % FOUND;
+        if k < CLASS {
             Read::Found {
                 dims: found,
                 base: Base::Simple(k),
@@ -245,17 +271,20 @@ pub fn read_type(s: &[u8], at: usize, void: bool) -> Read
 fn ended(s: &[u8], c: Core) -> Core
     ensures { λ r. ⌜ r ≡ endedOf (length (now (s .entry))) c ⌝ }
 {
-    if c.what < 256 {
+    if c.what < FOUND {
         c
     } else if c.at == s.len() {
         c
     } else {
-        Core { what: 15, at: c.at }
+        Core {
+            what: TRAILING_INPUT,
+            at: c.at,
+        }
     }
 }
 
 // The type from `at` to the end of the bytes, Void allowed.
-fn read_last(s: &[u8], at: usize) -> Read
+pub fn read_last(s: &[u8], at: usize) -> Read
     ensures { λ r. ⌜ r ≡ finish (now (s .entry)) (readType (drop at (now (s .entry))) at true 0) ⌝ }
 {
     let c = read_core(s, at, true, 0);
@@ -268,213 +297,4 @@ pub fn read_whole(s: &[u8]) -> Read
     ensures { λ r. ⌜ r ≡ readWhole (now (s .entry)) ⌝ }
 {
     read_last(s, 0)
-}
-
-// ---- strict reading
-
-// Whether no strict name goes on with b, after a part that has or has not begun.
-fn stops(begun: bool, b: u8) -> bool
-    ensures { λ r. ⌜ r ≡ stopsAt begun b ⌝ }
-{
-    match b {
-        b'/' => !begun,
-        b'.' => true,
-        b'[' => true,
-        _ => false,
-    }
-}
-
-// Whether the name s[from..to] is made of parts that are not empty, with a slash between them, and has no dot and no bracket.
-fn is_strict(s: &[u8], from: usize, to: usize) -> bool
-    requires { ⌜ (from ≤ to) × (to ≤ length (now s)) ⌝ }
-    ensures { λ r. ⌜ r ≡ strictName (take (to - from) (drop from (now (s .entry)))) ⌝ }
-{
-    let mut begun = false;
-    let mut i = from;
-    while i < to {
-        let b = s[i];
-        if stops(begun, b) {
-            return false;
-        }
-        begun = b != b'/';
-        i += 1;
-    }
-    begun
-}
-
-// The type t, or 24 where it is a class whose name is not strict.
-fn judged(s: &[u8], t: Read) -> Read
-    requires { ⌜ Placed (length (now s)) t ⌝ }
-    ensures { λ r. ⌜ r ≡ strictly (now (s .entry)) t ⌝ }
-{
-    match t {
-        Read::Found { base, .. } => match base {
-            Base::Simple(k) => t,
-            Base::Class(at, n) => {
-                if is_strict(s, at, at + n) {
-                    return t;
-                }
-                refuse(24, at - 1, 0)
-            }
-        },
-        Read::Refused { code, at, byte } => t,
-    }
-}
-
-// The same where each class name is strict; refused 24 where it is not.
-pub fn read_strict(s: &[u8]) -> Read
-    ensures { λ r. ⌜ r ≡ readStrict (now (s .entry)) ⌝ }
-{
-    let t = read_whole(s);
-    judged(s, t)
-}
-
-// ---- a method
-
-fn refused(code: u64, at: usize, byte: u64) -> MethodRead
-    ensures { λ r. ⌜ r ≡ refusedMethod code at byte ⌝ }
-{
-    MethodRead {
-        refusal: code,
-        offset: at,
-        byte: byte,
-        count: 0,
-        return_at: 0,
-        dims: 0,
-        base: Base::Simple(0),
-    }
-}
-
-// The answer for `count` parameters and the type t at `at`.
-fn answer(count: usize, at: usize, t: Read) -> MethodRead
-    ensures { λ r. ⌜ r ≡ answerOf count at t ⌝ }
-{
-    match t {
-        Read::Found { dims, base, .. } => MethodRead {
-            refusal: 0,
-            offset: 0,
-            byte: 0,
-            count: count as u64,
-            return_at: at,
-            dims: dims,
-            base: base,
-        },
-        Read::Refused { code, at, byte } => refused(code, at, byte),
-    }
-}
-
-// Where a refusal is; 0 for a type.
-fn refused_at(t: Read) -> usize
-    ensures { λ r. ⌜ r ≡ refusedAt t ⌝ }
-{
-    match t {
-        Read::Found { .. } => 0,
-        Read::Refused { at, .. } => at,
-    }
-}
-
-// The 'L' of the first name that is not strict, 0 for none: `bad` before the type t, which may have one too. An ordinary reader keeps none.
-fn first_bad(s: &[u8], strict: bool, bad: usize, t: Read) -> usize
-    requires { ⌜ Placed (length (now s)) t ⌝ }
-    ensures { λ r. ⌜ r ≡ firstBad (now (s .entry)) strict bad t ⌝ }
-{
-    if !strict {
-        return bad;
-    }
-    if bad == 0 {
-        let j = judged(s, t);
-        return refused_at(j);
-    }
-    bad
-}
-
-// The return type t, judged after the parameters.
-fn closed(s: &[u8], strict: bool, bad: usize, t: Read) -> Read
-    requires { ⌜ Placed (length (now s)) t ⌝ }
-    ensures { λ r. ⌜ r ≡ closing (now (s .entry)) strict bad t ⌝ }
-{
-    if !strict {
-        return t;
-    }
-    match t {
-        Read::Found { dims, base, next } => {
-            if bad == 0 {
-                return judged(s, t);
-            }
-            refuse(24, bad, 0)
-        }
-        Read::Refused { code, at, byte } => t,
-    }
-}
-
-// What follows the ')' at `close`, after `count` parameters.
-fn read_return(s: &[u8], close: usize, count: usize, strict: bool, bad: usize) -> MethodRead
-    requires { ⌜ close < length (now s) ⌝ }
-    ensures { λ r. ⌜ r ≡ answerFrom count (ending (now (s .entry)) strict bad close) ⌝ }
-{
-    let at = close + 1;
-    let f = read_last(s, at);
-    let g = closed(s, strict, bad, f);
-    answer(count, at, g)
-}
-
-// Writes a parameter's offset, unless what follows it was refused.
-fn note(params: &mut [u64], i: usize, at: usize, refusal: u64)
-    requires { ⌜ i < length (now params) ⌝ }
-    ensures { λ r. ⌜ now (params .exit) ≡ pickL (eqb refusal 0) (set (now (params .entry)) i at) (now (params .entry)) ⌝ }
-{
-    if refusal == 0 {
-        params[i] = at as u64;
-    }
-}
-
-// The parameters from the offset `at` on, after `count` of them, and the return type. Offsets are written on the way back, so none
-// is written where anything is refused.
-fn read_params(
-    s: &[u8],
-    params: &mut [u64],
-    at: usize,
-    count: usize,
-    strict: bool,
-    bad: usize,
-) -> MethodRead
-    requires { ⌜ (255 ≤ length (now params)) × (count ≤ 255) × (1 ≤ at) ⌝ }
-    ensures { λ r. ⌜ Left count (now (params .entry)) (methodFrom (now (s .entry)) strict bad at count) r (now (params .exit)) ⌝ }
-{
-    if s.len() <= at {
-        return refused(17, at, 0);
-    }
-    if s[at] == b')' {
-        return read_return(s, at, count, strict, bad);
-    }
-    if 255 <= count {
-        return refused(19, at, 0);
-    }
-    let t = read_type(s, at, false);
-    match t {
-        Read::Found { next, .. } => {
-            let worse = first_bad(s, strict, bad, t);
-            let r = read_params(&s[0..], params, next, count + 1, strict, worse);
-            note(params, count, at, r.refusal);
-            r
-        }
-        Read::Refused { code, at, byte } => refused(code, at, byte),
-    }
-}
-
-// MethodDescriptor::from_str, the parameters' offsets into `params`.
-pub fn read_method(s: &[u8], params: &mut [u64], strict: bool) -> MethodRead
-    ensures { λ r. ⌜ (r ≡ methodAnswer (methodOf strict (now (s .entry)) (length (now (params .entry)))))
-        × (now (params .exit) ≡ paramsAfter (now (params .entry)) (methodOf strict (now (s .entry)) (length (now (params .entry))))) ⌝ }
-{
-    if params.len() < 255 {
-        return refused(22, 0, 0);
-    }
-    if s.len() == 0 {
-        return refused(16, 0, 0);
-    }
-    if s[0] == b'(' {
-        return read_params(&s[0..], params, 1, 0, strict, 0);
-    }
-    refused(16, 0, 0)
 }

@@ -10,12 +10,12 @@ use lib.ListN.{length}
 use Rattle.sets.specs.Sets.{at, member, subtract, members, first}
 use Rattle.sets.specs.Bits.{first-le}
 use Rattle.sets.specs.Laws.{member-subtract, members-only, members-all, length-subtract, lowest-none, lowest-member}
-use Rattle.hierarchy.specs.declared.Classes.{Classes}
+use Rattle.tables.specs.declared.Tables.{Tables}
 use Rattle.view.specs.declared.Relation.the-variants.{Yes, No, Unknown}
 use Rattle.view.specs.View.{View, reached, reach, ancestor, allRecorded, complete, relation, castByFacts, cast}
 use Rattle.view.specs.Reach.{level-formed}
-use Rattle.hierarchy.specs.Table.{mark, mark-length, viewOf, parentView, castMarked}
-use Rattle.hierarchy.specs.Marks.{reached-marks, reach-marks, ancestor-marks}
+use Rattle.tables.specs.Table.{marksRoom, mark, mark-length, viewOf}
+use Rattle.hierarchy.specs.Walked.{castMarked}
 
 reached-length : (v : View) (x : ℕ) → length (reached v x) ≡ 16
 unfolding reached
@@ -73,7 +73,7 @@ module _ (v : View) where
 
 -- ---- relation
 
-module _ (pairs marks : List ℕ) (t : Classes) (value expected : ℕ) where
+module _ (pairs marks : List ℕ) (t : Tables) (value expected : ℕ) where
   pub relation-equal : value ≡ expected → Yes ≡ relation (viewOf pairs marks t) value expected
   unfolding relation ancestor
   relation-equal e = simp (eq-eqb value expected e)
@@ -84,22 +84,20 @@ module _ (pairs marks : List ℕ) (t : Classes) (value expected : ℕ) where
     relation-object e = simp (ne-eqb value expected n, eq-eqb expected (t .object) e)
 
     module _ (o : expected ≡ t .object → ⊥) where
-      pub relation-reached : reach (parentView pairs t) value expected ≡ true → Yes ≡ relation (viewOf pairs marks t) value expected
+      pub relation-reached : reach (viewOf pairs marks t) value expected ≡ true → Yes ≡ relation (viewOf pairs marks t) value expected
       unfolding relation ancestor
-      relation-reached r = simp (ne-eqb value expected n, ne-eqb expected (t .object) o, reach-marks pairs marks t value expected, r)
+      relation-reached r = simp (ne-eqb value expected n, ne-eqb expected (t .object) o, r)
 
-      module _ (l : length marks ≡ 64) (r : reach (parentView pairs t) value expected ≡ false) (missing : List ℕ)
-          (e : missing ≡ subtract (reached (parentView pairs t) value) (mark marks 0)) where
+      module _ (l : length marks ≡ marksRoom) (r : reach (viewOf pairs marks t) value expected ≡ false) (missing : List ℕ)
+          (e : missing ≡ subtract (reached (viewOf pairs marks t) value) (mark marks 0)) where
         pub relation-no : first (at missing) 1024 ≡ 1024 → No ≡ relation (viewOf pairs marks t) value expected
         unfolding relation ancestor complete
         relation-no f =
             simp (
               ne-eqb value expected n,
               ne-eqb expected (t .object) o,
-              reach-marks pairs marks t value expected,
               r,
-              reached-marks pairs marks t value,
-              recorded-all (viewOf pairs marks t) (reached (parentView pairs t) value) (mark marks 0) (reached-length (parentView pairs t) value) (mark-length marks 0 l (omega arith)) (λ c. refl)
+              recorded-all (viewOf pairs marks t) (reached (viewOf pairs marks t) value) (mark marks 0) (reached-length (viewOf pairs marks t) value) (mark-length marks 0 l (omega arith)) (λ c. refl)
                   (ap (λ (s : List ℕ). first (at s) 1024) (sym e) ∙ f),
             )
 
@@ -109,10 +107,8 @@ module _ (pairs marks : List ℕ) (t : Classes) (value expected : ℕ) where
             simp (
               ne-eqb value expected n,
               ne-eqb expected (t .object) o,
-              reach-marks pairs marks t value expected,
               r,
-              reached-marks pairs marks t value,
-              recorded-not-all (viewOf pairs marks t) (reached (parentView pairs t) value) (mark marks 0) (reached-length (parentView pairs t) value) (mark-length marks 0 l (omega arith)) (λ c. refl)
+              recorded-not-all (viewOf pairs marks t) (reached (viewOf pairs marks t) value) (mark marks 0) (reached-length (viewOf pairs marks t) value) (mark-length marks 0 l (omega arith)) (λ c. refl)
                   (λ g. f (ap (λ (s : List ℕ). first (at s) 1024) e ∙ g)),
             )
 
@@ -145,16 +141,16 @@ module _ (marks : List ℕ) (s t : ℕ) where
       unfolding castMarked castByFacts
       no-interface i j = simp (d, e, i, j)
 
-module _ (pairs marks : List ℕ) (t : Classes) (source target : ℕ) where
-  pub cast-up : ancestor (parentView pairs t) source target ≡ true → true ≡ cast (viewOf pairs marks t) source target
+module _ (pairs marks : List ℕ) (t : Tables) (source target : ℕ) where
+  pub cast-up : ancestor (viewOf pairs marks t) source target ≡ true → true ≡ cast (viewOf pairs marks t) source target
   unfolding cast
-  cast-up a = simp (ancestor-marks pairs marks t source target, a)
+  cast-up a = simp (a)
 
-  pub cast-down : ancestor (parentView pairs t) source target ≡ false → ancestor (parentView pairs t) target source ≡ true → true ≡ cast (viewOf pairs marks t) source target
+  pub cast-down : ancestor (viewOf pairs marks t) source target ≡ false → ancestor (viewOf pairs marks t) target source ≡ true → true ≡ cast (viewOf pairs marks t) source target
   unfolding cast
-  cast-down a b = simp (ancestor-marks pairs marks t source target, a, ancestor-marks pairs marks t target source, b)
+  cast-down a b = simp (a, b)
 
-  pub cast-facts : ancestor (parentView pairs t) source target ≡ false → ancestor (parentView pairs t) target source ≡ false
+  pub cast-facts : ancestor (viewOf pairs marks t) source target ≡ false → ancestor (viewOf pairs marks t) target source ≡ false
       → castMarked marks source target ≡ cast (viewOf pairs marks t) source target
   unfolding cast castMarked
-  cast-facts a b = simp (ancestor-marks pairs marks t source target, a, ancestor-marks pairs marks t target source, b)
+  cast-facts a b = simp (a, b)

@@ -15,7 +15,7 @@ use Rattle.sorted.specs.Sorted.{runOf}
 use Rattle.sorted.specs.Places.{place-le}
 use Rattle.view.specs.View.{View, insertAll, withParents}
 use Rattle.view.specs.Frontier.{members-pop, members-none}
-use Rattle.hierarchy.specs.Table.{parentsIn, between, mark}
+use Rattle.tables.specs.Table.{marksRoom, parentsIn, between, mark}
 
 -- ---- with_parents: the keys of the run, one by one
 
@@ -65,7 +65,7 @@ copied-more a words i c h = (omega arith, length-set words i (getD a i 0) ∙ c 
     go j l (yes e) = ap (λ (k : ℕ). getD (set words i (getD a i 0)) k 0) e ∙ getD-set-same words i (getD a i 0) 0 (let n = c .1 in omega arith) ∙ ap (λ (k : ℕ). getD a k 0) (sym e)
     go j l (no n) = getD-set-other words i j (getD a i 0) 0 n ∙ c .2 j (omega arith)
 
-pub copied-all : (a words : List ℕ) (i : ℕ) → Copied a words i → 16 ≤ i → length a ≡ 64 → words ≡ mark a 0
+pub copied-all : (a words : List ℕ) (i : ℕ) → Copied a words i → 16 ≤ i → length a ≡ marksRoom → words ≡ mark a 0
 unfolding mark
 copied-all a words i c h l =
     ext-getD 0 words (take 16 a) (c .1 ∙ sym (length-take-le 16 a (omega arith))) (λ j k. let n = c .1 in c .2 j (omega arith) ∙ sym (getD-take 16 a j 0 (omega arith)))

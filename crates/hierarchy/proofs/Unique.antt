@@ -18,15 +18,15 @@ use Rattle.hierarchy.proofs.reaches.Kinds as reaches-kinds
 use Rattle.hierarchy.proofs.distance_or_far.Reads as distance-or-far-reads
 use Rattle.hierarchy.proofs.distance_or_far.Kinds as distance-or-far-kinds
 
-pub reached-one : (κs : Lfts 1) (a : Dens κs reached-kinds.ps) (r₁ r₂ : resT reached-kinds.r κs .Denot) (x₁ x₂ : AtExit (endedOf 1 reached-kinds.ps reached-kinds.r) κs)
+pub reached-one : (κs : Lfts 2) (a : Dens κs reached-kinds.ps) (r₁ r₂ : resT reached-kinds.r κs .Denot) (x₁ x₂ : AtExit (endedOf 2 reached-kinds.ps reached-kinds.r) κs)
     → reached-reads.Post κs a r₁ x₁ → reached-reads.Post κs a r₂ x₂ → r₁ ≡ r₂
 reached-one κs a r₁ r₂ x₁ x₂ p q = λ i. record { words = (p ∙ sym q) i }
 
-pub ancestors-one : (κs : Lfts 1) (a : Dens κs ancestors-kinds.ps) (r₁ r₂ : resT ancestors-kinds.r κs .Denot) (x₁ x₂ : AtExit (endedOf 1 ancestors-kinds.ps ancestors-kinds.r) κs)
+pub ancestors-one : (κs : Lfts 2) (a : Dens κs ancestors-kinds.ps) (r₁ r₂ : resT ancestors-kinds.r κs .Denot) (x₁ x₂ : AtExit (endedOf 2 ancestors-kinds.ps ancestors-kinds.r) κs)
     → ancestors-reads.Post κs a r₁ x₁ → ancestors-reads.Post κs a r₂ x₂ → r₁ ≡ r₂
 ancestors-one κs a r₁ r₂ x₁ x₂ p q = λ i. record { words = (p ∙ sym q) i }
 
-pub distance-one : (κs : Lfts 1) (a : Dens κs distance-kinds.ps) (r₁ r₂ : resT distance-kinds.r κs .Denot) (x₁ x₂ : AtExit (endedOf 1 distance-kinds.ps distance-kinds.r) κs)
+pub distance-one : (κs : Lfts 2) (a : Dens κs distance-kinds.ps) (r₁ r₂ : resT distance-kinds.r κs .Denot) (x₁ x₂ : AtExit (endedOf 2 distance-kinds.ps distance-kinds.r) κs)
     → distance-reads.Post κs a r₁ x₁ → distance-reads.Post κs a r₂ x₂ → r₁ ≡ r₂
 distance-one κs a r₁ r₂ x₁ x₂ p q = p ∙ sym q
 
@@ -38,10 +38,10 @@ pub cast-one : (κs : Lfts 2) (a : Dens κs cast-kinds.ps) (r₁ r₂ : resT cas
     → cast-reads.Post κs a r₁ x₁ → cast-reads.Post κs a r₂ x₂ → r₁ ≡ r₂
 cast-one κs a r₁ r₂ x₁ x₂ p q = p ∙ sym q
 
-pub reaches-one : (κs : Lfts 1) (a : Dens κs reaches-kinds.ps) (r₁ r₂ : resT reaches-kinds.r κs .Denot) (x₁ x₂ : AtExit (endedOf 1 reaches-kinds.ps reaches-kinds.r) κs)
+pub reaches-one : (κs : Lfts 2) (a : Dens κs reaches-kinds.ps) (r₁ r₂ : resT reaches-kinds.r κs .Denot) (x₁ x₂ : AtExit (endedOf 2 reaches-kinds.ps reaches-kinds.r) κs)
     → reaches-reads.Post κs a r₁ x₁ → reaches-reads.Post κs a r₂ x₂ → r₁ ≡ r₂
 reaches-one κs a r₁ r₂ x₁ x₂ p q = p ∙ sym q
 
-pub distance-or-far-one : (κs : Lfts 1) (a : Dens κs distance-or-far-kinds.ps) (r₁ r₂ : resT distance-or-far-kinds.r κs .Denot) (x₁ x₂ : AtExit (endedOf 1 distance-or-far-kinds.ps distance-or-far-kinds.r) κs)
+pub distance-or-far-one : (κs : Lfts 2) (a : Dens κs distance-or-far-kinds.ps) (r₁ r₂ : resT distance-or-far-kinds.r κs .Denot) (x₁ x₂ : AtExit (endedOf 2 distance-or-far-kinds.ps distance-or-far-kinds.r) κs)
     → distance-or-far-reads.Post κs a r₁ x₁ → distance-or-far-reads.Post κs a r₂ x₂ → r₁ ≡ r₂
 distance-or-far-one κs a r₁ r₂ x₁ x₂ p q = p .0 ∙ sym (q .0)

@@ -18,7 +18,7 @@ use Rattle.view.specs.View.{numberOf, View, withParents, grow, level, reached, 
 use Rattle.view.specs.Grow.{Formed, member-le}
 use Rattle.view.specs.Reach.{level-formed, level-grows, level-stays}
 use Rattle.view.specs.Frontier.{Expanded, frontier, expanded-next, part-next, nothing-new}
-use Rattle.hierarchy.specs.Table.{Walked}
+use Rattle.hierarchy.specs.Walked.{Walked}
 
 -- at level k nothing but the front is left to expand, and y was in no level before
 pub record Standing (v : View) (x y : ℕ) (seen front : List ℕ) (k : ℕ) : Type 0 where

@@ -1,4 +1,2 @@
--- The view that the class tables give.
-pub mod Table
-pub mod TableExamples
-pub mod Marks
+-- What the contracts of this crate cite.
+pub mod Walked

@@ -1,22 +1,17 @@
-// Class tables and what is asked of them, from hierarchy.rs. The tables: `pairs`, of which the first `t.pairs` are sorted keys
-// class * 1024 + parent, and `marks`, four sets of sixteen words: the classes that are recorded, declared, interface, final.
+// What is asked of the class tables, from hierarchy.rs. A walk is handed the whole tables, though it reads the pairs alone.
 use sets::Set;
+use tables::NAMES;
+use tables::Tables;
 use view::Relation;
 ghost use mathlib.Core.Path.{_≡_};
 ghost use mathlib.Core.Bool.{cond};
 ghost use Prim.Native.Nat.{_≤_, _<_};
 ghost use lib.Dec.{ltb};
-ghost use lib.ListN.{length, take};
+ghost use lib.ListN.{length};
 ghost use Rattle.sets.specs.Sets.{at, member, members, insert};
 ghost use Rattle.view.specs.View.{insertAll, withParents, reached, reach, ancestors, distance, ancestor, relation, cast, far, distanceOr, numberOf};
-ghost use Rattle.hierarchy.specs.Table.{parentsOf, mark, viewOf, parentView, castMarked, Walked};
-
-// How many names there are, which of them is java/lang/Object, and how many keys the table of parents has.
-pub struct Classes {
-    pub names: u64,
-    pub object: u64,
-    pub pairs: usize,
-}
+ghost use Rattle.tables.specs.Table.{namesRoom, marksRoom, mark, viewOf};
+ghost use Rattle.hierarchy.specs.Walked.{castMarked, Walked};
 
 // The set with p, where p is a class.
 fn with_class(s: Set, names: u64, p: u64) -> Set
@@ -29,29 +24,29 @@ fn with_class(s: Set, names: u64, p: u64) -> Set
 }
 
 // The set with the parents of c.
-fn with_parents(pairs: &[u64], t: Classes, c: u64, s: Set) -> Set
-    ensures { λ r. ⌜ r .words ≡ insertAll (s .words) (parentsOf (t .names) (take (t .pairs) (now (pairs .entry))) c) ⌝ }
+fn with_parents(pairs: &[u64], marks: &[u64], t: Tables, c: u64, s: Set) -> Set
+    ensures { λ r. ⌜ r .words ≡ insertAll (s .words) (viewOf (now (pairs .entry)) (now (marks .entry)) t .parents c) ⌝ }
 {
-    let run = sorted::run(pairs, t.pairs, 1024, c);
+    let run = sorted::run(pairs, t.pairs, NAMES, c);
     let past = run.past;
     let mut i = run.first;
     let mut all = s;
     while i < past {
-        all = with_class(all, t.names, pairs[i] % 1024);
+        all = with_class(all, t.names, pairs[i] % NAMES);
         i += 1;
     }
     all
 }
 
 // The set with the parents of each class of `front`.
-fn expand(pairs: &[u64], t: Classes, s: Set, front: Set) -> Set
-    ensures { λ r. ⌜ r .words ≡ withParents (parentView (now (pairs .entry)) t) (s .words) (members (at (front .words)) 0 1024) ⌝ }
+fn expand(pairs: &[u64], marks: &[u64], t: Tables, s: Set, front: Set) -> Set
+    ensures { λ r. ⌜ r .words ≡ withParents (viewOf (now (pairs .entry)) (now (marks .entry)) t) (s .words) (members (at (front .words)) 0 1024) ⌝ }
 {
     let mut all = s;
     let mut left = front;
     let mut c = left.lowest();
     while c < 1024 {
-        all = with_parents(pairs, t, c, all);
+        all = with_parents(pairs, marks, t, c, all);
         left = left.without(c);
         c = left.lowest();
     }
@@ -66,8 +61,8 @@ struct Walk {
 }
 
 // From x, level by level, until y is found or nothing is new.
-fn walk_to(pairs: &[u64], t: Classes, x: u64, y: u64) -> Walk
-    ensures { λ r. ⌜ Walked (parentView (now (pairs .entry)) t) x y (r .found) (r .level) (r .seen .words) ⌝ }
+fn walk_to(pairs: &[u64], marks: &[u64], t: Tables, x: u64, y: u64) -> Walk
+    ensures { λ r. ⌜ Walked (viewOf (now (pairs .entry)) (now (marks .entry)) t) x y (r .found) (r .level) (r .seen .words) ⌝ }
 {
     let none = Set::empty();
     let mut seen = none.with(x);
@@ -81,7 +76,7 @@ fn walk_to(pairs: &[u64], t: Classes, x: u64, y: u64) -> Walk
                 seen: seen,
             };
         }
-        let next = expand(pairs, t, seen, front);
+        let next = expand(pairs, marks, t, seen, front);
         front = next.difference(seen);
         if front.lowest() == 1024 {
             return Walk {
@@ -102,34 +97,34 @@ fn walk_to(pairs: &[u64], t: Classes, x: u64, y: u64) -> Walk
 }
 
 // What is reached from x, x included.
-pub fn reached(pairs: &[u64], t: Classes, x: u64) -> Set
-    ensures { λ r. ⌜ r .words ≡ reached (parentView (now (pairs .entry)) t) x ⌝ }
+pub fn reached(pairs: &[u64], marks: &[u64], t: Tables, x: u64) -> Set
+    ensures { λ r. ⌜ r .words ≡ reached (viewOf (now (pairs .entry)) (now (marks .entry)) t) x ⌝ }
 {
-    let w = walk_to(pairs, t, x, 1024);
+    let w = walk_to(pairs, marks, t, x, 1024);
     w.seen
 }
 
 // Whether y is reached from x.
-pub fn reaches(pairs: &[u64], t: Classes, x: u64, y: u64) -> bool
-    ensures { λ r. ⌜ r ≡ reach (parentView (now (pairs .entry)) t) x y ⌝ }
+pub fn reaches(pairs: &[u64], marks: &[u64], t: Tables, x: u64, y: u64) -> bool
+    ensures { λ r. ⌜ r ≡ reach (viewOf (now (pairs .entry)) (now (marks .entry)) t) x y ⌝ }
 {
-    let w = walk_to(pairs, t, x, y);
+    let w = walk_to(pairs, marks, t, x, y);
     w.found
 }
 
 // The ancestors: what is reached, and Object.
-pub fn ancestors(pairs: &[u64], t: Classes, x: u64) -> Set
-    ensures { λ r. ⌜ r .words ≡ ancestors (parentView (now (pairs .entry)) t) x ⌝ }
+pub fn ancestors(pairs: &[u64], marks: &[u64], t: Tables, x: u64) -> Set
+    ensures { λ r. ⌜ r .words ≡ ancestors (viewOf (now (pairs .entry)) (now (marks .entry)) t) x ⌝ }
 {
-    let r = reached(pairs, t, x);
+    let r = reached(pairs, marks, t, x);
     r.with(t.object)
 }
 
 // The least number of steps; 4611686018427387903 for an Object that is not reached, all ones for no ancestor.
-pub fn distance(pairs: &[u64], t: Classes, value: u64, expected: u64) -> u64
-    ensures { λ r. ⌜ r ≡ numberOf (distance (parentView (now (pairs .entry)) t) value expected) ⌝ }
+pub fn distance(pairs: &[u64], marks: &[u64], t: Tables, value: u64, expected: u64) -> u64
+    ensures { λ r. ⌜ r ≡ numberOf (distance (viewOf (now (pairs .entry)) (now (marks .entry)) t) value expected) ⌝ }
 {
-    let w = walk_to(pairs, t, value, expected);
+    let w = walk_to(pairs, marks, t, value, expected);
     if w.found {
         return w.level;
     }
@@ -140,11 +135,11 @@ pub fn distance(pairs: &[u64], t: Classes, value: u64, expected: u64) -> u64
 }
 
 // The distance; far where there is none.
-pub fn distance_or_far(pairs: &[u64], t: Classes, x: u64, y: u64) -> u64
-    requires { ⌜ t .names ≤ 1024 ⌝ }
-    ensures { λ r. ⌜ (r ≡ distanceOr (distance (parentView (now (pairs .entry)) t) x y)) × (r ≤ far) ⌝ }
+pub fn distance_or_far(pairs: &[u64], marks: &[u64], t: Tables, x: u64, y: u64) -> u64
+    requires { ⌜ t .names ≤ namesRoom ⌝ }
+    ensures { λ r. ⌜ (r ≡ distanceOr (distance (viewOf (now (pairs .entry)) (now (marks .entry)) t) x y)) × (r ≤ far) ⌝ }
 {
-    let w = walk_to(pairs, t, x, y);
+    let w = walk_to(pairs, marks, t, x, y);
     if w.found {
         return w.level;
     }
@@ -152,8 +147,8 @@ pub fn distance_or_far(pairs: &[u64], t: Classes, x: u64, y: u64) -> u64
 }
 
 // Whether `expected` is an ancestor: recorded_ancestor.
-fn is_ancestor(pairs: &[u64], t: Classes, value: u64, expected: u64) -> bool
-    ensures { λ r. ⌜ r ≡ ancestor (parentView (now (pairs .entry)) t) value expected ⌝ }
+fn is_ancestor(pairs: &[u64], marks: &[u64], t: Tables, value: u64, expected: u64) -> bool
+    ensures { λ r. ⌜ r ≡ ancestor (viewOf (now (pairs .entry)) (now (marks .entry)) t) value expected ⌝ }
 {
     if value == expected {
         return true;
@@ -161,13 +156,13 @@ fn is_ancestor(pairs: &[u64], t: Classes, value: u64, expected: u64) -> bool
     if expected == t.object {
         return true;
     }
-    let up = walk_to(pairs, t, value, expected);
+    let up = walk_to(pairs, marks, t, value, expected);
     up.found
 }
 
 // Whether c is in the set k of the four.
 fn is_marked(marks: &[u64], k: u64, c: u64) -> bool
-    requires { ⌜ (length (now marks) ≡ 64) × (k < 4) ⌝ }
+    requires { ⌜ (length (now marks) ≡ marksRoom) × (k < 4) ⌝ }
     ensures { λ r. ⌜ r ≡ member (mark (now (marks .entry)) k) c ⌝ }
 {
     if c < 1024 {
@@ -180,7 +175,7 @@ fn is_marked(marks: &[u64], k: u64, c: u64) -> bool
 
 // The classes that are recorded.
 fn recorded(marks: &[u64]) -> Set
-    requires { ⌜ length (now marks) ≡ 64 ⌝ }
+    requires { ⌜ length (now marks) ≡ marksRoom ⌝ }
     ensures { λ r. ⌜ r .words ≡ mark (now (marks .entry)) 0 ⌝ }
 {
     let mut words = [0u64; 16];
@@ -194,11 +189,11 @@ fn recorded(marks: &[u64]) -> Set
 pub fn subtype_relation(
     pairs: &[u64],
     marks: &[u64],
-    t: Classes,
+    t: Tables,
     value: u64,
     expected: u64,
 ) -> Relation
-    requires { ⌜ length (now marks) ≡ 64 ⌝ }
+    requires { ⌜ length (now marks) ≡ marksRoom ⌝ }
     ensures { λ r. ⌜ r ≡ relation (viewOf (now (pairs .entry)) (now (marks .entry)) t) value expected ⌝ }
 {
     if value == expected {
@@ -207,7 +202,7 @@ pub fn subtype_relation(
     if expected == t.object {
         return Relation::Yes;
     }
-    let w = walk_to(pairs, t, value, expected);
+    let w = walk_to(pairs, marks, t, value, expected);
     if w.found {
         return Relation::Yes;
     }
@@ -221,7 +216,7 @@ pub fn subtype_relation(
 
 // The cast test where neither is an ancestor: by the declared facts.
 fn cast_by_facts(marks: &[u64], source: u64, target: u64) -> bool
-    requires { ⌜ length (now marks) ≡ 64 ⌝ }
+    requires { ⌜ length (now marks) ≡ marksRoom ⌝ }
     ensures { λ r. ⌜ r ≡ castMarked (now (marks .entry)) source target ⌝ }
 {
     if !is_marked(marks, 1, source) {
@@ -244,14 +239,14 @@ fn cast_by_facts(marks: &[u64], source: u64, target: u64) -> bool
 }
 
 // Whether a cast from `source` to `target` can succeed: is_cast_convertible.
-pub fn cast(pairs: &[u64], marks: &[u64], t: Classes, source: u64, target: u64) -> bool
-    requires { ⌜ length (now marks) ≡ 64 ⌝ }
+pub fn cast(pairs: &[u64], marks: &[u64], t: Tables, source: u64, target: u64) -> bool
+    requires { ⌜ length (now marks) ≡ marksRoom ⌝ }
     ensures { λ r. ⌜ r ≡ cast (viewOf (now (pairs .entry)) (now (marks .entry)) t) source target ⌝ }
 {
-    if is_ancestor(pairs, t, source, target) {
+    if is_ancestor(pairs, marks, t, source, target) {
         return true;
     }
-    if is_ancestor(pairs, t, target, source) {
+    if is_ancestor(pairs, marks, t, target, source) {
         return true;
     }
     cast_by_facts(marks, source, target)

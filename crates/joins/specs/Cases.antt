@@ -16,14 +16,14 @@ use Rattle.view.specs.View.{View, supertype, numberOf}
 use Rattle.view.specs.Reach.{Good}
 use Rattle.view.specs.Ancestors.{ancestor-below}
 use Rattle.view.specs.Supertype.{supertype-some, supertype-least}
-use Rattle.hierarchy.specs.Table.{viewOf, view-good}
-use Rattle.lattice.specs.declared.Numbers.{Numbers}
+use Rattle.tables.specs.Table.{viewOf, view-good}
+use Rattle.tables.specs.declared.Tables.{Tables}
 use Rattle.lattice.specs.Lattice.{World, Lawful, unknownUnion, inBoth, orFull, joinKnown, classOr, joinApart, join}
 use Rattle.lattice.specs.Legality.{join-legal}
 use Rattle.lattice.specs.JoinTable.{cell, join-categories}
 use Rattle.lattice.specs.JoinCases.{joinArrayOther, join-same, join-apart, apart-unknowns, apart-right-unknown, apart-left-unknown, apart-left-array, apart-right-array, arrays-left, arrays-right, arrays-both, apart-classes, apart-left-primitive, apart-right-primitive}
-use Rattle.lattice.specs.World.{present, with-lawful}
-use Rattle.joins.specs.Joins.{parentWorld, Fits, Known, Base, bothArrays}
+use Rattle.lattice.specs.World.{present, with-lawful, worldOf}
+use Rattle.joins.specs.Joins.{Fits, Known, Base, bothArrays}
 
 -- ---- words by their types
 
@@ -112,25 +112,25 @@ module _ (object array other : ℕ) where
       go (Array t) m = refl
       go (Unknown cs) m = refl
 
-pub object-lt-1024 : (n : Numbers) → Fits n → n .classes .object < 1024
-object-lt-1024 n f = let a = f .0 in let b = f .1 in omega arith
+pub object-lt-1024 : (t : Tables) → Fits t → t .object < 1024
+object-lt-1024 t f = let a = f .0 in let b = f .1 in omega arith
 
 -- ---- two classes
 
-module _ (pairs : List ℕ) (n : Numbers) (fits : Fits n) where
+module _ (pairs marks : List ℕ) (t : Tables) (fits : Fits t) where
   abbrev world : World
-  world = parentWorld pairs n
+  world = worldOf pairs marks t
 
   abbrev view : View
-  view = viewOf pairs [] (n .classes)
+  view = viewOf pairs marks t
 
   good : Good view
-  good = view-good pairs [] (n .classes) (fits .0) (fits .1)
+  good = view-good pairs marks t (fits .0) (fits .1)
 
   lawful : Lawful world
-  lawful = with-lawful view (present (n .cloneable)) (present (n .serializable)) good
+  lawful = with-lawful view (present (t .cloneable)) (present (t .serializable)) good
 
-  module _ (left right : ℕ) (l : left < n .classes .names) (r : right < n .classes .names) where
+  module _ (left right : ℕ) (l : left < t .names) (r : right < t .names) where
     some-class : (c : ℕ) × (supertype view left right ≡ some c)
     some-class = supertype-some view good left right l r
 
@@ -154,21 +154,21 @@ module _ (pairs : List ℕ) (n : Numbers) (fits : Fits n) where
 
   -- ---- two words
 
-  module _ (left right : ℕ) (l : legalWord (n .classes .names) left ≡ true) (r : legalWord (n .classes .names) right ≡ true) where
+  module _ (left right : ℕ) (l : legalWord (t .names) left ≡ true) (r : legalWord (t .names) right ≡ true) where
     abbrev answer : ℕ
     answer = wordOf (join world (typeOf left) (typeOf right))
 
     pub legal-left : Legal left
-    legal-left = legal-more (n .classes .names) 1024 left (fits .0) l
+    legal-left = legal-more (t .names) 1024 left (fits .0) l
 
     pub legal-right : Legal right
-    legal-right = legal-more (n .classes .names) 1024 right (fits .0) r
+    legal-right = legal-more (t .names) 1024 right (fits .0) r
 
     pub word-same : left ≡ right → left ≡ answer
     word-same e = sym (word-of-type 1024 left legal-left) ∙ sym (ap wordOf (join-same world (typeOf left) (typeOf right) (ap typeOf e)))
 
-    pub answer-type : left < 2 ^ 64 → right < 2 ^ 64 → legalType (n .classes .names) (join world (typeOf left) (typeOf right)) ≡ true
-    answer-type f g = join-legal world lawful (typeOf left) (typeOf right) (legal-of-word (n .classes .names) left f l) (legal-of-word (n .classes .names) right g r)
+    pub answer-type : left < 2 ^ 64 → right < 2 ^ 64 → legalType (t .names) (join world (typeOf left) (typeOf right)) ≡ true
+    answer-type f g = join-legal world lawful (typeOf left) (typeOf right) (legal-of-word (t .names) left f l) (legal-of-word (t .names) right g r)
 
     module _ (apart : left ≡ right → ⊥) where
       word-apart : (t : ArgType) → joinApart world (typeOf left) (typeOf right) ≡ t → wordOf t ≡ answer
@@ -190,10 +190,10 @@ module _ (pairs : List ℕ) (n : Numbers) (fits : Fits n) where
       word-left-unknown h k = word-apart _ (apart-left-unknown world (typeOf left) (typeOf right) h k)
 
       -- with an array
-      pub word-left-array : isArray (typeOf left) ≡ true → Base right → wordOf (joinArrayOther (n .classes .object) (typeOf left) (typeOf right)) ≡ answer
+      pub word-left-array : isArray (typeOf left) ≡ true → Base right → wordOf (joinArrayOther (t .object) (typeOf left) (typeOf right)) ≡ answer
       word-left-array h b = word-apart _ (apart-left-array world (typeOf left) (typeOf right) h (b .0) (b .1))
 
-      pub word-right-array : isArray (typeOf right) ≡ true → Base left → wordOf (joinArrayOther (n .classes .object) (typeOf right) (typeOf left)) ≡ answer
+      pub word-right-array : isArray (typeOf right) ≡ true → Base left → wordOf (joinArrayOther (t .object) (typeOf right) (typeOf left)) ≡ answer
       word-right-array h b = word-apart _ (apart-right-array world (typeOf left) (typeOf right) h (b .0) (b .1))
 
       -- without either
@@ -227,19 +227,19 @@ module _ (pairs : List ℕ) (n : Numbers) (fits : Fits n) where
         abbrev element : ArgType
         element = join world (typeOf (left - 2 ^ 56)) (typeOf (right - 2 ^ 56))
 
-        pub legal-elements : (legalWord (n .classes .names) (left - 2 ^ 56) ≡ true) × (legalWord (n .classes .names) (right - 2 ^ 56) ≡ true)
-        legal-elements = (legal-element (n .classes .names) left p ∙ l, legal-element (n .classes .names) right q ∙ r)
+        pub legal-elements : (legalWord (t .names) (left - 2 ^ 56) ≡ true) × (legalWord (t .names) (right - 2 ^ 56) ≡ true)
+        legal-elements = (legal-element (t .names) left p ∙ l, legal-element (t .names) right q ∙ r)
 
         types : (t : ArgType) → joinApart world (Array (typeOf (left - 2 ^ 56))) (Array (typeOf (right - 2 ^ 56))) ≡ t → wordOf t ≡ answer
         types t e = word-apart t (ap₂ (joinApart world) (type-array left p) (type-array right q) ∙ e)
 
-        pub word-arrays-left : isPrimitive (typeOf (left - 2 ^ 56)) ≡ true → 2 ^ 48 + n .classes .object ≡ answer
+        pub word-arrays-left : isPrimitive (typeOf (left - 2 ^ 56)) ≡ true → 2 ^ 48 + t .object ≡ answer
         unfolding wordOf
-        word-arrays-left h = types (Object (n .classes .object)) (arrays-left world (typeOf (left - 2 ^ 56)) (typeOf (right - 2 ^ 56)) h)
+        word-arrays-left h = types (Object (t .object)) (arrays-left world (typeOf (left - 2 ^ 56)) (typeOf (right - 2 ^ 56)) h)
 
-        pub word-arrays-right : isPrimitive (typeOf (right - 2 ^ 56)) ≡ true → 2 ^ 48 + n .classes .object ≡ answer
+        pub word-arrays-right : isPrimitive (typeOf (right - 2 ^ 56)) ≡ true → 2 ^ 48 + t .object ≡ answer
         unfolding wordOf
-        word-arrays-right h = types (Object (n .classes .object)) (arrays-right world (typeOf (left - 2 ^ 56)) (typeOf (right - 2 ^ 56)) h)
+        word-arrays-right h = types (Object (t .object)) (arrays-right world (typeOf (left - 2 ^ 56)) (typeOf (right - 2 ^ 56)) h)
 
         module _ (h : isPrimitive (typeOf (left - 2 ^ 56)) ≡ false) (k : isPrimitive (typeOf (right - 2 ^ 56)) ≡ false) where
           pub word-arrays : (e : ℕ) → e ≡ wordOf element → e + 2 ^ 56 ≡ answer
@@ -252,5 +252,5 @@ module _ (pairs : List ℕ) (n : Numbers) (fits : Fits n) where
           arrays-fit e is f g =
               let q = word-arrays e is in
               let m = fits .0 in
-              let w = word-fits (n .classes .names) (join world (typeOf left) (typeOf right)) (omega arith) (answer-type f g) in
+              let w = word-fits (t .names) (join world (typeOf left) (typeOf right)) (omega arith) (answer-type f g) in
               omega arith

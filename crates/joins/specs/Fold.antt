@@ -12,9 +12,10 @@ use lib.Seq.{drop-cons}
 use Rattle.ty.specs.Types.{ArgType}
 use Rattle.ty.specs.Words.{typeOf, wordOf, legalWord}
 use Rattle.ty.specs.Round.{type-of-word, legal-of-type}
-use Rattle.lattice.specs.declared.Numbers.{Numbers}
+use Rattle.tables.specs.declared.Tables.{Tables}
 use Rattle.lattice.specs.Lattice.{World, join, joinFrom, joinAll}
-use Rattle.joins.specs.Joins.{parentWorld, Fits}
+use Rattle.lattice.specs.World.{worldOf}
+use Rattle.joins.specs.Joins.{Fits}
 use Rattle.joins.specs.Cases.{answer-type}
 
 module _ (w : World) (words : List ℕ) where
@@ -46,10 +47,10 @@ module _ (w : World) (words : List ℕ) where
   unfolding joinFrom
   all-end t i h = rw (drop-of-length-le words h)
 
-module _ (pairs : List ℕ) (n : Numbers) (fits : Fits n) (left right : ℕ) (l : legalWord (n .classes .names) left ≡ true) (r : legalWord (n .classes .names) right ≡ true) (a : left < 2 ^ 64) (b : right < 2 ^ 64) where
+module _ (pairs marks : List ℕ) (t : Tables) (fits : Fits t) (left right : ℕ) (l : legalWord (t .names) left ≡ true) (r : legalWord (t .names) right ≡ true) (a : left < 2 ^ 64) (b : right < 2 ^ 64) where
   -- the join of two words is legal, and the word of its type
-  pub next-legal : legalWord (n .classes .names) (wordOf (join (parentWorld pairs n) (typeOf left) (typeOf right))) ≡ true
-  next-legal = let f = fits .0 in legal-of-type (n .classes .names) (join (parentWorld pairs n) (typeOf left) (typeOf right)) (omega arith) (answer-type pairs n fits left right l r a b)
+  pub next-legal : legalWord (t .names) (wordOf (join (worldOf pairs marks t) (typeOf left) (typeOf right))) ≡ true
+  next-legal = let f = fits .0 in legal-of-type (t .names) (join (worldOf pairs marks t) (typeOf left) (typeOf right)) (omega arith) (answer-type pairs marks t fits left right l r a b)
 
-  pub next-type : typeOf (wordOf (join (parentWorld pairs n) (typeOf left) (typeOf right))) ≡ join (parentWorld pairs n) (typeOf left) (typeOf right)
-  next-type = let f = fits .0 in type-of-word (n .classes .names) (join (parentWorld pairs n) (typeOf left) (typeOf right)) (omega arith) (answer-type pairs n fits left right l r a b)
+  pub next-type : typeOf (wordOf (join (worldOf pairs marks t) (typeOf left) (typeOf right))) ≡ join (worldOf pairs marks t) (typeOf left) (typeOf right)
+  next-type = let f = fits .0 in type-of-word (t .names) (join (worldOf pairs marks t) (typeOf left) (typeOf right)) (omega arith) (answer-type pairs marks t fits left right l r a b)

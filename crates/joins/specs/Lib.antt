@@ -3,4 +3,4 @@ pub mod Joins
 pub mod Lists
 pub mod Cases
 pub mod Fold
-pub mod NoMarks
+pub mod Sort

@@ -1,6 +1,6 @@
 // Joins of types, from lattice.rs, on type words: the table of the joins of primitives, the lists of categories, and the join of
 // two types and of a list.
-use lattice::Numbers;
+use tables::Tables;
 use ty::MaybeType;
 use ty::TypeWord;
 use ty::digit;
@@ -8,6 +8,7 @@ ghost use mathlib.Core.Path.{_≡_};
 ghost use mathlib.Core.Bool.{true, false, cond};
 ghost use mathlib.Core.List.{[], _∷_, map};
 ghost use Prim.Native.Nat.{_*_, _/_, _^_, _≤_, _<_};
+ghost use Rattle.tables.specs.Table.{namesRoom};
 ghost use Rattle.ty.specs.Types.{Object, categories, isKnown};
 ghost use Rattle.ty.specs.Words.{Legal, typeOf, wordOf, listOf};
 ghost use Rattle.ty.specs.Answers.{maybeWord};
@@ -16,7 +17,8 @@ ghost use Rattle.lattice.specs.Lattice.{unknownUnion, inBoth, orFull, joinKnown
 ghost use Rattle.lattice.specs.JoinTable.{cell};
 ghost use Rattle.lattice.specs.JoinCases.{joinArrayOther};
 ghost use Rattle.lattice.specs.Unions.{kept};
-ghost use Rattle.joins.specs.Joins.{withFirst, parentWorld, Fits, Joinable, Apart, Known, Base, bothArrays, AllLegal};
+ghost use Rattle.lattice.specs.World.{worldOf};
+ghost use Rattle.joins.specs.Joins.{withFirst, Fits, Joinable, Apart, Known, Base, bothArrays, AllLegal, Ascend};
 
 // The joins of primitives, rows by the left category. Two equal ones join to themselves.
 const JOINS: [[u64; 11]; 11] = [
@@ -166,7 +168,7 @@ const JOINS: [[u64; 11]; 11] = [
 ];
 
 // The join of two primitives, by the table.
-pub fn join_primitives(left: u64, right: u64) -> TypeWord
+fn join_primitives(left: u64, right: u64) -> TypeWord
     requires { ⌜ (left < 11) × (right < 11) ⌝ }
     ensures { λ r. ⌜ r .word ≡ cell left right ⌝ }
 {
@@ -204,7 +206,7 @@ fn keep_members(load: u64, set: u64) -> u64
 }
 
 // The Unknown of the categories of both, ascending.
-pub fn unknown_union(left: TypeWord, right: TypeWord) -> TypeWord
+fn unknown_union(left: TypeWord, right: TypeWord) -> TypeWord
     requires { ⌜ Legal (left .word) × Legal (right .word) ⌝ }
     ensures { λ r. ⌜ r .word ≡ wordOf (unknownUnion (typeOf (left .word)) (typeOf (right .word))) ⌝ }
 {
@@ -215,7 +217,7 @@ pub fn unknown_union(left: TypeWord, right: TypeWord) -> TypeWord
 }
 
 // The Unknown of the members of the first one's list that the second has; the full one where there are none.
-pub fn in_both(left: TypeWord, right: TypeWord) -> TypeWord
+fn in_both(left: TypeWord, right: TypeWord) -> TypeWord
     requires { ⌜ Legal (left .word) × Legal (right .word) × (isKnown (typeOf (left .word)) ≡ false) ⌝ }
     ensures { λ r. ⌜ r .word ≡ wordOf (orFull (inBoth (categories (typeOf (left .word))) (categories (typeOf (right .word))))) ⌝ }
 {
@@ -244,7 +246,7 @@ fn category(t: TypeWord) -> u64
 }
 
 // A known type with an Unknown: the known one where the Unknown accepts it, else the categories of both.
-pub fn join_known(known: TypeWord, unknown: TypeWord) -> TypeWord
+fn join_known(known: TypeWord, unknown: TypeWord) -> TypeWord
     requires { ⌜ Legal (known .word) × Legal (unknown .word) × (isKnown (typeOf (known .word)) ≡ true) ⌝ }
     ensures { λ r. ⌜ r .word ≡ wordOf (joinKnown (typeOf (known .word)) (categories (typeOf (unknown .word)))) ⌝ }
 {
@@ -257,7 +259,7 @@ pub fn join_known(known: TypeWord, unknown: TypeWord) -> TypeWord
 
 // An array and a known type that is none: Object where that is Object, else the categories of both.
 fn join_array(object: u64, array: TypeWord, other: TypeWord) -> TypeWord
-    requires { ⌜ Legal (array .word) × Legal (other .word) × (object < 1024) ⌝ }
+    requires { ⌜ Legal (array .word) × Legal (other .word) × (object < namesRoom) ⌝ }
     ensures { λ r. ⌜ r .word ≡ wordOf (joinArrayOther object (typeOf (array .word)) (typeOf (other .word))) ⌝ }
 {
     if other.word == 281474976710656 + object {
@@ -267,18 +269,18 @@ fn join_array(object: u64, array: TypeWord, other: TypeWord) -> TypeWord
 }
 
 // Two classes: their least common supertype.
-fn join_classes(pairs: &[u64], n: Numbers, left: u64, right: u64) -> TypeWord
-    requires { ⌜ Fits n × (left < n .classes .names) × (right < n .classes .names) ⌝ }
-    ensures { λ r. ⌜ r .word ≡ wordOf (joinApart (parentWorld (now (pairs .entry)) n) (Object left) (Object right)) ⌝ }
+fn join_classes(pairs: &[u64], marks: &[u64], t: Tables, left: u64, right: u64) -> TypeWord
+    requires { ⌜ Fits t × (left < t .names) × (right < t .names) ⌝ }
+    ensures { λ r. ⌜ r .word ≡ wordOf (joinApart (worldOf (now (pairs .entry)) (now (marks .entry)) t) (Object left) (Object right)) ⌝ }
 {
-    let c = supertype::supertype(pairs, n.classes, left, right);
+    let c = supertype::supertype(pairs, marks, t, left, right);
     TypeWord::object(c)
 }
 
 // Two known types that are no arrays.
-fn join_bases(pairs: &[u64], n: Numbers, left: TypeWord, right: TypeWord) -> TypeWord
-    requires { ⌜ Apart n (left .word) (right .word) × Base (left .word) × Base (right .word) ⌝ }
-    ensures { λ r. ⌜ r .word ≡ wordOf (join (parentWorld (now (pairs .entry)) n) (typeOf (left .word)) (typeOf (right .word))) ⌝ }
+fn join_bases(pairs: &[u64], marks: &[u64], t: Tables, left: TypeWord, right: TypeWord) -> TypeWord
+    requires { ⌜ Apart t (left .word) (right .word) × Base (left .word) × Base (right .word) ⌝ }
+    ensures { λ r. ⌜ r .word ≡ wordOf (join (worldOf (now (pairs .entry)) (now (marks .entry)) t) (typeOf (left .word)) (typeOf (right .word))) ⌝ }
 {
     if left.is_primitive() {
         if right.is_primitive() {
@@ -289,31 +291,31 @@ fn join_bases(pairs: &[u64], n: Numbers, left: TypeWord, right: TypeWord) -> Typ
     if right.is_primitive() {
         return unknown_union(left, right);
     }
-    join_classes(pairs, n, left.load(), right.load())
+    join_classes(pairs, marks, t, left.load(), right.load())
 }
 
 // Two known types, of which one at most is an array.
-fn join_knowns(pairs: &[u64], n: Numbers, left: TypeWord, right: TypeWord) -> TypeWord
-    requires { ⌜ Apart n (left .word) (right .word) × Known (left .word) × Known (right .word) × (bothArrays (left .word) (right .word) ≡ false) ⌝ }
-    ensures { λ r. ⌜ r .word ≡ wordOf (join (parentWorld (now (pairs .entry)) n) (typeOf (left .word)) (typeOf (right .word))) ⌝ }
+fn join_knowns(pairs: &[u64], marks: &[u64], t: Tables, left: TypeWord, right: TypeWord) -> TypeWord
+    requires { ⌜ Apart t (left .word) (right .word) × Known (left .word) × Known (right .word) × (bothArrays (left .word) (right .word) ≡ false) ⌝ }
+    ensures { λ r. ⌜ r .word ≡ wordOf (join (worldOf (now (pairs .entry)) (now (marks .entry)) t) (typeOf (left .word)) (typeOf (right .word))) ⌝ }
 {
     if left.is_array() {
-        return join_array(n.classes.object, left, right);
+        return join_array(t.object, left, right);
     }
     if right.is_array() {
-        return join_array(n.classes.object, right, left);
+        return join_array(t.object, right, left);
     }
-    join_bases(pairs, n, left, right)
+    join_bases(pairs, marks, t, left, right)
 }
 
 // Two types that are not equal, of which one at most is an array.
-fn join_apart(pairs: &[u64], n: Numbers, left: TypeWord, right: TypeWord) -> TypeWord
-    requires { ⌜ Apart n (left .word) (right .word) × (bothArrays (left .word) (right .word) ≡ false) ⌝ }
-    ensures { λ r. ⌜ r .word ≡ wordOf (join (parentWorld (now (pairs .entry)) n) (typeOf (left .word)) (typeOf (right .word))) ⌝ }
+fn join_apart(pairs: &[u64], marks: &[u64], t: Tables, left: TypeWord, right: TypeWord) -> TypeWord
+    requires { ⌜ Apart t (left .word) (right .word) × (bothArrays (left .word) (right .word) ≡ false) ⌝ }
+    ensures { λ r. ⌜ r .word ≡ wordOf (join (worldOf (now (pairs .entry)) (now (marks .entry)) t) (typeOf (left .word)) (typeOf (right .word))) ⌝ }
 {
     if left.is_known() {
         if right.is_known() {
-            return join_knowns(pairs, n, left, right);
+            return join_knowns(pairs, marks, t, left, right);
         }
         return join_known(left, right);
     }
@@ -333,23 +335,23 @@ fn both_arrays(left: TypeWord, right: TypeWord) -> bool
 }
 
 // The join of two types over the class table.
-pub fn join(pairs: &[u64], n: Numbers, left: TypeWord, right: TypeWord) -> TypeWord
-    requires { ⌜ Joinable n (left .word) (right .word) ⌝ }
-    ensures { λ r. ⌜ r .word ≡ wordOf (join (parentWorld (now (pairs .entry)) n) (typeOf (left .word)) (typeOf (right .word))) ⌝ }
+pub fn join(pairs: &[u64], marks: &[u64], t: Tables, left: TypeWord, right: TypeWord) -> TypeWord
+    requires { ⌜ Joinable t (left .word) (right .word) ⌝ }
+    ensures { λ r. ⌜ r .word ≡ wordOf (join (worldOf (now (pairs .entry)) (now (marks .entry)) t) (typeOf (left .word)) (typeOf (right .word))) ⌝ }
 {
     if left.word == right.word {
         return left;
     }
     if both_arrays(left, right) {
-        return join_arrays(pairs, n, left, right);
+        return join_arrays(pairs, marks, t, left, right);
     }
-    join_apart(pairs, n, left, right)
+    join_apart(pairs, marks, t, left, right)
 }
 
 // Two arrays that are not equal: Object where an element is a primitive, else the array of the elements' join.
-fn join_arrays(pairs: &[u64], n: Numbers, left: TypeWord, right: TypeWord) -> TypeWord
-    requires { ⌜ Apart n (left .word) (right .word) × (2 ^ 56 ≤ left .word) × (2 ^ 56 ≤ right .word) ⌝ }
-    ensures { λ r. ⌜ r .word ≡ wordOf (join (parentWorld (now (pairs .entry)) n) (typeOf (left .word)) (typeOf (right .word))) ⌝ }
+fn join_arrays(pairs: &[u64], marks: &[u64], t: Tables, left: TypeWord, right: TypeWord) -> TypeWord
+    requires { ⌜ Apart t (left .word) (right .word) × (2 ^ 56 ≤ left .word) × (2 ^ 56 ≤ right .word) ⌝ }
+    ensures { λ r. ⌜ r .word ≡ wordOf (join (worldOf (now (pairs .entry)) (now (marks .entry)) t) (typeOf (left .word)) (typeOf (right .word))) ⌝ }
 {
     let a = TypeWord {
         word: left.word - 72057594037927936,
@@ -358,21 +360,22 @@ fn join_arrays(pairs: &[u64], n: Numbers, left: TypeWord, right: TypeWord) -> Ty
         word: right.word - 72057594037927936,
     };
     if a.is_primitive() {
-        return TypeWord::object(n.classes.object);
+        return TypeWord::object(t.object);
     }
     if b.is_primitive() {
-        return TypeWord::object(n.classes.object);
+        return TypeWord::object(t.object);
     }
-    let e = join(pairs, n, a, b);
+    let e = join(pairs, marks, t, a, b);
     TypeWord {
         word: e.word + 72057594037927936,
     }
 }
 
-// The join of a list of types, from the first on; of none there is none.
-pub fn join_all(pairs: &[u64], n: Numbers, words: &[u64]) -> MaybeType
-    requires { ⌜ Fits n × AllLegal n (now words) ⌝ }
-    ensures { λ r. ⌜ r ≡ maybeWord (joinAll (parentWorld (now (pairs .entry)) n) (map typeOf (now (words .entry)))) ⌝ }
+// The join of a list of types, from the first on; of none there is none. The order matters, and the Rust sorts its list: here a list
+// comes as the set that it is, in order (specs/Sort: then the sort changes nothing).
+pub fn join_all(pairs: &[u64], marks: &[u64], t: Tables, words: &[u64]) -> MaybeType
+    requires { ⌜ Fits t × AllLegal t (now words) × Ascend (map typeOf (now words)) ⌝ }
+    ensures { λ r. ⌜ r ≡ maybeWord (joinAll (worldOf (now (pairs .entry)) (now (marks .entry)) t) (map typeOf (now (words .entry)))) ⌝ }
 {
     if words.len() == 0 {
         return MaybeType::Nothing;
@@ -380,7 +383,7 @@ pub fn join_all(pairs: &[u64], n: Numbers, words: &[u64]) -> MaybeType
     let mut all = TypeWord { word: words[0] };
     let mut i: usize = 1;
     while i < words.len() {
-        all = join(pairs, n, all, TypeWord { word: words[i] });
+        all = join(pairs, marks, t, all, TypeWord { word: words[i] });
         i += 1;
     }
     MaybeType::Is(all)

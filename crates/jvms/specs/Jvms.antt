@@ -3,6 +3,7 @@
 use mathlib.Core.List.{List, [], _∷_, _++_, List·Memᴰ}
 use Prim.Native.Nat.{ℕ, suc, _<_}
 use lib.ListN.{length}
+use Rattle.text.specs.Text.{byte}
 use Rattle.ty.specs.Types.{Void, Boolean, Byte, Short, Char, Int, Long, Float, Double}
 use Rattle.utf8.specs.Utf8.{WellFormed}
 
@@ -29,40 +30,40 @@ pub record NameWithout (characters name : List ℕ) : Type 0 where
 
 -- 4.2.2: an unqualified name has at least one code point and none of  . ; [ /
 abbrev pub UnqualifiedName : List ℕ → Type 0
-UnqualifiedName = NameWithout (46 ∷ 59 ∷ 91 ∷ 47 ∷ [])
+UnqualifiedName = NameWithout (byte "." ∷ byte ";" ∷ byte "[" ∷ byte "/" ∷ [])
 
 -- 4.2.1: identifiers with a / between them, each an unqualified name
 pub data ClassName : List ℕ → Type 0 where
   -- Identifier
   last : {name : List ℕ} → UnqualifiedName name → ClassName name
   -- Identifier / ClassName
-  qualified : {name rest : List ℕ} → UnqualifiedName name → ClassName rest → ClassName (name ++ 47 ∷ rest)
+  qualified : {name rest : List ℕ} → UnqualifiedName name → ClassName rest → ClassName (name ++ byte "/" ∷ rest)
 
 -- what ordinary reading takes in place of a ClassName: any name without  ;
 abbrev pub AnyName : List ℕ → Type 0
-AnyName = NameWithout (59 ∷ [])
+AnyName = NameWithout (byte ";" ∷ [])
 
 -- ---- 4.3.2: field descriptors
 
 -- BaseType: (one of) B C D F I J S Z, with the types of table 4.3-A
 pub data BaseType : ℕ → ℕ → Type 0 where
-  B : BaseType 66 Byte
-  C : BaseType 67 Char
-  D : BaseType 68 Double
-  F : BaseType 70 Float
-  I : BaseType 73 Int
-  J : BaseType 74 Long
-  S : BaseType 83 Short
-  Z : BaseType 90 Boolean
+  B : BaseType (byte "B") Byte
+  C : BaseType (byte "C") Char
+  D : BaseType (byte "D") Double
+  F : BaseType (byte "F") Float
+  I : BaseType (byte "I") Int
+  J : BaseType (byte "J") Long
+  S : BaseType (byte "S") Short
+  Z : BaseType (byte "Z") Boolean
 
 -- FieldDescriptor: FieldType. What a ClassName is stays open: `Name` is ClassName for the JVMS, AnyName for ordinary reading
 pub data FieldType (Name : List ℕ → Type 0) : List ℕ → JavaType → Type 0 where
   -- FieldType: BaseType
   base : {b k : ℕ} → BaseType b k → FieldType Name (b ∷ []) (Primitive k)
   -- FieldType: ObjectType (since Java 9: ClassType); ObjectType: L ClassName ;
-  object : {name : List ℕ} → Name name → FieldType Name (76 ∷ name ++ 59 ∷ []) (Object name)
+  object : {name : List ℕ} → Name name → FieldType Name (byte "L" ∷ name ++ byte ";" ∷ []) (Object name)
   -- FieldType: ArrayType; ArrayType: [ ComponentType; ComponentType: FieldType
-  array : {bs : List ℕ} {t : JavaType} → FieldType Name bs t → FieldType Name (91 ∷ bs) (Array t)
+  array : {bs : List ℕ} {t : JavaType} → FieldType Name bs t → FieldType Name (byte "[" ∷ bs) (Array t)
 
 -- ---- 4.3.3: method descriptors
 
@@ -70,7 +71,7 @@ pub data ReturnDescriptor (Name : List ℕ → Type 0) : List ℕ → JavaType �
   -- ReturnDescriptor: FieldType
   field : {bs : List ℕ} {t : JavaType} → FieldType Name bs t → ReturnDescriptor Name bs t
   -- ReturnDescriptor: VoidDescriptor; VoidDescriptor: V
-  void : ReturnDescriptor Name (86 ∷ []) (Primitive Void)
+  void : ReturnDescriptor Name (byte "V" ∷ []) (Primitive Void)
 
 -- a parameter: its descriptor and the type that this stands for
 pub record Parameter : Type 0 where
@@ -93,4 +94,4 @@ pub record Signature : Type 0 where
 pub data MethodDescriptor (Name : List ℕ → Type 0) : List ℕ → Signature → Type 0 where
   -- MethodDescriptor: ( {ParameterDescriptor} ) ReturnDescriptor
   method : {bs end : List ℕ} {ps : List Parameter} {t : JavaType} → Parameters Name bs ps → ReturnDescriptor Name end t
-      → MethodDescriptor Name (40 ∷ bs ++ 41 ∷ end) (record { parameters = ps; result = t })
+      → MethodDescriptor Name (byte "(" ∷ bs ++ byte ")" ∷ end) (record { parameters = ps; result = t })

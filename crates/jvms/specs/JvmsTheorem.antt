@@ -10,7 +10,7 @@ use native.Mathlib.Omega.{arith}
 use lib.ListN.{length, length-append}
 use Rattle.descriptor.specs.declared.Read.the-variants.{Found}
 use Rattle.descriptor.specs.Read.{readWhole, readStrict}
-use Rattle.descriptor.specs.Method.{Method, Whole, Broken, returns, afterParams, readMethod, strictMethod, readMethodStrict}
+use Rattle.methods.specs.Method.{Method, Whole, Broken, returns, afterParams, readMethod, strictMethod, readMethodStrict}
 use Rattle.jvms.specs.Jvms.{JavaType, dimensions, AnyName, ClassName, ReturnDescriptor, Signature, MethodDescriptor, MethodDescriptor.method}
 use Rattle.jvms.specs.Names.{class-name}
 use Rattle.jvms.specs.Meaning.{typeRead, methodRead, Limits, placed, ends, answer}

@@ -9,7 +9,7 @@ use Rattle.descriptor.specs.declared.Base.the-variants.{Simple, Class}
 use Rattle.descriptor.specs.declared.Read.{Read}
 use Rattle.descriptor.specs.declared.Read.the-variants.{Found, Refused}
 use Rattle.descriptor.specs.Read.{readType}
-use Rattle.descriptor.specs.Method.{Method, Whole, Broken}
+use Rattle.methods.specs.Method.{Method, Whole, Broken}
 use Rattle.jvms.specs.Jvms.{JavaType, Primitive, Object, Array, dimensions, Parameter, Signature}
 
 -- ---- a type

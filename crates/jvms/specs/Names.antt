@@ -8,14 +8,11 @@ use native.Mathlib.Omega.{arith}
 use lib.Dec.{eqb}
 use lib.ListN.{length, length-append}
 use borrow.Author.Tests.{eqb-true, eqb-false, eq-eqb, ne-eqb, not-true}
+use Rattle.order.specs.Truth.{both}
 use Rattle.utf8.specs.Utf8.{WellFormed}
 use Rattle.utf8.specs.Laws.{wellFormed-append, ascii-more, ascii-cut}
 use Rattle.descriptor.specs.Read.{indexOf, partsFrom, strictName}
 use Rattle.jvms.specs.Jvms.{UnqualifiedName, AnyName, ClassName, ClassName.last, ClassName.qualified}
-
-and-parts : (a b : Bool) → (a && b) ≡ true → (a ≡ true) × (b ≡ true)
-and-parts true b e = (refl, e)
-and-parts false b e = absurd (false≢true e)
 
 -- ---- the first ';'
 
@@ -145,14 +142,14 @@ class-from front begun (b ∷ bs) some plain uncut w e = go (eqb b 47) refl (cla
 
     go : (t : Bool) → eqb b 47 ≡ t → Parts [] false bs → Parts (front ++ b ∷ []) true bs → ClassName (front ++ b ∷ bs)
     go true q fresh going =
-        let parts = and-parts begun (partsFrom false bs) (rw q at e) in
+        let parts = both begun (partsFrom false bs) (rw q at e) in
         let slash = eqb-true b 47 q in
         let wells = ascii-cut front bs 47 (omega arith) (rw slash at w) in
         let own : UnqualifiedName front = record { notEmpty = some (parts .0); wellFormed = wells .0; without = plain } in
         rw slash (qualified own (fresh (λ x. absurd (false≢true x)) (λ c s m. List·Memᴰ·not-nil m) later (wells .1) (parts .1)))
     go false q fresh going =
-        let parts = and-parts (not (eqb b 46) && not (eqb b 91)) (partsFrom true bs) (rw q at e) in
-        let marks = and-parts (not (eqb b 46)) (not (eqb b 91)) (parts .0) in
+        let parts = both (not (eqb b 46) && not (eqb b 91)) (partsFrom true bs) (rw q at e) in
+        let marks = both (not (eqb b 46)) (not (eqb b 91)) (parts .0) in
         rw append-assoc at (going (λ x. simp length-append (omega arith)) (longer q (marks .0) (marks .1)) later (rw append-assoc w) (parts .1))
 
 -- THE STRICT TEST DECIDES THE CLASS NAMES OF JVMS 4.2.1 AMONG THE NAMES THAT ORDINARY READING TAKES

@@ -41,7 +41,7 @@ well-formed-length : (name : List ℕ) → WellFormed name → validPrefix name 
 unfolding wellFormed
 well-formed-length name w = eqb-true (validPrefix name) (length name) (wellFormed-decides name .1 w)
 
-name-stops : (name rest : List ℕ) (at d : ℕ) → AnyName name → readName (name ++ 59 ∷ rest) at d ≡ Found d (Class (at + 1) (length name)) (at + 1 + length name + 1)
+pub name-stops : (name rest : List ℕ) (at d : ℕ) → AnyName name → readName (name ++ 59 ∷ rest) at d ≡ Found d (Class (at + 1) (length name)) (at + 1 + length name + 1)
 unfolding readName nameRead
 name-stops name rest at d a =
     let n = index-seam 59 name rest (a .without 59 (List·Memᴰ·head refl)) in

@@ -12,7 +12,7 @@ use Rattle.descriptor.specs.declared.Base.{Base}
 use Rattle.descriptor.specs.declared.Read.{Read}
 use Rattle.descriptor.specs.declared.Read.the-variants.{Found, Refused}
 use Rattle.descriptor.specs.Read.{readType, finish}
-use Rattle.descriptor.specs.Method.{Params, Listed, Stopped, Method, Whole, Broken, pickM, readParams, returns, afterParams, readMethod, strictMethod}
+use Rattle.methods.specs.Method.{Params, Listed, Stopped, Method, Whole, Broken, pickM, readParams, returns, afterParams, readMethod, strictMethod}
 use Rattle.jvms.specs.Jvms.{JavaType, dimensions, AnyName, ReturnDescriptor, Parameter, Parameters, Signature, MethodDescriptor, MethodDescriptor.method}
 use Rattle.jvms.specs.Meaning.{typeAt, typeRead, methodRead, Limits, placed, ends, answer}
 use Rattle.jvms.specs.Derive.{strictType, AllStrict}

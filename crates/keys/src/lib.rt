@@ -1,5 +1,8 @@
 // Types by rank, a number in the order of types, and the 64-bit keys of bounds: component, kind and type in one number.
 use order::Order;
+use ty::DIMENSION;
+use ty::LENGTH;
+use ty::TAG;
 use ty::TypeWord;
 use ty::digit;
 ghost use mathlib.Core.Path.{_≡_};
@@ -9,6 +12,24 @@ ghost use Rattle.ty.specs.Types.{compare};
 ghost use Rattle.ty.specs.Words.{Legal, pack, typeOf, wordOf};
 ghost use Rattle.ty.specs.Round.{listLoad};
 ghost use Rattle.keys.specs.Rank.{rank, unrank, membersOf, key, keyComponent, keyKind, keyType};
+
+// The tag of an Unknown, in its place in a word.
+const UNKNOWN: u64 = 2 << 48;
+
+// In the rank of a known type: what one dimension adds, and where the classes begin.
+const DEPTH: u64 = 1 << 11;
+
+const CLASSES: u64 = 1 << 10;
+
+// Where the ranks of the known types end and those of the Unknowns begin: there a dimension takes 1 << 44 away, the room of eleven digits.
+const KNOWN: u64 = 1 << 19;
+
+const LIST: u64 = 1 << 44;
+
+// What one kind and one component add to a key.
+const KIND: u64 = 1 << 52;
+
+const COMPONENT: u64 = 1 << 55;
 
 // A one in each of eleven hex digits.
 const ONES: u64 = 0x11111111111;
@@ -27,14 +48,14 @@ pub fn rank_of(t: TypeWord) -> u64
     ensures { λ r. ⌜ r ≡ rank (typeOf (t .word)) ⌝ }
 {
     let w = t.word;
-    let dims = w / 72057594037927936;
-    let tag = w / 281474976710656 % 256;
-    let load = w % 281474976710656;
+    let dims = w / DIMENSION;
+    let tag = w / TAG % 256;
+    let load = w % TAG;
     if tag < 2 {
-        return dims * 2048 + tag * 1024 + load;
+        return dims * DEPTH + tag * CLASSES + load;
     }
-    let n = load / 17592186044416;
-    524288 + (255 - dims) * 17592186044416 + load % 17592186044416 + ones(n)
+    let n = load / LENGTH;
+    KNOWN + (255 - dims) * LIST + load % LENGTH + ones(n)
 }
 
 // The payload of the Unknown that has these digits in its rank.
@@ -46,12 +67,12 @@ fn members_load(digits: u64) -> u64
     while i < 11 {
         let d = digit(digits, i);
         if d == 0 {
-            return i * 17592186044416 + sum;
+            return i * LENGTH + sum;
         }
         sum += (d - 1) << (4 * (10 - i));
         i += 1;
     }
-    i * 17592186044416 + sum
+    i * LENGTH + sum
 }
 
 // The type of a rank.
@@ -59,13 +80,13 @@ pub fn type_of_rank(r: u64) -> TypeWord
     requires { ⌜ r < 2 ^ 52 ⌝ }
     ensures { λ t. ⌜ t .word ≡ wordOf (unrank r) ⌝ }
 {
-    if r < 524288 {
-        let known = r / 2048 * 72057594037927936 + r % 2048 / 1024 * 281474976710656 + r % 1024;
+    if r < KNOWN {
+        let known = r / DEPTH * DIMENSION + r % DEPTH / CLASSES * TAG + r % CLASSES;
         return TypeWord { word: known };
     }
-    let above = r - 524288;
-    let load = members_load(above % 17592186044416);
-    let unknown = (255 - above / 17592186044416) * 72057594037927936 + 562949953421312 + load;
+    let above = r - KNOWN;
+    let load = members_load(above % LIST);
+    let unknown = (255 - above / LIST) * DIMENSION + UNKNOWN + load;
     TypeWord { word: unknown }
 }
 
@@ -90,24 +111,24 @@ pub fn key_of(component: u64, kind: u64, t: TypeWord) -> u64
     requires { ⌜ (component < 512) × (kind < 8) × Legal (t .word) ⌝ }
     ensures { λ r. ⌜ r ≡ key component kind (typeOf (t .word)) ⌝ }
 {
-    component * 36028797018963968 + (kind * 4503599627370496 + rank_of(t))
+    component * COMPONENT + (kind * KIND + rank_of(t))
 }
 
 // The parts of a key: component, kind and type.
 pub fn key_component(k: u64) -> u64
     ensures { λ r. ⌜ r ≡ keyComponent k ⌝ }
 {
-    k / 36028797018963968
+    k / COMPONENT
 }
 
 pub fn key_kind(k: u64) -> u64
     ensures { λ r. ⌜ r ≡ keyKind k ⌝ }
 {
-    k / 4503599627370496 % 8
+    k / KIND % 8
 }
 
 pub fn key_type(k: u64) -> TypeWord
     ensures { λ t. ⌜ t .word ≡ wordOf (keyType k) ⌝ }
 {
-    type_of_rank(k % 4503599627370496)
+    type_of_rank(k % KIND)
 }

@@ -70,20 +70,13 @@ module _ (w : World) where
 
   -- a join of arrays is Object, where an element is primitive, or the array of the join
   elements-by : (P : ArgType → Type 0) (object : ℕ) (t u whole : ArgType) → P (Object object) → (isPrimitive t ≡ false → isPrimitive u ≡ false → P (Array whole)) → P (joinElements object t u whole)
-  unfolding isPrimitive joinElements
-  elements-by P object (Primitive k) u whole top each = top
-  elements-by P object (Object c) (Primitive k) whole top each = top
-  elements-by P object (Object c) (Object d) whole top each = each refl refl
-  elements-by P object (Object c) (Array u) whole top each = each refl refl
-  elements-by P object (Object c) (Unknown ds) whole top each = each refl refl
-  elements-by P object (Array t) (Primitive k) whole top each = top
-  elements-by P object (Array t) (Object d) whole top each = each refl refl
-  elements-by P object (Array t) (Array u) whole top each = each refl refl
-  elements-by P object (Array t) (Unknown ds) whole top each = each refl refl
-  elements-by P object (Unknown cs) (Primitive k) whole top each = top
-  elements-by P object (Unknown cs) (Object d) whole top each = each refl refl
-  elements-by P object (Unknown cs) (Array u) whole top each = each refl refl
-  elements-by P object (Unknown cs) (Unknown ds) whole top each = each refl refl
+  unfolding joinElements
+  elements-by P object t u whole top each = go (isPrimitive t) refl (isPrimitive u) refl
+    where
+      go : (a : Bool) → isPrimitive t ≡ a → (b : Bool) → isPrimitive u ≡ b → P (cond (a || b) (Object object) (Array whole))
+      go true p b q = top
+      go false p true q = top
+      go false p false q = each p q
 
   abbrev Other : ArgType → Type 0
   Other t = isPrimitive t ≡ false

@@ -8,7 +8,7 @@ use Prim.Native.Nat.{ℕ}
 use lib.Dec.{eqb}
 use borrow.Author.Tests.{eq-eqb}
 use Rattle.order.specs.Lists.{elem}
-use Rattle.ty.specs.Types.{ArgType, Primitive, Object, Array, Unknown, isReference}
+use Rattle.ty.specs.Types.{ArgType, Primitive, Object, Array, Unknown, isPrimitive, isReference}
 use Rattle.lattice.specs.Lattice.{sameType, hasAll, unknownAccepts, sameRegisterCategory, observedAccepts, anyAccepts, domainAccepts}
 use Rattle.lattice.specs.References.{same-self}
 
@@ -72,7 +72,7 @@ observed-self (Unknown cs) = hasAll-self cs
 
 -- a reference every reference
 pub observed-references : (o t : ArgType) → isReference o ≡ true → isReference t ≡ true → observedAccepts o t ≡ true
-unfolding isReference sameRegisterCategory observedAccepts
+unfolding isPrimitive isReference sameRegisterCategory observedAccepts
 observed-references (Primitive j) t h i = absurd (false≢true h)
 observed-references (Object c) (Primitive k) h i = absurd (false≢true i)
 observed-references (Object c) (Object d) h i = or-true (sameType (Object c) (Object d))

@@ -9,7 +9,7 @@ use lib.Dec.{eqb}
 use native.Mathlib.Decide.{ℕ-discrete}
 use borrow.Author.Tests.{eq-eqb, lt-ltb, le-leb, ne-eqb}
 use Rattle.order.specs.Lists.{elem}
-use Rattle.ty.specs.Types.{ArgType, Primitive, Object, Array, Unknown}
+use Rattle.ty.specs.Types.{ArgType, Primitive, Object, Array, Unknown, isPrimitive}
 use Rattle.ty.specs.Types.{Boolean, Int, Long, Float, Double}
 use Rattle.ty.specs.Words.{distinct, legalAtBase}
 use Rattle.ty.specs.Distinct.{distinct-first, distinct-fresh, distinct-rest}
@@ -137,16 +137,4 @@ module _ (names : ℕ) where
 
   pub elements-fit : (object : ℕ) (t u whole : ArgType) → object < names → Fits whole → Fits (joinElements object t u whole)
   unfolding joinElements legalAtBase
-  elements-fit object (Primitive k) u whole o h = lt-ltb object names o
-  elements-fit object (Object c) (Primitive k) whole o h = lt-ltb object names o
-  elements-fit object (Object c) (Object d) whole o h = h
-  elements-fit object (Object c) (Array u) whole o h = h
-  elements-fit object (Object c) (Unknown ds) whole o h = h
-  elements-fit object (Array t) (Primitive k) whole o h = lt-ltb object names o
-  elements-fit object (Array t) (Object d) whole o h = h
-  elements-fit object (Array t) (Array u) whole o h = h
-  elements-fit object (Array t) (Unknown ds) whole o h = h
-  elements-fit object (Unknown cs) (Primitive k) whole o h = lt-ltb object names o
-  elements-fit object (Unknown cs) (Object d) whole o h = h
-  elements-fit object (Unknown cs) (Array u) whole o h = h
-  elements-fit object (Unknown cs) (Unknown ds) whole o h = h
+  elements-fit object t u whole o h = by-cond Fits (isPrimitive t || isPrimitive u) (Object object) (Array whole) (lt-ltb object names o) h

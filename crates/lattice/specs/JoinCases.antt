@@ -1,6 +1,6 @@
 -- The join by what its two types are, one law for each case that code on words meets. Assumes nothing.
 use mathlib.Core.Path.{_≡_, refl, sym, ap, ap₂, _∙_}
-use mathlib.Core.Bool.{Bool, true, false, cond, _||_, true≢false, false≢true}
+use mathlib.Core.Bool.{Bool, true, false, cond, _||_, true≢false, false≢true, or-true}
 use mathlib.Core.List.{List, [], _∷_}
 use Prim.Native.Nat.{ℕ, zero, suc}
 use lib.Dec.{eqb}
@@ -141,42 +141,17 @@ module _ (w : World) where
   -- ---- two arrays
 
   pub arrays-left : (t u : ArgType) → isPrimitive t ≡ true → joinApart w (Array t) (Array u) ≡ Object (w .object)
-  unfolding joinApart isPrimitive joinElements
-  arrays-left (Primitive k) u h = refl
-  arrays-left (Object c) u h = absurd (false≢true h)
-  arrays-left (Array t) u h = absurd (false≢true h)
-  arrays-left (Unknown cs) u h = absurd (false≢true h)
+  unfolding joinApart joinElements
+  arrays-left t u h = rw h
 
   pub arrays-right : (t u : ArgType) → isPrimitive u ≡ true → joinApart w (Array t) (Array u) ≡ Object (w .object)
-  unfolding joinApart isPrimitive joinElements
-  arrays-right (Primitive k) (Primitive j) h = refl
-  arrays-right (Object c) (Primitive j) h = refl
-  arrays-right (Array t) (Primitive j) h = refl
-  arrays-right (Unknown cs) (Primitive j) h = refl
-  arrays-right t (Object d) h = absurd (false≢true h)
-  arrays-right t (Array u) h = absurd (false≢true h)
-  arrays-right t (Unknown ds) h = absurd (false≢true h)
-
-  elements-both : (object : ℕ) (t u whole : ArgType) → isPrimitive t ≡ false → isPrimitive u ≡ false → joinElements object t u whole ≡ Array whole
-  unfolding isPrimitive joinElements
-  elements-both object (Primitive k) u whole h g = absurd (true≢false h)
-  elements-both object (Object c) (Primitive k) whole h g = absurd (true≢false g)
-  elements-both object (Array t) (Primitive k) whole h g = absurd (true≢false g)
-  elements-both object (Unknown cs) (Primitive k) whole h g = absurd (true≢false g)
-  elements-both object (Object c) (Object d) whole h g = refl
-  elements-both object (Object c) (Array u) whole h g = refl
-  elements-both object (Object c) (Unknown ds) whole h g = refl
-  elements-both object (Array t) (Object d) whole h g = refl
-  elements-both object (Array t) (Array u) whole h g = refl
-  elements-both object (Array t) (Unknown ds) whole h g = refl
-  elements-both object (Unknown cs) (Object d) whole h g = refl
-  elements-both object (Unknown cs) (Array u) whole h g = refl
-  elements-both object (Unknown cs) (Unknown ds) whole h g = refl
+  unfolding joinApart joinElements
+  arrays-right t u h = rw (h, or-true (isPrimitive t))
 
   -- the whole question one dimension lower
   pub arrays-both : (t u : ArgType) → isPrimitive t ≡ false → isPrimitive u ≡ false → joinApart w (Array t) (Array u) ≡ Array (join w t u)
-  unfolding joinApart join
-  arrays-both t u h g = elements-both (w .object) t u (join w t u) h g
+  unfolding joinApart joinElements join
+  arrays-both t u h g = rw (h, g)
 
   -- ---- two known types that are no arrays
 

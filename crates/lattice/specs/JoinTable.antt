@@ -11,7 +11,20 @@ use Rattle.ty.specs.Types.{ArgType, Primitive}
 use Rattle.ty.specs.Words.{wordOf}
 use Rattle.lattice.specs.Lattice.{World, sameType, joinPrimitive, joinApart, join}
 
--- the join of two primitives: no class is asked
+-- the join of two primitives: no class is asked. JoinGrid has all of them in letters, a row for the left and a column for the right:
+--
+--       V Z B S C I J F D L [     a letter: that primitive
+--     V V . . . . . . . . . .     . : Unknown of the two, the left first
+--     Z . Z . . . ? . . . . .     ? : Unknown[Boolean, Int]
+--     B . . B I I I J F D . .
+--     S . . I S I I J F D . .
+--     C . . I I C I J F D . .
+--     I . ? I I I I J F D . .
+--     J . . J J J J J . D . .
+--     F . . F F F F . F D . .
+--     D . . D D D D D D D . .
+--     L . . . . . . . . . L .
+--     [ . . . . . . . . . . [
 unfoldable pub joinCategories : ℕ → ℕ → ArgType
 joinCategories left right = cond (sameType (Primitive left) (Primitive right)) (Primitive left) (joinPrimitive left right)
 

@@ -9,7 +9,7 @@ use lib.Dec.{eqb}
 use Rattle.order.specs.Lists.{elem}
 use Rattle.order.specs.declared.Order.{Order}
 use Rattle.order.specs.declared.Order.the-variants.{Less, Equal, Greater}
-use Rattle.ty.specs.Types.{ArgType, Primitive, Object, Array, Unknown, compare, categories, isReference, isConcrete, concreteHint, wideCategory}
+use Rattle.ty.specs.Types.{ArgType, Primitive, Object, Array, Unknown, compare, categories, isPrimitive, isReference, isWide, concreteHint}
 use Rattle.ty.specs.Types.{Boolean, Byte, Short, Char, Int, Long, Float, Double, ObjectCategory, ArrayCategory}
 use Rattle.order.specs.Compare.{isEqual}
 use Rattle.ty.specs.Answers.{unknownType}
@@ -78,24 +78,10 @@ primitiveAssignable value expected =
     || ((eqb value Int && elem expected (Long ∷ Float ∷ Double ∷ []))
     || ((eqb value Long && elem expected (Float ∷ Double ∷ [])) || (eqb value Float && eqb expected Double))))
 
--- the element types of two arrays; `whole` is the whole question about them
+-- the element types of two arrays: primitives only where they are equal; `whole` is the whole question about them
 unfoldable pub elementsAssignable : ArgType → ArgType → Bool → Bool
-elementsAssignable (Primitive value) (Primitive expected) whole = eqb value expected
-elementsAssignable (Primitive value) (Object expected) whole = false
-elementsAssignable (Primitive value) (Array expected) whole = false
-elementsAssignable (Primitive value) (Unknown expected) whole = false
-elementsAssignable (Object value) (Primitive expected) whole = false
-elementsAssignable (Object value) (Object expected) whole = whole
-elementsAssignable (Object value) (Array expected) whole = whole
-elementsAssignable (Object value) (Unknown expected) whole = whole
-elementsAssignable (Array value) (Primitive expected) whole = false
-elementsAssignable (Array value) (Object expected) whole = whole
-elementsAssignable (Array value) (Array expected) whole = whole
-elementsAssignable (Array value) (Unknown expected) whole = whole
-elementsAssignable (Unknown value) (Primitive expected) whole = false
-elementsAssignable (Unknown value) (Object expected) whole = whole
-elementsAssignable (Unknown value) (Array expected) whole = whole
-elementsAssignable (Unknown value) (Unknown expected) whole = whole
+elementsAssignable value expected whole =
+    cond (isPrimitive value && isPrimitive expected) (sameType value expected) (cond (isPrimitive value || isPrimitive expected) false whole)
 
 -- what every array is assignable to
 unfoldable pub arrayParent : World → ℕ → Bool
@@ -128,20 +114,10 @@ producerBoundCompatible w produced expected = (isReference produced && isReferen
 
 -- ---- domain_accepts
 
+-- two primitives that are both wide or both not, or two references
 unfoldable pub sameRegisterCategory : ArgType → ArgType → Bool
-sameRegisterCategory (Primitive left) (Primitive right) = cond (wideCategory left) (wideCategory right) (not (wideCategory right))
-sameRegisterCategory (Primitive left) (Object right) = false
-sameRegisterCategory (Primitive left) (Array right) = false
-sameRegisterCategory (Primitive left) (Unknown right) = false
-sameRegisterCategory (Object left) (Primitive right) = false
-sameRegisterCategory (Object left) (Object right) = true
-sameRegisterCategory (Object left) (Array right) = true
-sameRegisterCategory (Object left) (Unknown right) = false
-sameRegisterCategory (Array left) (Primitive right) = false
-sameRegisterCategory (Array left) (Object right) = true
-sameRegisterCategory (Array left) (Array right) = true
-sameRegisterCategory (Array left) (Unknown right) = false
-sameRegisterCategory (Unknown left) right = false
+sameRegisterCategory left right =
+    cond (isPrimitive left && isPrimitive right) (cond (isWide left) (isWide right) (not (isWide right))) (isReference left && isReference right)
 
 unfoldable pub observedAccepts : ArgType → ArgType → Bool
 observedAccepts (Primitive k) candidate = sameType (Primitive k) candidate || sameRegisterCategory (Primitive k) candidate
@@ -193,21 +169,9 @@ abbrev pub classOr : ℕ → Option ℕ → ArgType
 classOr object none = Object object
 classOr object (some c) = Object c
 
--- the element types of two arrays; `whole` is their join
+-- the element types of two arrays that are not equal: Object where one is primitive; `whole` is their join
 unfoldable pub joinElements : ℕ → ArgType → ArgType → ArgType → ArgType
-joinElements object (Primitive left) right whole = Object object
-joinElements object (Object left) (Primitive right) whole = Object object
-joinElements object (Object left) (Object right) whole = Array whole
-joinElements object (Object left) (Array right) whole = Array whole
-joinElements object (Object left) (Unknown right) whole = Array whole
-joinElements object (Array left) (Primitive right) whole = Object object
-joinElements object (Array left) (Object right) whole = Array whole
-joinElements object (Array left) (Array right) whole = Array whole
-joinElements object (Array left) (Unknown right) whole = Array whole
-joinElements object (Unknown left) (Primitive right) whole = Object object
-joinElements object (Unknown left) (Object right) whole = Array whole
-joinElements object (Unknown left) (Array right) whole = Array whole
-joinElements object (Unknown left) (Unknown right) whole = Array whole
+joinElements object left right whole = cond (isPrimitive left || isPrimitive right) (Object object) (Array whole)
 
 -- an array and a class: Object where the class is Object
 unfoldable pub joinArrayClass : World → ArgType → ArgType → ℕ → ArgType
@@ -235,7 +199,7 @@ joinApart w (Unknown cs) (Unknown ds) = orFull (inBoth cs ds)
 unfoldable pub join : World → ArgType → ArgType → ArgType
 join w left right = cond (sameType left right) left (joinApart w left right)
 
--- join_all of a sorted list
+-- join_all of a list that ascends: the Rust sorts first (JoinAll)
 unfoldable pub joinFrom : World → ArgType → List ArgType → ArgType
 joinFrom w left [] = left
 joinFrom w left (right ∷ rest) = joinFrom w (join w left right) rest

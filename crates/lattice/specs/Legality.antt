@@ -1,7 +1,7 @@
 -- RESULTS ARE LEGAL: what a join, a hint and the most specific upper bound give of legal types over a good view is a legal type,
 -- with no more dimensions than the deepest of them. Cycles and parents of Object included.
 use mathlib.Core.Path.{_≡_, refl, sym, ap, _∙_, subst}
-use mathlib.Core.Bool.{Bool, true, false, cond, true≢false}
+use mathlib.Core.Bool.{Bool, true, false, cond, _||_, true≢false}
 use mathlib.Core.List.{List, [], _∷_, List·Memᴰ, List·Memᴰ·head, List·Memᴰ·tail}
 use mathlib.Core.Option.{Option, some, none}
 use Prim.Native.Nat.{ℕ, suc, _≤_, _<_, max}
@@ -9,7 +9,7 @@ use native.Mathlib.Omega.{arith}
 use lib.Dec.{eqb, leb}
 use borrow.Author.Tests.{ltb-true, lt-ltb, leb-true, le-leb}
 use Rattle.order.specs.Truth.{and-left, and-right, and-both}
-use Rattle.ty.specs.Types.{ArgType, Primitive, Object, Array, Unknown, depth, compare, concreteHint}
+use Rattle.ty.specs.Types.{ArgType, Primitive, Object, Array, Unknown, isPrimitive, depth, compare, concreteHint}
 use Rattle.ty.specs.Words.{legalAtBase, legalType}
 use Rattle.ty.specs.Distinct.{distinct-first}
 use Rattle.view.specs.View.{supertype}
@@ -71,19 +71,8 @@ module _ (w : World) (g : Lawful w) where
 
 elements-depth : (object : ℕ) (t u whole : ArgType) → depth (joinElements object t u whole) ≤ suc (depth whole)
 unfolding joinElements depth
-elements-depth object (Primitive k) u whole = omega arith
-elements-depth object (Object c) (Primitive k) whole = omega arith
-elements-depth object (Object c) (Object d) whole = omega arith
-elements-depth object (Object c) (Array u) whole = omega arith
-elements-depth object (Object c) (Unknown ds) whole = omega arith
-elements-depth object (Array t) (Primitive k) whole = omega arith
-elements-depth object (Array t) (Object d) whole = omega arith
-elements-depth object (Array t) (Array u) whole = omega arith
-elements-depth object (Array t) (Unknown ds) whole = omega arith
-elements-depth object (Unknown cs) (Primitive k) whole = omega arith
-elements-depth object (Unknown cs) (Object d) whole = omega arith
-elements-depth object (Unknown cs) (Array u) whole = omega arith
-elements-depth object (Unknown cs) (Unknown ds) whole = omega arith
+elements-depth object t u whole =
+    by-cond (λ (v : ArgType). depth v ≤ suc (depth whole)) (isPrimitive t || isPrimitive u) (Object object) (Array whole) (omega arith) (omega arith)
 
 known-depth : (t : ArgType) (cs : List ℕ) → depth (joinKnown t cs) ≤ depth t
 unfolding joinKnown unknownUnion depth

@@ -14,4 +14,8 @@ pub mod Masks
 pub mod Same
 pub mod Unions
 pub mod JoinTable
+pub mod JoinGrid
+pub mod Registers
+pub mod Kinds
+pub mod JoinAll
 pub mod JoinCases

@@ -6,7 +6,8 @@ use mathlib.Core.Logic.{_⊎_, inl, inr, _↔_}
 use mathlib.Core.Option.{some}
 use Prim.Native.Nat.{ℕ}
 use lib.Dec.{eqb}
-use borrow.Author.Tests.{eq-eqb}
+use borrow.Author.Tests.{eq-eqb, eqb-true}
+use Rattle.order.specs.Truth.{implied-both}
 use Rattle.order.specs.Compare.{isEqual}
 use Rattle.order.specs.declared.Order.{Order}
 use Rattle.order.specs.declared.Order.the-variants.{Less, Equal, Greater}
@@ -39,6 +40,16 @@ same-arrays t u = refl
 same-numbers : (j k : ℕ) → sameType (Primitive j) (Primitive k) ≡ true → j ≡ k
 unfolding sameType compare
 same-numbers j k h = let e = same-exactly (Primitive j) (Primitive k) .0 h in let r : j ≡ k = cc in r
+
+-- equality of two primitives is that of their numbers
+pub same-primitives : (j k : ℕ) → sameType (Primitive j) (Primitive k) ≡ eqb j k
+same-primitives j k =
+    implied-both (sameType (Primitive j) (Primitive k)) (eqb j k) (λ h. eq-eqb j k (same-numbers j k h))
+    (λ h. same-exactly (Primitive j) (Primitive k) .1 (ap Primitive (eqb-true j k h)))
+
+or-itself : (a : Bool) → (a || a) ≡ a
+or-itself true = refl
+or-itself false = refl
 
 -- an equation where the first way is only one of the second's
 or-second : (a b : Bool) → (a ≡ true → b ≡ true) → (a || b) ≡ b
@@ -111,20 +122,8 @@ module _ (w : World) where
   -- ---- two arrays: the whole question one dimension lower, and never to widen a primitive
 
   elements-whole : (t u : ArgType) (whole : Bool) → isPrimitive t ≡ false → isPrimitive u ≡ false → elementsAssignable t u whole ≡ whole
-  unfolding isPrimitive elementsAssignable
-  elements-whole (Primitive j) u whole h i = absurd (true≢false h)
-  elements-whole (Object c) (Primitive k) whole h i = absurd (true≢false i)
-  elements-whole (Object c) (Object d) whole h i = refl
-  elements-whole (Object c) (Array u) whole h i = refl
-  elements-whole (Object c) (Unknown ds) whole h i = refl
-  elements-whole (Array t) (Primitive k) whole h i = absurd (true≢false i)
-  elements-whole (Array t) (Object d) whole h i = refl
-  elements-whole (Array t) (Array u) whole h i = refl
-  elements-whole (Array t) (Unknown ds) whole h i = refl
-  elements-whole (Unknown cs) (Primitive k) whole h i = absurd (true≢false i)
-  elements-whole (Unknown cs) (Object d) whole h i = refl
-  elements-whole (Unknown cs) (Array u) whole h i = refl
-  elements-whole (Unknown cs) (Unknown ds) whole h i = refl
+  unfolding elementsAssignable
+  elements-whole t u whole h i = rw (h, i)
 
   pub assignable-arrays : (t u : ArgType) → isPrimitive t ≡ false → isPrimitive u ≡ false → isAssignable w (Array t) (Array u) ≡ isAssignable w t u
   unfolding isAssignable assignableApart
@@ -133,10 +132,8 @@ module _ (w : World) where
       ∙ or-second (sameType t u) (sameType t u || assignableApart w t u) (λ e. rw e)
 
   pub primitive-arrays : (j k : ℕ) → isAssignable w (Array (Primitive j)) (Array (Primitive k)) ≡ eqb j k
-  unfolding isAssignable assignableApart elementsAssignable
-  primitive-arrays j k =
-      or-second (sameType (Array (Primitive j)) (Array (Primitive k))) (eqb j k)
-      (λ h. eq-eqb j k (same-numbers j k (sym (same-arrays (Primitive j) (Primitive k)) ∙ h)))
+  unfolding isPrimitive isAssignable assignableApart elementsAssignable
+  primitive-arrays j k = ap (λ (b : Bool). b || sameType (Primitive j) (Primitive k)) (same-arrays (Primitive j) (Primitive k)) ∙ or-itself (sameType (Primitive j) (Primitive k)) ∙ same-primitives j k
 
   pub mixed-arrays : (j : ℕ) (u : ArgType) → isPrimitive u ≡ false
       → (isAssignable w (Array (Primitive j)) (Array u) ≡ false) × (isAssignable w (Array u) (Array (Primitive j)) ≡ false)

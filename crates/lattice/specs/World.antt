@@ -1,4 +1,4 @@
--- The world that the class tables give: the view of their slices, and the numbers of Cloneable and Serializable. Assumes nothing.
+-- The world that the class tables give: their view, and the numbers of Cloneable and Serializable. Assumes nothing.
 use mathlib.Core.Path.{_≡_, refl, ap, _∙_}
 use mathlib.Core.Bool.{Bool, true, false, cond}
 use mathlib.Core.List.{List}
@@ -6,13 +6,13 @@ use mathlib.Core.Option.{Option, some, none}
 use Prim.Native.Nat.{ℕ, _-_, _^_, _<_}
 use native.Mathlib.Omega.{arith}
 use lib.Dec.{eqb}
-use Rattle.hierarchy.specs.Table.{viewOf}
+use Rattle.tables.specs.declared.Tables.{Tables}
+use Rattle.tables.specs.Table.{viewOf}
 use Rattle.view.specs.View.{View, relation, supertype}
 use Rattle.view.specs.Reach.{Good}
 use Rattle.view.specs.Ancestors.{ancestor-self, ancestor-object, ancestor-below}
 use Rattle.view.specs.Relations.{relation-yes}
 use Rattle.view.specs.Supertype.{supertype-least}
-use Rattle.lattice.specs.declared.Numbers.{Numbers}
 use Rattle.lattice.specs.Lattice.{World, Lawful, isNumber}
 
 -- a number, where it is not all ones
@@ -35,5 +35,6 @@ with-lawful v cloneable serializable g = record {
       (ancestor-below v g c e l (w .0), relation-yes v c e .1 (w .0), relation-yes v d e .1 (w .1));
 }
 
-abbrev pub worldOf : List ℕ → List ℕ → Numbers → World
-worldOf pairs marks n = worldWith (viewOf pairs marks (n .classes)) (present (n .cloneable)) (present (n .serializable))
+-- THE WORLD of the tables
+abbrev pub worldOf : List ℕ → List ℕ → Tables → World
+worldOf pairs marks t = worldWith (viewOf pairs marks t) (present (t .cloneable)) (present (t .serializable))

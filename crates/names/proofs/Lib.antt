@@ -1,4 +1,3 @@
--- The comparison past equal bytes, the invariant of the search, and what is proved of the generated contracts.
-pub mod Block
+-- The invariant of the search, and what is proved of the generated contracts.
 pub mod Bracket
 pub mod Unique

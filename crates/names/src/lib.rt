@@ -1,14 +1,33 @@
-// Names of classes as places in a byte slice: their order, their checks, and the number of a name.
+// Names of classes as places in a byte slice: their checks, and the number of a name.
+use nameorder::compare_names;
+use nameorder::is_not_above;
 use order::Order;
 use utf8::is_well_formed;
 ghost use mathlib.Core.Path.{_≡_};
-ghost use mathlib.Core.Bool.{not, _&&_, _||_};
-ghost use Prim.Native.Nat.{_+_, _-_, _≤_, min};
+ghost use mathlib.Core.Bool.{_||_};
+ghost use Prim.Native.Nat.{_+_, _-_, _≤_};
 ghost use lib.Dec.{leb, ltb};
-ghost use lib.ListN.{length, drop};
-ghost use lib.Seq.{slice};
-ghost use Rattle.order.specs.Compare.{compareNumbers, compareLists, isLess, isEqual};
+ghost use lib.ListN.{length};
+ghost use Rattle.order.specs.Compare.{compareLists};
 ghost use Rattle.names.specs.Names.{placeGood, nameOf, checkName, checkRow, checkNames, found, lookup, lookUp};
+
+// Refusals.
+const LENGTH: u64 = 3;
+
+const NAME_ORDER: u64 = 5;
+
+const ROOM: u64 = 8;
+
+const UTF8: u64 = 10;
+
+const ABSENT: u64 = 23;
+
+// How many bytes a name has at most, how many names a table, and how many bytes they have together.
+const NAME_BYTES: u64 = 255;
+
+const NAMES: u64 = 1024;
+
+const ALL_BYTES: u64 = 24576;
 
 // The class number of a name, or a refusal.
 pub struct LookedUp {
@@ -16,114 +35,17 @@ pub struct LookedUp {
     pub class_no: u64,
 }
 
-fn compare_numbers(a: u64, b: u64) -> Order
-    ensures { λ r. ⌜ r ≡ compareNumbers a b ⌝ }
-{
-    if a < b {
-        return Order::Less;
-    }
-    if b < a {
-        return Order::Greater;
-    }
-    Order::Equal
-}
-
-fn wide(byte: u8) -> u64
-    ensures { λ r. ⌜ r ≡ byte ⌝ }
-{
-    byte as u64
-}
-
-fn smaller(a: usize, b: usize) -> usize
-    ensures { λ r. ⌜ r ≡ min a b ⌝ }
-{
-    if a < b {
-        return a;
-    }
-    b
-}
-
-// How two names stand to each other: byte by byte, a prefix first.
-pub fn compare_names(a: &[u8], b: &[u8]) -> Order
-    ensures { λ r. ⌜ r ≡ compareLists (now (a .entry)) (now (b .entry)) ⌝ }
-{
-    let n = smaller(a.len(), b.len());
-    let mut i: usize = 0;
-    while i < n {
-        if a[i] != b[i] {
-            return compare_numbers(wide(a[i]), wide(b[i]));
-        }
-        i += 1;
-    }
-    compare_numbers(a.len() as u64, b.len() as u64)
-}
-
-// Whether the names differ in the eight bytes from i on. None ends the loop early, so that the machine compares them at once.
-fn differ_in_block(a: &[u8], b: &[u8], i: usize) -> bool
-    requires { ⌜ (i + 8 ≤ length (now a)) × (i + 8 ≤ length (now b)) ⌝ }
-    ensures { λ r. ⌜ r ≡ not (isEqual (compareLists (slice i (i + 8) (now (a .entry))) (slice i (i + 8) (now (b .entry))))) ⌝ }
-{
-    let mut differ = false;
-    let mut k = 0;
-    while k < 8 {
-        if a[i + k] != b[i + k] {
-            differ = true;
-        }
-        k += 1;
-    }
-    differ
-}
-
-// Passes blocks of eight bytes in which the names are the same: they stand to each other as what is left of them does.
-fn skip_same(a: &[u8], b: &[u8], n: usize) -> usize
-    requires { ⌜ (n ≤ length (now a)) × (n ≤ length (now b)) ⌝ }
-    ensures { λ r. ⌜ (r ≤ n)
-        × (compareLists (now (a .entry)) (now (b .entry)) ≡ compareLists (drop r (now (a .entry))) (drop r (now (b .entry)))) ⌝ }
-{
-    let mut i: usize = 0;
-    while 8 <= n - i {
-        if differ_in_block(a, b, i) {
-            return i;
-        }
-        i += 8;
-    }
-    i
-}
-
-// Whether the name is not above the last of `count`, byte by byte.
-fn rest_is_not_above(last: &[u8], name: &[u8], count: u64) -> bool
-    ensures { λ r. ⌜ r ≡ (ltb 0 count && not (isLess (compareLists (now (last .entry)) (now (name .entry))))) ⌝ }
-{
-    if count == 0 {
-        return false;
-    }
-    let o = compare_names(last, name);
-    match o {
-        Order::Less => false,
-        Order::Equal => true,
-        Order::Greater => true,
-    }
-}
-
-// The same, past what the two have in common: names of a table often begin alike.
-fn is_not_above(last: &[u8], name: &[u8], count: u64) -> bool
-    ensures { λ r. ⌜ r ≡ (ltb 0 count && not (isLess (compareLists (now (last .entry)) (now (name .entry))))) ⌝ }
-{
-    let i = skip_same(last, name, smaller(last.len(), name.len()));
-    rest_is_not_above(&last[i..], &name[i..], count)
-}
-
 // Whether there is no room for one more name of that length.
 fn is_full(length: u64, count: u64, total: u64) -> bool
     ensures { λ r. ⌜ r ≡ (leb 1024 count || ltb 24576 (total + length)) ⌝ }
 {
-    if 1024 <= count {
+    if NAMES <= count {
         return true;
     }
-    if 24576 < total {
+    if ALL_BYTES < total {
         return true;
     }
-    24576 - total < length
+    ALL_BYTES - total < length
 }
 
 // The refusal of a name after `count` others that have `total` bytes, the last of them `last`; 0 where there is none.
@@ -132,19 +54,19 @@ pub fn check_name(last: &[u8], name: &[u8], count: u64, total: u64) -> u64
 {
     let n = name.len();
     if n == 0 {
-        return 3;
+        return LENGTH;
     }
-    if 255 < n {
-        return 3;
+    if NAME_BYTES < n as u64 {
+        return LENGTH;
     }
     if !is_well_formed(name, 0, n) {
-        return 10;
+        return UTF8;
     }
     if is_not_above(last, name, count) {
-        return 5;
+        return NAME_ORDER;
     }
     if is_full(n as u64, count, total) {
-        return 8;
+        return ROOM;
     }
     0
 }
@@ -156,7 +78,7 @@ fn is_place(size: u64, at: u64, len: u64) -> bool
     if len == 0 {
         return false;
     }
-    if 255 < len {
+    if NAME_BYTES < len {
         return false;
     }
     if size < at {
@@ -171,7 +93,7 @@ fn check_row(names: &[u8], last: u64, span: u64, at: u64, len: u64, count: u64, 
     ensures { λ r. ⌜ r ≡ checkRow (now (names .entry)) at len (nameOf (now (names .entry)) last span) count total ⌝ }
 {
     if !is_place(names.len() as u64, at, len) {
-        return 3;
+        return LENGTH;
     }
     let from = last as usize;
     let to = from + span as usize;
@@ -185,7 +107,7 @@ pub fn check_names(names: &[u8], ats: &[u64], lens: &[u64]) -> u64
     ensures { λ r. ⌜ r ≡ checkNames (now (names .entry)) (now (ats .entry)) (now (lens .entry)) ⌝ }
 {
     if ats.len() != lens.len() {
-        return 3;
+        return LENGTH;
     }
     let mut last: u64 = 0;
     let mut span: u64 = 0;
@@ -217,7 +139,7 @@ fn compare_at(names: &[u8], at: u64, len: u64, key: &[u8]) -> Order
 }
 
 // The number of the key among checked names, by halving.
-pub fn search(names: &[u8], ats: &[u64], lens: &[u64], key: &[u8]) -> LookedUp
+fn search(names: &[u8], ats: &[u64], lens: &[u64], key: &[u8]) -> LookedUp
     requires { ⌜ checkNames (now names) (now ats) (now lens) ≡ 0 ⌝ }
     ensures { λ r. ⌜ r ≡ found (lookup (now (names .entry)) (now (ats .entry)) (now (lens .entry)) (now (key .entry))) ⌝ }
 {
@@ -242,7 +164,7 @@ pub fn search(names: &[u8], ats: &[u64], lens: &[u64], key: &[u8]) -> LookedUp
         }
     }
     LookedUp {
-        refusal: 23,
+        refusal: ABSENT,
         class_no: 0,
     }
 }

@@ -1,7 +1,7 @@
 -- WHAT A QUESTION THAT IS NOT REFUSED GIVES: all that the laws of a view, of a world and of types ask, of the rows that the columns hold.
 -- Assumes nothing.
 use mathlib.Core.Path.{_≡_, refl, ap, _∙_, sym, subst}
-use mathlib.Core.Bool.{Bool, true, false, cond, not, _&&_}
+use mathlib.Core.Bool.{Bool, true, false, cond, not}
 use mathlib.Core.List.{List, [], _∷_}
 use Prim.Native.Nat.{ℕ, _-_, _^_, _<_}
 use native.Mathlib.Omega.{arith}
@@ -11,13 +11,13 @@ use Rattle.checks.specs.Checks.{firstRefusal}
 use Rattle.ty.specs.Words.{legalWord}
 use Rattle.view.specs.View.{View}
 use Rattle.view.specs.Reach.{Good}
-use Rattle.hierarchy.specs.Table.{view-good}
+use Rattle.tables.specs.Table.{view-good}
 use Rattle.lattice.specs.Lattice.{Lawful}
 use Rattle.lattice.specs.World.{with-lawful}
 use Rattle.columns.specs.Given.{Given, even, table}
 use Rattle.columns.specs.GivenLaws.{good-in, object-known}
-use Rattle.tableview.specs.TableRows.{indexOf, rowsView, rowsWorld, rowsIn}
-use Rattle.tableview.specs.Inner.{classesOf, viewIn}
+use Rattle.tableview.specs.TableRows.{rowsView, rowsWorld, rowsIn}
+use Rattle.tableview.specs.Inner.{viewIn}
 use Rattle.tableview.specs.Agrees.{view-rows}
 use Rattle.questions.specs.declared.Question.{Question}
 use Rattle.questions.specs.declared.Question.the-variants.{Relation}
@@ -74,7 +74,7 @@ good-rows g e z n =
     let same = view-rows g e z in
     let s = table g .state in
     subst Good same
-    (view-good (s .keys) (s .marks) (classesOf (s .tables)) (good-in g .few) (object-known g (λ q. n (sym (ap (λ (v : View). v .object) same) ∙ q))))
+    (view-good (s .keys) (s .marks) (s .tables) (good-in g .few) (object-known g (λ q. n (sym (ap (λ (v : View). v .object) same) ∙ q))))
 
 numbers-are : (types : Bool) (names a b : ℕ) → goodNumbers types names (a ∷ b ∷ []) ≡ true → NumbersIn types names a b
 numbers-are false names a b h = are-classes names a b false refl h

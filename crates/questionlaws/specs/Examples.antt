@@ -12,7 +12,7 @@ use Rattle.sorted.specs.Sorted.{insertSorted, put}
 use Rattle.checks.specs.Checks.{firstRefusal}
 use Rattle.ty.specs.Types.{arrays, compare, categories}
 use Rattle.ty.specs.Words.{unpack, pack, listOf, goodDigits, goodUnknown, baseOf, typeOf, wordOf, legalBase, legalWord, allLegal}
-use Rattle.names.specs.Names.{nameChecks, checkName, nameOf}
+use Rattle.names.specs.Names.{nameChecks, checkName}
 use Rattle.view.specs.View.{insertAll, withParents, grow, level, reached, reach, steps, distance, numberOf, ancestor, allRecorded, complete, relation, relationNumber, castByFacts, cast, common, below, anyBelow, lowest, nearer, nearest, numbers, candidates, supertype}
 use Rattle.lattice.specs.Lattice.{sameType, hasAll, unknownAccepts, inEither, unknownUnion, primitiveAssignable, assignableApart, isAssignable, narrow, underDouble, joinPrimitive, joinKnown, joinApart, join, arrayParent, joinArrayClass}
 use Rattle.rows.specs.Rows.{objectName, cloneableName, serializableName, noTables, noted, withName, nameRow, goodFlags, allBelow, putAll, marked, recordMarks, recordChecks, recordRefusal, withRecord, recordRow}

@@ -1,5 +1,5 @@
 -- 22 comes back exactly if the work is too short: no row is refused with that number. Assumes nothing.
-use mathlib.Core.Path.{_≡_, refl, sym, ap, _∙_}
+use mathlib.Core.Path.{_≡_, refl}
 use mathlib.Core.Bool.{Bool, true, false, cond, not, _&&_, _||_}
 use mathlib.Core.List.{List, [], _∷_}
 use mathlib.Core.Logic.{_↔_}
@@ -7,13 +7,13 @@ use Prim.Native.Nat.{ℕ, _+_, _<_}
 use native.Mathlib.Omega.{arith}
 use lib.Dec.{eqb, leb, ltb}
 use lib.ListN.{length, take, drop, replicate}
-use borrow.Author.Tests.{lt-ltb, le-ltb, ltb-true, ltb-false, ne-eqb}
+use borrow.Author.Tests.{lt-ltb, ltb-true, ne-eqb}
 use Rattle.order.specs.Compare.{compareLists, isLess}
 use Rattle.utf8.specs.Utf8.{wellFormed}
 use Rattle.checks.specs.Checks as checks
 use Rattle.checks.specs.Checks.{quiet, free, first-is}
 use Rattle.names.specs.Names.{nameOf, nameChecks, checkName}
-use Rattle.rows.specs.declared.Tables.{Tables}
+use Rattle.tables.specs.declared.Tables.{Tables}
 use Rattle.rows.specs.declared.Outcome.{Outcome}
 use Rattle.rows.specs.Rows.{noTables, nameRow, goodFlags, allBelow, putAll, State, recordChecks, recordRefusal, Ran, recordRan}
 use Rattle.columns.specs.Columns.{inside, placedName, nameRows, placedRecord, recordRows, tableOf}

@@ -3,22 +3,21 @@
 use mathlib.Core.Path.{_≡_}
 use mathlib.Core.Bool.{Bool, true, false, cond, not}
 use mathlib.Core.List.{List, [], _∷_}
-use Prim.Native.Nat.{ℕ, _-_, _^_, _≤_, _<_}
+use Prim.Native.Nat.{ℕ, _-_, _^_}
 use lib.Dec.{eqb}
 use lib.ListN.{length, replicate}
 use Rattle.checks.specs.Checks.{Check, check, firstRefusal}
 use Rattle.view.specs.View.{ancestors}
-use Rattle.hierarchy.specs.Table.{viewOf}
-use Rattle.lattice.specs.declared.Numbers.{Numbers}
+use Rattle.tables.specs.declared.Tables.{Tables}
+use Rattle.tables.specs.Table.{marksRoom, viewOf}
 use Rattle.lattice.specs.World.{worldOf}
 use Rattle.joins.specs.Joins.{Fits}
-use Rattle.rows.specs.declared.Tables.{Tables}
+use Rattle.rows.specs.declared.Outcome.{Outcome}
 use Rattle.columns.specs.Given.{Given}
 use Rattle.tableview.specs.TableRows.{rowsView, rowsWorld, rowsIn}
 use Rattle.questions.specs.declared.Question.{Question}
 use Rattle.questions.specs.declared.Answer.{Answer}
 use Rattle.questions.specs.declared.Ancestors.{Ancestors}
-use Rattle.questions.specs.declared.Opened.{Opened}
 use Rattle.questions.specs.Questions.{ofTypes, goodNumbers, tableChecks, valueOf, answered, gathered}
 
 -- the checks after the rows: their own, the numbers', that of Object
@@ -40,14 +39,14 @@ abbrev pub noAncestors : ℕ → Ancestors
 noAncestors refusal = record { refusal = refusal; count = 0; lowest = 0; set = record { words = replicate 16 0 } }
 
 -- the slices hold the view and the world of the rows, and both numbers are classes, or types
-pub record Ready (g : Given) (types : Bool) (a b : ℕ) (pairs marks : List ℕ) (n : Numbers) : Type 0 where
-  pub view-is : viewOf pairs marks (n .classes) ≡ rowsView (rowsIn g)
-  pub world-is : worldOf pairs marks n ≡ rowsWorld (rowsIn g)
-  pub wide : length marks ≡ 64
-  pub fits : Fits n
-  pub numbers-in : goodNumbers types (n .classes .names) (a ∷ b ∷ []) ≡ true
+pub record Ready (g : Given) (types : Bool) (a b : ℕ) (pairs marks : List ℕ) (t : Tables) : Type 0 where
+  pub view-is : viewOf pairs marks t ≡ rowsView (rowsIn g)
+  pub world-is : worldOf pairs marks t ≡ rowsWorld (rowsIn g)
+  pub wide : length marks ≡ marksRoom
+  pub fits : Fits t
+  pub numbers-in : goodNumbers types (t .names) (a ∷ b ∷ []) ≡ true
 
 -- the refusal, and where there is none the slices are ready
-pub record Opens (g : Given) (types : Bool) (a b : ℕ) (pairs marks : List ℕ) (r : Opened) : Type 0 where
+pub record Opens (g : Given) (types : Bool) (a b : ℕ) (pairs marks : List ℕ) (r : Outcome) : Type 0 where
   pub refusal-is : r .refusal ≡ firstRefusal (tableChecks g types (a ∷ b ∷ []))
-  pub ready : r .refusal ≡ 0 → Ready g types a b pairs marks (r .numbers)
+  pub ready : r .refusal ≡ 0 → Ready g types a b pairs marks (r .tables)

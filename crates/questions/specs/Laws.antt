@@ -10,33 +10,28 @@ use lib.ListN.{length, replicate}
 use lib.Seq.{take-all}
 use borrow.Author.Tests.{eq-eqb, ne-eqb, lt-ltb, le-ltb, eqb-true, eqb-false, ltb-true}
 use Rattle.order.specs.Truth.{both}
-use Rattle.checks.specs.Checks.{check, firstRefusal, first-hit, first-miss}
+use Rattle.checks.specs.Checks.{firstRefusal, first-hit, first-miss}
 use Rattle.ty.specs.Words.{legalWord, typeOf, wordOf, Legal, allLegal}
 use Rattle.ty.specs.Round.{legal-more}
 use Rattle.view.specs.declared.Relation as declared
 use Rattle.view.specs.View.{View, relation, relationNumber, distance, numberOf, ancestors, supertype, cast}
-use Rattle.hierarchy.specs.Table.{parentsOf, viewOf, parentView}
-use Rattle.hierarchy.specs.Marks.{ancestors-marks, distance-marks, supertype-marks}
-use Rattle.lattice.specs.declared.Numbers.{Numbers}
+use Rattle.tables.specs.declared.Tables.{Tables}
+use Rattle.tables.specs.Table.{parentsOf, viewOf}
 use Rattle.lattice.specs.Lattice.{World, join, isAssignable}
 use Rattle.lattice.specs.World.{present, worldWith, worldOf}
-use Rattle.joins.specs.Joins.{parentWorld}
-use Rattle.joins.specs.NoMarks.{join-marks}
-use Rattle.rows.specs.declared.Tables.{Tables}
 use Rattle.rows.specs.declared.Outcome.{Outcome}
 use Rattle.rows.specs.Rows.{noTables, allBelow, Ran, Fills}
 use Rattle.rows.specs.Keys.{take-filled}
 use Rattle.columns.specs.Columns.{nameRows, tableOf}
-use Rattle.columns.specs.Given.{Given, evenLengths, even, noMarks, table, unevenTable, checkedTable}
+use Rattle.columns.specs.Given.{Given, evenLengths, even, noMarks, table, checkedTable}
 use Rattle.columns.specs.GivenLaws.{checked-even, checked-uneven, good-in, object-known}
 use Rattle.tableview.specs.TableRows.{rowsView, rowsWorld, rowsIn}
-use Rattle.tableview.specs.Inner.{classesOf, numbersOf, viewIn, worldIn}
+use Rattle.tableview.specs.Inner.{viewIn, worldIn}
 use Rattle.tableview.specs.Agrees.{view-rows, world-rows}
 use Rattle.questions.specs.declared.Question.{Question}
 use Rattle.questions.specs.declared.Question.the-variants.{Relation, Distance, Supertype, Cast, Join, Assignable}
 use Rattle.questions.specs.declared.Answer.{Answer}
 use Rattle.questions.specs.declared.Ancestors.{Ancestors}
-use Rattle.questions.specs.declared.Opened.{Opened}
 use Rattle.questions.specs.Questions.{ofTypes, goodNumbers, tableChecks, refusalOf, valueOf, answered, gathered, answerOf, ancestorsOf, workAfter, Asked, Gathers}
 use Rattle.questions.specs.Inside.{ranChecks, tableAnswer, tableAncestors, noAncestors, Ready, Opens}
 
@@ -181,26 +176,26 @@ checks-ran g types numbers = go (even g) refl (eqb (table g .refusal) 0) refl
 -- ---- the slices hold the view and the world
 
 module _ (g : Given) (pairs pairs′ marks′ : List ℕ) (o : Outcome) (f : Fills (table g) pairs pairs′ marks′ o) where
-  view-filled : viewOf pairs′ marks′ (classesOf (o .tables)) ≡ viewIn g
+  view-filled : viewOf pairs′ marks′ (o .tables) ≡ viewIn g
   unfolding viewIn
   view-filled =
       let s = table g .state in
       let n = good-in g .counted in
-      ap (λ (u : Outcome). viewOf pairs′ marks′ (classesOf (u .tables))) (f .outcome-is)
-      ∙ ap₂ (λ (p m : List ℕ). viewOf p m (classesOf (s .tables))) (f .pairs-are) (f .marks-are)
+      ap (λ (u : Outcome). viewOf pairs′ marks′ (u .tables)) (f .outcome-is)
+      ∙ ap₂ (λ (p m : List ℕ). viewOf p m (s .tables)) (f .pairs-are) (f .marks-are)
       ∙ ap (λ (k : List ℕ). record { names = s .tables .names; object = s .tables .object; recorded = viewIn g .recorded; parents = parentsOf (s .tables .names) k; declared = viewIn g .declared; interface = viewIn g .interface; final = viewIn g .final })
       (take-filled (s .keys) pairs (s .tables .pairs) n ∙ sym (take-all (s .tables .pairs) (s .keys) (omega arith)))
 
   worldBy : View → Tables → World
   worldBy v t = worldWith v (present (t .cloneable)) (present (t .serializable))
 
-  world-filled : worldOf pairs′ marks′ (numbersOf (o .tables)) ≡ worldIn g
+  world-filled : worldOf pairs′ marks′ (o .tables) ≡ worldIn g
   unfolding worldIn viewIn worldBy
   world-filled = ap₂ worldBy view-filled (ap (λ (u : Outcome). u .tables) (f .outcome-is))
 
 -- AN OPENED TABLE IS READY where nothing is refused
-module _ (g : Given) (types : Bool) (a b : ℕ) (pairs pairs′ marks′ : List ℕ) (o : Outcome) (f : Fills (checkedTable g) pairs pairs′ marks′ o) (r : Opened)
-    (e : r .refusal ≡ firstRefusal (ranChecks (o .refusal) (o .tables) types (a ∷ b ∷ []))) (k : r .numbers ≡ numbersOf (o .tables)) where
+module _ (g : Given) (types : Bool) (a b : ℕ) (pairs pairs′ marks′ : List ℕ) (o : Outcome) (f : Fills (checkedTable g) pairs pairs′ marks′ o) (r : Outcome)
+    (e : r .refusal ≡ firstRefusal (ranChecks (o .refusal) (o .tables) types (a ∷ b ∷ []))) (k : r .tables ≡ o .tables) where
   is-even : o .refusal ≡ 0 → even g ≡ true
   is-even z = go (even g) refl
     where
@@ -208,7 +203,7 @@ module _ (g : Given) (types : Bool) (a b : ℕ) (pairs pairs′ marks′ : List 
       go true q = refl
       go false q = absurd (let w = sym (ap (λ (u : Ran). u .refusal) (checked-uneven g q)) ∙ sym (ap (λ (u : Outcome). u .refusal) (f .outcome-is)) ∙ z in omega arith)
 
-  ready : r .refusal ≡ 0 → Ready g types a b pairs′ marks′ (r .numbers)
+  ready : r .refusal ≡ 0 → Ready g types a b pairs′ marks′ (r .tables)
   ready z =
       let p = passed (o .refusal) (o .tables) types (a ∷ b ∷ []) (sym e ∙ z) in
       let ev = is-even (p .taken) in
@@ -234,34 +229,34 @@ module _ (g : Given) (types : Bool) (a b : ℕ) (pairs pairs′ marks′ : List 
 
 -- ---- what is asked, by what the crates below answer over the slices
 
-module _ (pairs marks : List ℕ) (n : Numbers) (q : Question) (a b x : ℕ) where
-  pub value-relation : q ≡ Relation → (r : declared.Relation) → x ≡ relationNumber r → r ≡ relation (viewOf pairs marks (n .classes)) a b
-      → x ≡ valueOf (viewOf pairs marks (n .classes)) (worldOf pairs marks n) q a b
+module _ (pairs marks : List ℕ) (t : Tables) (q : Question) (a b x : ℕ) where
+  pub value-relation : q ≡ Relation → (r : declared.Relation) → x ≡ relationNumber r → r ≡ relation (viewOf pairs marks t) a b
+      → x ≡ valueOf (viewOf pairs marks t) (worldOf pairs marks t) q a b
   unfolding valueOf
   value-relation k r e d = rw k (e ∙ ap relationNumber d)
 
-  pub value-distance : q ≡ Distance → x ≡ numberOf (distance (parentView pairs (n .classes)) a b)
-      → x ≡ valueOf (viewOf pairs marks (n .classes)) (worldOf pairs marks n) q a b
+  pub value-distance : q ≡ Distance → x ≡ numberOf (distance (viewOf pairs marks t) a b)
+      → x ≡ valueOf (viewOf pairs marks t) (worldOf pairs marks t) q a b
   unfolding valueOf
-  value-distance k e = rw k (e ∙ ap numberOf (sym (distance-marks pairs marks (n .classes) a b)))
+  value-distance k e = rw k e
 
-  pub value-supertype : q ≡ Supertype → x ≡ numberOf (supertype (parentView pairs (n .classes)) a b)
-      → x ≡ valueOf (viewOf pairs marks (n .classes)) (worldOf pairs marks n) q a b
+  pub value-supertype : q ≡ Supertype → x ≡ numberOf (supertype (viewOf pairs marks t) a b)
+      → x ≡ valueOf (viewOf pairs marks t) (worldOf pairs marks t) q a b
   unfolding valueOf
-  value-supertype k e = rw k (e ∙ ap numberOf (sym (supertype-marks pairs marks (n .classes) a b)))
+  value-supertype k e = rw k e
 
-  pub value-cast : q ≡ Cast → (r : Bool) → x ≡ cond r 1 0 → r ≡ cast (viewOf pairs marks (n .classes)) a b
-      → x ≡ valueOf (viewOf pairs marks (n .classes)) (worldOf pairs marks n) q a b
+  pub value-cast : q ≡ Cast → (r : Bool) → x ≡ cond r 1 0 → r ≡ cast (viewOf pairs marks t) a b
+      → x ≡ valueOf (viewOf pairs marks t) (worldOf pairs marks t) q a b
   unfolding valueOf
   value-cast k r e d = rw k (e ∙ ap (λ (c : Bool). cond c 1 0) d)
 
-  pub value-join : q ≡ Join → x ≡ wordOf (join (parentWorld pairs n) (typeOf a) (typeOf b))
-      → x ≡ valueOf (viewOf pairs marks (n .classes)) (worldOf pairs marks n) q a b
+  pub value-join : q ≡ Join → x ≡ wordOf (join (worldOf pairs marks t) (typeOf a) (typeOf b))
+      → x ≡ valueOf (viewOf pairs marks t) (worldOf pairs marks t) q a b
   unfolding valueOf
-  value-join k e = rw k (e ∙ ap wordOf (sym (join-marks pairs marks n (typeOf a) (typeOf b))))
+  value-join k e = rw k e
 
-  pub value-assignable : q ≡ Assignable → (r : Bool) → x ≡ cond r 1 0 → r ≡ isAssignable (worldOf pairs marks n) (typeOf a) (typeOf b)
-      → x ≡ valueOf (viewOf pairs marks (n .classes)) (worldOf pairs marks n) q a b
+  pub value-assignable : q ≡ Assignable → (r : Bool) → x ≡ cond r 1 0 → r ≡ isAssignable (worldOf pairs marks t) (typeOf a) (typeOf b)
+      → x ≡ valueOf (viewOf pairs marks t) (worldOf pairs marks t) q a b
   unfolding valueOf
   value-assignable k r e d = rw k (e ∙ ap (λ (c : Bool). cond c 1 0) d)
 
@@ -288,7 +283,7 @@ module _ (k c : ℕ) (e : k ≡ c) where
   pub gathered-all : (x words : List ℕ) → k ≡ 0 → x ≡ words → gathered 0 x ≡ gathered c words
   gathered-all x words z w = rw (← e, z, w)
 
-module _ (g : Given) (q : Question) (types : Bool) (t : types ≡ ofTypes q) (a b : ℕ) (pairs marks : List ℕ) (o : Opened) (p : Opens g types a b pairs marks o) where
+module _ (g : Given) (q : Question) (types : Bool) (t : types ≡ ofTypes q) (a b : ℕ) (pairs marks : List ℕ) (o : Outcome) (p : Opens g types a b pairs marks o) where
   refusal-asked : o .refusal ≡ firstRefusal (tableChecks g (ofTypes q) (a ∷ b ∷ []))
   refusal-asked = p .refusal-is ∙ ap (λ (y : Bool). firstRefusal (tableChecks g y (a ∷ b ∷ []))) t
 
@@ -297,10 +292,10 @@ module _ (g : Given) (q : Question) (types : Bool) (t : types ≡ ofTypes q) (a 
   asked-none n = answered-none (o .refusal) _ refusal-asked (valueOf (rowsView (rowsIn g)) (rowsWorld (rowsIn g)) q a b) n
 
   module _ (z : o .refusal ≡ 0) where
-    pub numbers-asked : goodNumbers (ofTypes q) (o .numbers .classes .names) (a ∷ b ∷ []) ≡ true
-    numbers-asked = subst (λ (y : Bool). goodNumbers y (o .numbers .classes .names) (a ∷ b ∷ []) ≡ true) t (p .ready z .numbers-in)
+    pub numbers-asked : goodNumbers (ofTypes q) (o .tables .names) (a ∷ b ∷ []) ≡ true
+    numbers-asked = subst (λ (y : Bool). goodNumbers y (o .tables .names) (a ∷ b ∷ []) ≡ true) t (p .ready z .numbers-in)
 
-    pub asked-value : (x : ℕ) → x ≡ valueOf (viewOf pairs marks (o .numbers .classes)) (worldOf pairs marks (o .numbers)) q a b
+    pub asked-value : (x : ℕ) → x ≡ valueOf (viewOf pairs marks (o .tables)) (worldOf pairs marks (o .tables)) q a b
         → record { refusal = 0; value = x } ≡ tableAnswer g q a b
     unfolding tableAnswer
     asked-value x e =
@@ -308,17 +303,17 @@ module _ (g : Given) (q : Question) (types : Bool) (t : types ≡ ofTypes q) (a 
         answered-value (o .refusal) _ refusal-asked x (valueOf (rowsView (rowsIn g)) (rowsWorld (rowsIn g)) q a b) z
         (e ∙ ap₂ (λ (y : View) (u : World). valueOf y u q a b) (r .view-is) (r .world-is))
 
-module _ (g : Given) (class : ℕ) (pairs marks : List ℕ) (o : Opened) (p : Opens g false class class pairs marks o) where
+module _ (g : Given) (class : ℕ) (pairs marks : List ℕ) (o : Outcome) (p : Opens g false class class pairs marks o) where
   pub ancestors-none : (r : Ancestors) → r ≡ noAncestors (o .refusal) → (o .refusal ≡ 0 → ⊥) → r ≡ tableAncestors g class
   unfolding tableAncestors
   ancestors-none r e n = e ∙ gathered-none (o .refusal) _ (p .refusal-is ∙ checks-once g class) (ancestors (rowsView (rowsIn g)) class) n
 
   pub ancestors-all : (words : List ℕ) (r : Ancestors) → r ≡ gathered 0 words → o .refusal ≡ 0
-      → words ≡ ancestors (parentView pairs (o .numbers .classes)) class → r ≡ tableAncestors g class
+      → words ≡ ancestors (viewOf pairs marks (o .tables)) class → r ≡ tableAncestors g class
   unfolding tableAncestors
   ancestors-all words r e z w =
       e ∙ gathered-all (o .refusal) _ (p .refusal-is ∙ checks-once g class) words (ancestors (rowsView (rowsIn g)) class) z
-      (w ∙ sym (ancestors-marks pairs marks (o .numbers .classes) class) ∙ ap (λ (y : View). ancestors y class) (p .ready z .view-is))
+      (w ∙ ap (λ (y : View). ancestors y class) (p .ready z .view-is))
 
 -- ---- the work
 

@@ -1,10 +1,10 @@
 // Questions over slices: the class table is built from its columns in local arrays, the two numbers are checked over its names, and the
 // question is put to the crate that answers it. The work that a caller lends holds nothing in between and is zero afterwards.
-use hierarchy::Classes;
-use lattice::Numbers;
 use rows::Outcome;
-use rows::Tables;
 use sets::Set;
+use tables::MARKS;
+use tables::PAIRS;
+use tables::Tables;
 use ty::Decoded;
 use ty::TypeWord;
 use ty::decode;
@@ -16,12 +16,11 @@ ghost use lib.ListN.{length, replicate};
 ghost use Rattle.checks.specs.Checks.{firstRefusal};
 ghost use Rattle.ty.specs.Words.{legalWord, allLegal};
 ghost use Rattle.view.specs.View.{relationNumber};
-ghost use Rattle.hierarchy.specs.Table.{viewOf};
+ghost use Rattle.tables.specs.Table.{pairsRoom, marksRoom, viewOf};
 ghost use Rattle.lattice.specs.World.{worldOf};
 ghost use Rattle.joins.specs.Joins.{Fits};
 ghost use Rattle.rows.specs.Rows.{noTables, allBelow, Fills};
 ghost use Rattle.columns.specs.Given.{given, evenLengths, noMarks, checkedTable};
-ghost use Rattle.tableview.specs.Inner.{numbersOf};
 ghost use Rattle.questions.specs.Questions.{ofTypes, goodNumbers, valueOf, gathered, Asked, Gathers};
 ghost use Rattle.questions.specs.Inside.{ranChecks, tableAnswer, tableAncestors, noAncestors, Opens};
 
@@ -108,7 +107,7 @@ fn build_table(
     pairs: &mut [u64],
     marks: &mut [u64],
 ) -> Outcome
-    requires { ⌜ (length (now pairs) ≡ 4096) × (now marks ≡ noMarks) ⌝ }
+    requires { ⌜ (length (now pairs) ≡ pairsRoom) × (now marks ≡ noMarks) ⌝ }
     ensures { λ r. ⌜ Fills (checkedTable (given (now (names .entry)) (now («name_at» .entry)) (now («name_len» .entry)) (now («rec_flags» .entry)) (now («rec_class» .entry)) (now («rec_at» .entry)) (now («rec_len» .entry)) (now (parents .entry)))) (now (pairs .entry)) (now (pairs .exit)) (now (marks .exit)) r ⌝ }
 {
     if is_even(
@@ -208,30 +207,15 @@ fn check_numbers(o: Outcome, types: bool, a: u64, b: u64) -> u64
     6
 }
 
-// What a table was opened as: its refusal, or 0 and its numbers.
-struct Opened {
-    refusal: u64,
-    numbers: Numbers,
-}
-
-fn with_checks(o: Outcome, types: bool, a: u64, b: u64) -> Opened
-    ensures { λ r. ⌜ (r .refusal ≡ firstRefusal (ranChecks (o .refusal) (o .tables) types (a ∷ b ∷ []))) × (r .numbers ≡ numbersOf (o .tables)) ⌝ }
+// The same table, with the refusal of all these checks.
+fn with_checks(o: Outcome, types: bool, a: u64, b: u64) -> Outcome
+    ensures { λ r. ⌜ (r .refusal ≡ firstRefusal (ranChecks (o .refusal) (o .tables) types (a ∷ b ∷ []))) × (r .tables ≡ o .tables) ⌝ }
 {
     let refusal = check_numbers(o, types, a, b);
     let t = o.tables;
-    let classes = Classes {
-        names: t.names,
-        object: t.object,
-        pairs: t.pairs,
-    };
-    let numbers = Numbers {
-        classes: classes,
-        cloneable: t.cloneable,
-        serializable: t.serializable,
-    };
-    Opened {
+    Outcome {
         refusal: refusal,
-        numbers: numbers,
+        tables: t,
     }
 }
 
@@ -250,8 +234,8 @@ fn open_table(
     b: u64,
     pairs: &mut [u64],
     marks: &mut [u64],
-) -> Opened
-    requires { ⌜ (length (now pairs) ≡ 4096) × (now marks ≡ noMarks) ⌝ }
+) -> Outcome
+    requires { ⌜ (length (now pairs) ≡ pairsRoom) × (now marks ≡ noMarks) ⌝ }
     ensures { λ r. ⌜ Opens (given (now (names .entry)) (now («name_at» .entry)) (now («name_len» .entry)) (now («rec_flags» .entry)) (now («rec_class» .entry)) (now («rec_at» .entry)) (now («rec_len» .entry)) (now (parents .entry))) types a b (now (pairs .exit)) (now (marks .exit)) r ⌝ }
 {
     let o = build_table(
@@ -296,20 +280,19 @@ fn number(t: TypeWord) -> u64
     t.word
 }
 
-fn value_of(pairs: &[u64], marks: &[u64], n: Numbers, q: Question, a: u64, b: u64) -> u64
-    requires { ⌜ (length (now marks) ≡ 64) × Fits n × (goodNumbers (ofTypes q) (n .classes .names) (a ∷ b ∷ []) ≡ true) ⌝ }
-    ensures { λ r. ⌜ r ≡ valueOf (viewOf (now (pairs .entry)) (now (marks .entry)) (n .classes)) (worldOf (now (pairs .entry)) (now (marks .entry)) n) q a b ⌝ }
+fn value_of(pairs: &[u64], marks: &[u64], t: Tables, q: Question, a: u64, b: u64) -> u64
+    requires { ⌜ (length (now marks) ≡ marksRoom) × Fits t × (goodNumbers (ofTypes q) (t .names) (a ∷ b ∷ []) ≡ true) ⌝ }
+    ensures { λ r. ⌜ r ≡ valueOf (viewOf (now (pairs .entry)) (now (marks .entry)) t) (worldOf (now (pairs .entry)) (now (marks .entry)) t) q a b ⌝ }
 {
-    let t = n.classes;
     let l = TypeWord { word: a };
     let r = TypeWord { word: b };
     match q {
         Question::Relation => relation_number(hierarchy::subtype_relation(pairs, marks, t, a, b)),
-        Question::Distance => hierarchy::distance(pairs, t, a, b),
-        Question::Supertype => supertype::supertype(pairs, t, a, b),
+        Question::Distance => hierarchy::distance(pairs, marks, t, a, b),
+        Question::Supertype => supertype::supertype(pairs, marks, t, a, b),
         Question::Cast => flag(hierarchy::cast(pairs, marks, t, a, b)),
-        Question::Join => number(joins::join(pairs, n, l, r)),
-        Question::Assignable => flag(assignable::is_assignable(pairs, marks, n, l, r)),
+        Question::Join => number(joins::join(pairs, marks, t, l, r)),
+        Question::Assignable => flag(assignable::is_assignable(pairs, marks, t, l, r)),
     }
 }
 
@@ -329,7 +312,7 @@ fn ask_over(
     pairs: &mut [u64],
     marks: &mut [u64],
 ) -> Answer
-    requires { ⌜ (length (now pairs) ≡ 4096) × (now marks ≡ noMarks) ⌝ }
+    requires { ⌜ (length (now pairs) ≡ pairsRoom) × (now marks ≡ noMarks) ⌝ }
     ensures { λ r. ⌜ r ≡ tableAnswer (given (now (names .entry)) (now («name_at» .entry)) (now («name_len» .entry)) (now («rec_flags» .entry)) (now («rec_class» .entry)) (now («rec_at» .entry)) (now («rec_len» .entry)) (now (parents .entry))) q a b ⌝ }
 {
     let types = of_types(q);
@@ -354,7 +337,7 @@ fn ask_over(
             value: 0,
         };
     }
-    let value = value_of(pairs, marks, o.numbers, q, a, b);
+    let value = value_of(pairs, marks, o.tables, q, a, b);
     Answer {
         refusal: 0,
         value: value,
@@ -376,8 +359,8 @@ fn ask_table(
 ) -> Answer
     ensures { λ r. ⌜ r ≡ tableAnswer (given (now (names .entry)) (now («name_at» .entry)) (now («name_len» .entry)) (now («rec_flags» .entry)) (now («rec_class» .entry)) (now («rec_at» .entry)) (now («rec_len» .entry)) (now (parents .entry))) q a b ⌝ }
 {
-    let mut pairs = [0u64; 4096];
-    let mut marks = [0u64; 64];
+    let mut pairs = [0u64; PAIRS];
+    let mut marks = [0u64; MARKS];
     ask_over(
         names,
         name_at,
@@ -483,7 +466,7 @@ fn ancestors_over(
     pairs: &mut [u64],
     marks: &mut [u64],
 ) -> Ancestors
-    requires { ⌜ (length (now pairs) ≡ 4096) × (now marks ≡ noMarks) ⌝ }
+    requires { ⌜ (length (now pairs) ≡ pairsRoom) × (now marks ≡ noMarks) ⌝ }
     ensures { λ r. ⌜ r ≡ tableAncestors (given (now (names .entry)) (now («name_at» .entry)) (now («name_len» .entry)) (now («rec_flags» .entry)) (now («rec_class» .entry)) (now («rec_at» .entry)) (now («rec_len» .entry)) (now (parents .entry))) class ⌝ }
 {
     let o = open_table(
@@ -504,8 +487,7 @@ fn ancestors_over(
     if o.refusal != 0 {
         return none_gathered(o.refusal);
     }
-    let n = o.numbers;
-    gather(hierarchy::ancestors(pairs, n.classes, class))
+    gather(hierarchy::ancestors(pairs, marks, o.tables, class))
 }
 
 fn ancestors_in(
@@ -521,8 +503,8 @@ fn ancestors_in(
 ) -> Ancestors
     ensures { λ r. ⌜ r ≡ tableAncestors (given (now (names .entry)) (now («name_at» .entry)) (now («name_len» .entry)) (now («rec_flags» .entry)) (now («rec_class» .entry)) (now («rec_at» .entry)) (now («rec_len» .entry)) (now (parents .entry))) class ⌝ }
 {
-    let mut pairs = [0u64; 4096];
-    let mut marks = [0u64; 64];
+    let mut pairs = [0u64; PAIRS];
+    let mut marks = [0u64; MARKS];
     ancestors_over(
         names,
         name_at,

@@ -1,14 +1,16 @@
 // Replays recorded answers about descriptors and names: reads cases on standard input, one a line, calls the functions
-// named there, and prints for each how many cases agree, and of how many. The crate `recorded` says what a case looks
+// named there, and prints for each how many cases agree, and of how many. The crate `replaying` says what a case looks
 // like; the input's first lines say what each function's arguments and answers are.
 mod reading;
 mod writing;
 
-use recorded::answers::Verdict;
-use recorded::cases;
-use recorded::cases::Case;
-use recorded::report;
-use recorded::text;
+use replaying::answers::Verdict;
+use replaying::cases;
+use replaying::cases::Case;
+use replaying::report;
+use replaying::text;
+ghost use Prim.Native.Nat.{_≤_};
+ghost use lib.ListN.{length};
 
 const NAMES: [u8; 61] = *b"d_type d_strict d_method m_strict w_type w_method lookup utf8";
 
@@ -27,25 +29,19 @@ fn call(place: usize, store: &[u8], a: &[u64], r: &[u64]) -> Verdict {
     }
 }
 
-fn judge(c: Case, store: &[u8], numbers: &[u64]) -> Verdict {
+fn judge(c: Case, store: &[u8], numbers: &[u64]) -> Verdict
+    requires { ⌜ (c .split ≤ c .count) × (c .count ≤ length (now numbers)) ⌝ }
+{
     let split = c.split;
     let count = c.count;
-    if numbers.len() < count {
-        return Verdict::Unread;
-    }
-    if count < split {
-        return Verdict::Unread;
-    }
     call(c.place, store, &numbers[0..split], &numbers[split..count])
 }
 
 fn one_line(line: &[u8], counts: &mut [u64]) {
     let mut numbers = [0u64; 512];
     let mut store = [0u8; 1024];
-    if cases::is_case(line) {
-        let c = cases::read(&NAMES, line, &mut numbers, &mut store);
-        report::record(counts, c.place, judge(c, &store, &numbers));
-    }
+    let c = cases::read(&NAMES, line, &mut numbers, &mut store);
+    report::record(counts, c.place, judge(c, &store, &numbers));
 }
 
 fn each_line(input: &[u8], counts: &mut [u64]) {

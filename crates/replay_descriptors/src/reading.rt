@@ -2,8 +2,8 @@
 // begin in the store and the place where they end.
 use bracepuffin::BpMethod;
 use bracepuffin::BpType;
-use recorded::answers;
-use recorded::answers::Verdict;
+use replaying::answers;
+use replaying::answers::Verdict;
 
 // The most parameters that a case may have room for.
 const ROOM: usize = 320;
@@ -29,7 +29,7 @@ fn read_type(is_strict: bool, d: &[u8]) -> BpType {
     bracepuffin::bp_read_type(d)
 }
 
-pub fn of_type(is_strict: bool, store: &[u8], a: &[u64], r: &[u64]) -> Verdict {
+pub(crate) fn of_type(is_strict: bool, store: &[u8], a: &[u64], r: &[u64]) -> Verdict {
     if a.len() != 2 {
         return Verdict::Unread;
     }
@@ -81,7 +81,7 @@ fn method_in(is_strict: bool, d: &[u8], room: usize, params: &mut [u64], r: &[u6
     is_method(m, params, r)
 }
 
-pub fn of_method(is_strict: bool, store: &[u8], a: &[u64], r: &[u64]) -> Verdict {
+pub(crate) fn of_method(is_strict: bool, store: &[u8], a: &[u64], r: &[u64]) -> Verdict {
     let mut params = [0u64; ROOM];
     if a.len() != 3 {
         return Verdict::Unread;
@@ -94,7 +94,7 @@ pub fn of_method(is_strict: bool, store: &[u8], a: &[u64], r: &[u64]) -> Verdict
     method_in(is_strict, &store[s..e], a[2] as usize, &mut params, r)
 }
 
-pub fn utf8(store: &[u8], a: &[u64], r: &[u64]) -> Verdict {
+pub(crate) fn utf8(store: &[u8], a: &[u64], r: &[u64]) -> Verdict {
     if a.len() != 2 {
         return Verdict::Unread;
     }

@@ -1,10 +1,10 @@
 // The functions over names. Names among the arguments are the bytes that they are cut from, the list of their places and
 // the list of their lengths. Bytes are two numbers, the place where they begin in the store and the place where they end.
 use bracepuffin::BpWritten;
-use recorded::answers;
-use recorded::answers::Verdict;
-use recorded::lists;
-use recorded::text;
+use replaying::answers;
+use replaying::answers::Verdict;
+use replaying::lists;
+use replaying::text;
 
 // The most bytes that a case may have room for.
 const ROOM: usize = 1000;
@@ -48,7 +48,7 @@ fn type_over(names: &[u8], store: &[u8], a: &[u64], out: &mut [u8], r: &[u64]) -
     is_written(w, out, store, r)
 }
 
-pub fn of_type(store: &[u8], a: &[u64], r: &[u64]) -> Verdict {
+pub(crate) fn of_type(store: &[u8], a: &[u64], r: &[u64]) -> Verdict {
     let mut out = [0u8; ROOM];
     if a.len() < 2 {
         return Verdict::Unread;
@@ -87,7 +87,7 @@ fn method_over(names: &[u8], store: &[u8], a: &[u64], out: &mut [u8], r: &[u64])
     is_written(w, out, store, r)
 }
 
-pub fn of_method(store: &[u8], a: &[u64], r: &[u64]) -> Verdict {
+pub(crate) fn of_method(store: &[u8], a: &[u64], r: &[u64]) -> Verdict {
     let mut out = [0u8; ROOM];
     if a.len() < 2 {
         return Verdict::Unread;
@@ -118,7 +118,7 @@ fn lookup_in(names: &[u8], store: &[u8], a: &[u64], r: &[u64]) -> Verdict {
     answers::all(&[found.refusal, found.class_no], r)
 }
 
-pub fn lookup(store: &[u8], a: &[u64], r: &[u64]) -> Verdict {
+pub(crate) fn lookup(store: &[u8], a: &[u64], r: &[u64]) -> Verdict {
     if a.len() < 2 {
         return Verdict::Unread;
     }

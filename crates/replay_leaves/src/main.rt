@@ -1,15 +1,17 @@
 // Replays recorded answers about types, sets and sorted entries: reads cases on standard input, one a line, calls the
-// functions named there, and prints for each how many cases agree, and of how many. The crate `recorded` says what a case
+// functions named there, and prints for each how many cases agree, and of how many. The crate `replaying` says what a case
 // looks like; the input's first lines say what each function's arguments and answers are.
 mod on_entries;
 mod on_sets;
 mod on_types;
 
-use recorded::answers::Verdict;
-use recorded::cases;
-use recorded::cases::Case;
-use recorded::report;
-use recorded::text;
+use replaying::answers::Verdict;
+use replaying::cases;
+use replaying::cases::Case;
+use replaying::report;
+use replaying::text;
+ghost use Prim.Native.Nat.{_≤_};
+ghost use lib.ListN.{length};
 
 const NAMES: [u8; 50] = *b"pairs order legal edits word hint set sets put run";
 
@@ -30,25 +32,19 @@ fn call(place: usize, a: &[u64], r: &[u64]) -> Verdict {
     }
 }
 
-fn judge(c: Case, numbers: &[u64]) -> Verdict {
+fn judge(c: Case, numbers: &[u64]) -> Verdict
+    requires { ⌜ (c .split ≤ c .count) × (c .count ≤ length (now numbers)) ⌝ }
+{
     let split = c.split;
     let count = c.count;
-    if numbers.len() < count {
-        return Verdict::Unread;
-    }
-    if count < split {
-        return Verdict::Unread;
-    }
     call(c.place, &numbers[0..split], &numbers[split..count])
 }
 
 fn one_line(line: &[u8], counts: &mut [u64]) {
     let mut numbers = [0u64; 512];
     let mut bytes = [0u8; 16];
-    if cases::is_case(line) {
-        let c = cases::read(&NAMES, line, &mut numbers, &mut bytes);
-        report::record(counts, c.place, judge(c, &numbers));
-    }
+    let c = cases::read(&NAMES, line, &mut numbers, &mut bytes);
+    report::record(counts, c.place, judge(c, &numbers));
 }
 
 fn each_line(input: &[u8], counts: &mut [u64]) {

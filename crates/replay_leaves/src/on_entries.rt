@@ -1,7 +1,7 @@
 // The functions on sorted entries. Entries among the arguments or the answers are a list.
-use recorded::answers;
-use recorded::answers::Verdict;
-use recorded::lists;
+use replaying::answers;
+use replaying::answers::Verdict;
+use replaying::lists;
 use sorted::Found;
 use sorted::Put;
 
@@ -49,7 +49,7 @@ fn insert_in(entries: &[u64], room: usize, x: u64, table: &mut [u64], r: &[u64])
     }
 }
 
-pub fn put(a: &[u64], r: &[u64]) -> Verdict {
+pub(crate) fn put(a: &[u64], r: &[u64]) -> Verdict {
     let mut table = [0u64; ROOM];
     let e = lists::end_before(a, 1, 1);
     if e < 2 || r.len() < 2 {
@@ -61,7 +61,7 @@ pub fn put(a: &[u64], r: &[u64]) -> Verdict {
     Verdict::Differs
 }
 
-pub fn run(a: &[u64], r: &[u64]) -> Verdict {
+pub(crate) fn run(a: &[u64], r: &[u64]) -> Verdict {
     let e = lists::end_before(a, 0, 2);
     if e == 0 {
         return Verdict::Unread;

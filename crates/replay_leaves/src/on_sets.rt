@@ -1,7 +1,7 @@
 // The functions on sets. A set among the arguments or the answers is the list of its members.
-use recorded::answers;
-use recorded::answers::Verdict;
-use recorded::lists;
+use replaying::answers;
+use replaying::answers::Verdict;
+use replaying::lists;
 use sets::Set;
 ghost use Prim.Native.Nat.{_≤_};
 ghost use lib.ListN.{length};
@@ -46,7 +46,7 @@ fn past(r: &[u64], at: usize, s: Set) -> usize
 }
 
 // Has, count, lowest, with, without.
-pub fn one(a: &[u64], r: &[u64]) -> Verdict {
+pub(crate) fn one(a: &[u64], r: &[u64]) -> Verdict {
     let e = lists::end_before(a, 0, 1);
     if e == 0 || r.len() < 3 {
         return Verdict::Unread;
@@ -69,7 +69,7 @@ fn changed(s: Set, x: u64, r: &[u64]) -> Verdict {
 }
 
 // Union, intersection, difference, same.
-pub fn two(a: &[u64], r: &[u64]) -> Verdict {
+pub(crate) fn two(a: &[u64], r: &[u64]) -> Verdict {
     let e = lists::end(a, 0);
     if e == 0 {
         return Verdict::Unread;

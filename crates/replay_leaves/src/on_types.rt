@@ -1,9 +1,9 @@
 // The functions on types. A word among the arguments is one over 1,024 names unless their number is given.
 use order::Order;
-use recorded::answers;
-use recorded::answers::MISSING;
-use recorded::answers::Verdict;
-use recorded::lists;
+use replaying::answers;
+use replaying::answers::MISSING;
+use replaying::answers::Verdict;
+use replaying::lists;
 use ty::Arrayed;
 use ty::Decoded;
 use ty::MaybeType;
@@ -47,7 +47,7 @@ fn order_of_words(x: u64, y: u64) -> u64 {
     order_of(s, t)
 }
 
-pub fn order(a: &[u64], r: &[u64]) -> Verdict {
+pub(crate) fn order(a: &[u64], r: &[u64]) -> Verdict {
     if a.len() != 2 {
         return Verdict::Unread;
     }
@@ -88,7 +88,7 @@ fn all_as_placed(list: &[u64]) -> u64 {
     n
 }
 
-pub fn pairs(a: &[u64], r: &[u64]) -> Verdict {
+pub(crate) fn pairs(a: &[u64], r: &[u64]) -> Verdict {
     let e = lists::end_before(a, 0, 0);
     if e == 0 {
         return Verdict::Unread;
@@ -104,7 +104,7 @@ fn is_legal(names: u64, w: u64) -> u64 {
     }
 }
 
-pub fn legal(a: &[u64], r: &[u64]) -> Verdict {
+pub(crate) fn legal(a: &[u64], r: &[u64]) -> Verdict {
     if a.len() != 2 {
         return Verdict::Unread;
     }
@@ -124,7 +124,7 @@ fn edits_from(names: u64, w: u64, from: u64) -> u64 {
     bits
 }
 
-pub fn edits(a: &[u64], r: &[u64]) -> Verdict {
+pub(crate) fn edits(a: &[u64], r: &[u64]) -> Verdict {
     if a.len() != 2 {
         return Verdict::Unread;
     }
@@ -165,7 +165,7 @@ fn said_of(t: TypeWord) -> [u64; 7]
     ]
 }
 
-pub fn word(a: &[u64], r: &[u64]) -> Verdict {
+pub(crate) fn word(a: &[u64], r: &[u64]) -> Verdict {
     if a.len() != 1 {
         return Verdict::Unread;
     }
@@ -175,7 +175,7 @@ pub fn word(a: &[u64], r: &[u64]) -> Verdict {
     answers::all(&said_of(t), r)
 }
 
-pub fn hint(a: &[u64], r: &[u64]) -> Verdict {
+pub(crate) fn hint(a: &[u64], r: &[u64]) -> Verdict {
     if a.len() != 2 || 1024 <= a[0] {
         return Verdict::Unread;
     }

@@ -17,7 +17,8 @@ use Rattle.utf8.specs.Utf8.{wellFormed}
 use Rattle.sorted.specs.Sorted.{Sorted}
 use Rattle.checks.specs.Checks.{check, quiet, free, first-is, first-none}
 use Rattle.names.specs.Names.{nameChecks, checkName}
-use Rattle.rows.specs.declared.Tables.{Tables}
+use Rattle.tables.specs.declared.Tables.{Tables}
+use Rattle.tables.specs.Table.{namesRoom, pairsRoom, marksRoom}
 use Rattle.rows.specs.declared.Outcome.{Outcome}
 use Rattle.rows.specs.Rows.{noTables, noted, State, stateOf, Ran, Fills, goodFlags, allBelow, key, putAll, recordChecks, recordRefusal, withName, nameRow, withRecord, recordRow, Below}
 use Rattle.rows.specs.Keys.{all-sorted, all-has, all-old, all-below, take-filled}
@@ -77,7 +78,7 @@ pub record GoodRecord (names : ℕ) (keys : List ℕ) (flags class : ℕ) (paren
   pub flags-good : goodFlags flags ≡ true
   pub class-in : class < names
   pub parents-in : Below names parents
-  pub room : length (putAll class parents keys) ≤ 4096
+  pub room : length (putAll class parents keys) ≤ pairsRoom
 
 pub record-good : (names : ℕ) (keys : List ℕ) (flags class : ℕ) (parents : List ℕ) → recordRefusal names keys flags class parents ≡ 0
     → GoodRecord names keys flags class parents
@@ -86,7 +87,7 @@ record-good names keys flags class parents h =
     let long = ltb 254 (length parents) in
     let inside = ltb class names && allBelow names parents in
     let numbers = goodFlags flags && inside in
-    let full = ltb 4096 (length (putAll class parents keys)) in
+    let full = ltb pairsRoom (length (putAll class parents keys)) in
     let q = first-none (check long 3 ∷ check (not numbers) 6 ∷ check full 8 ∷ []) refl .0 h in
     let a = both (not long) (not (not numbers) && (not full && true)) q in
     let b = both (not (not numbers)) (not full && true) (a .1) in
@@ -97,21 +98,21 @@ record-good names keys flags class parents h =
       flags-good = n .0;
       class-in = ltb-true class names (i .0);
       parents-in = all-below names parents (i .1);
-      room = ltb-false 4096 (length (putAll class parents keys)) (not-true full (both (not full) true (b .1) .0));
+      room = ltb-false pairsRoom (length (putAll class parents keys)) (not-true full (both (not full) true (b .1) .0));
     }
 
 -- 8 COMES BACK ONLY WHERE MORE THAN 4,096 PAIRS WOULD STAND
 pub record-full : (names : ℕ) (keys : List ℕ) (flags class : ℕ) (parents : List ℕ) → recordRefusal names keys flags class parents ≡ 8
-    → 4096 < length (putAll class parents keys)
+    → pairsRoom < length (putAll class parents keys)
 unfolding recordRefusal recordChecks free
 record-full names keys flags class parents h =
     let long = check (ltb 254 (length parents)) 3 in
     let numbers = check (not (goodFlags flags && (ltb class names && allBelow names parents))) 6 in
-    let full = ltb 4096 (length (putAll class parents keys)) in
-    ltb-true 4096 (length (putAll class parents keys)) (first-is (long ∷ numbers ∷ []) full 8 [] (λ e. omega arith) refl refl .0 h .0)
+    let full = ltb pairsRoom (length (putAll class parents keys)) in
+    ltb-true pairsRoom (length (putAll class parents keys)) (first-is (long ∷ numbers ∷ []) full 8 [] (λ e. omega arith) refl refl .0 h .0)
 
 -- A RECORD WHOSE PAIRS ARE ALL THERE is never refused 8
-pub present-fits : (names : ℕ) (keys : List ℕ) (flags class : ℕ) (parents : List ℕ) → length keys ≤ 4096
+pub present-fits : (names : ℕ) (keys : List ℕ) (flags class : ℕ) (parents : List ℕ) → length keys ≤ pairsRoom
     → ((i : ℕ) → i < length parents → elem (key class (getD parents i 0)) keys ≡ true) → recordRefusal names keys flags class parents ≡ 8 → ⊥
 present-fits names keys flags class parents r h e = omega (arith, record-full names keys flags class parents e, ap length (all-old class parents keys h))
 
@@ -128,18 +129,18 @@ module _ (s : State) (flags class : ℕ) (parents : List ℕ) where
 -- ---- what every state is that rows have made
 
 pub record Sound (s : State) : Type 0 where
-  pub few : s .tables .names ≤ 1024
+  pub few : s .tables .names ≤ namesRoom
   pub short : s .tables .bytes ≤ 24576
   -- sorted, so without repeats
   pub ordered : Sorted (s .keys)
   pub counted : s .tables .pairs ≡ length (s .keys)
-  pub room : length (s .keys) ≤ 4096
+  pub room : length (s .keys) ≤ pairsRoom
   -- both classes of a pair are in the table
-  pub classes : (z : ℕ) → elem z (s .keys) ≡ true → (z / 1024 < s .tables .names) × (z % 1024 < s .tables .names)
-  pub wide : length (s .marks) ≡ 64
+  pub classes : (z : ℕ) → elem z (s .keys) ≡ true → (z / namesRoom < s .tables .names) × (z % namesRoom < s .tables .names)
+  pub wide : length (s .marks) ≡ marksRoom
 
 -- IT IS SO AT THE START
-pub good-start : (marks : List ℕ) → length marks ≡ 64 → Sound (record { tables = noTables; keys = []; marks = marks })
+pub good-start : (marks : List ℕ) → length marks ≡ marksRoom → Sound (record { tables = noTables; keys = []; marks = marks })
 unfolding noTables elem
 good-start marks w = record {
   few = omega arith;
@@ -173,13 +174,13 @@ good-name last name s g = go (checkName last name (s .tables .names) (s .tables 
     go (suc k) e = rw (name-refused last name (s .tables) (suc k) (sym e) (λ z. omega arith)) g
 
 -- a key of the parents of c
-keys-of : (c n : ℕ) (ps : List ℕ) (z : ℕ) → c < n → n ≤ 1024 → Below n ps → elem z (map (key c) ps) ≡ true → (z / 1024 < n) × (z % 1024 < n)
+keys-of : (c n : ℕ) (ps : List ℕ) (z : ℕ) → c < n → n ≤ namesRoom → Below n ps → elem z (map (key c) ps) ≡ true → (z / namesRoom < n) × (z % namesRoom < n)
 unfolding elem
 keys-of c n [] z h w b e = absurd (false≢true e)
 keys-of c n (p ∷ ps) z h w b e = go (eqb (key c p) z) refl e (keys-of c n ps z h w (λ i l. b (suc i) (omega arith)))
   where
     go : (t : Bool) → eqb (key c p) z ≡ t → (t || elem z (map (key c) ps)) ≡ true
-        → (elem z (map (key c) ps) ≡ true → (z / 1024 < n) × (z % 1024 < n)) → (z / 1024 < n) × (z % 1024 < n)
+        → (elem z (map (key c) ps) ≡ true → (z / namesRoom < n) × (z % namesRoom < n)) → (z / namesRoom < n) × (z % namesRoom < n)
     go true q f ih = let r = eqb-true (key c p) z q in let l = b 0 (omega arith) in (omega arith, omega arith)
     go false q f ih = ih f
 
@@ -192,7 +193,7 @@ good-record s flags class parents g = go (recordRefusal (s .tables .names) (s .k
     names = s .tables .names
 
     either : GoodRecord names (s .keys) flags class parents → (z : ℕ) (t : Bool) → elem z (map (key class) parents) ≡ t → (t || elem z (s .keys)) ≡ true
-        → (z / 1024 < names) × (z % 1024 < names)
+        → (z / namesRoom < names) × (z % namesRoom < names)
     either r z true q f = keys-of class names parents z (r .class-in) (g .few) (r .parents-in) q
     either r z false q f = g .classes z f
 

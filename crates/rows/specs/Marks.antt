@@ -5,21 +5,20 @@ use mathlib.Core.List.{List}
 use Prim.Native.Nat.{ℕ, _+_, _*_, _/_, _%_, _≤_, _<_}
 use native.Mathlib.Omega.{arith}
 use lib.Dec.{eqb}
-use lib.ListN.{length, take, drop, getD}
-use lib.Seq.{getD-take, getD-drop}
+use lib.ListN.{length, getD}
 use borrow.Author.Tests.{eq-eqb, ne-eqb}
 use Rattle.sets.specs.Sets.{bit, at, member, insert, remove}
 use Rattle.sets.specs.Laws.{member-cong, member-at, member-none, at-insert-same, at-insert-other, at-remove-same, at-remove-other, length-insert, length-remove}
+use Rattle.tables.specs.Table.{marksRoom, mark, mark-at}
 use Rattle.rows.specs.Rows.{isMarked, marked, recordMarks}
 
 -- SET k OF THE FOUR is sixteen words
-pub mark-set : (marks : List ℕ) (k c : ℕ) → c < 1024 → member (take 16 (drop (16 * k) marks)) c ≡ isMarked k c marks
+pub mark-set : (marks : List ℕ) (k c : ℕ) → c < 1024 → member (mark marks k) c ≡ isMarked k c marks
 unfolding member at
 mark-set marks k c h =
     let word : 16 * k + c / 64 ≡ (1024 * k + c) / 64 = omega arith in
     let digit : c % 64 ≡ (1024 * k + c) % 64 = omega arith in
-    ap (λ (w : ℕ). eqb (bit (c % 64) w) 1) (getD-take 16 (drop (16 * k) marks) (c / 64) 0 (omega arith) ∙ getD-drop (16 * k) marks (c / 64) 0)
-    ∙ ap₂ (λ (i d : ℕ). eqb (bit d (getD marks i 0)) 1) word digit
+    ap (λ (n : ℕ). eqb n 1) (mark-at marks k c h) ∙ ap₂ (λ (i d : ℕ). eqb (bit d (getD marks i 0)) 1) word digit
 
 -- ---- one mark
 
@@ -107,7 +106,7 @@ module _ (flags class : ℕ) (marks : List ℕ) where
   unfolding recordMarks
   undeclared-keeps n k d l h = rw (ne-eqb (flags % 2) 1 n) (marked-other true 0 class marks k d (λ e. omega arith))
 
-  module _ (h : class < 1024) (w : length marks ≡ 64) where
+  module _ (h : class < 1024) (w : length marks ≡ marksRoom) where
     -- A CLASS WITH A RECORD IS RECORDED
     pub recorded-now : isMarked 0 class (recordMarks flags class marks) ≡ true
     unfolding one two three four

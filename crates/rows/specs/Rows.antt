@@ -5,27 +5,27 @@ use mathlib.Core.List.{List, [], _∷_, _++_}
 use Prim.Native.Nat.{ℕ, _+_, _-_, _*_, _/_, _%_, _^_, _<_}
 use lib.Dec.{eqb, leb, ltb}
 use lib.ListN.{length, take, drop, getD}
+use Rattle.text.specs.Text.{ascii}
 use Rattle.order.specs.Compare.{compareLists, isEqual}
 use Rattle.sets.specs.Sets.{member, insert, remove}
 use Rattle.sorted.specs.Sorted.{has, put}
 use Rattle.checks.specs.Checks.{Check, check, firstRefusal}
 use Rattle.names.specs.Names.{checkName}
-use Rattle.rows.specs.declared.Tables.{Tables}
+use Rattle.tables.specs.declared.Tables.{Tables}
+use Rattle.tables.specs.Table.{namesRoom, pairsRoom}
 use Rattle.rows.specs.declared.Outcome.{Outcome}
 
 -- ---- a name
 
--- java/lang/Object
+-- the three names that the tables keep the numbers of
 unfoldable pub objectName : List ℕ
-objectName = 106 ∷ 97 ∷ 118 ∷ 97 ∷ 47 ∷ 108 ∷ 97 ∷ 110 ∷ 103 ∷ 47 ∷ 79 ∷ 98 ∷ 106 ∷ 101 ∷ 99 ∷ 116 ∷ []
+objectName = ascii "java/lang/Object"
 
--- java/lang/Cloneable
 unfoldable pub cloneableName : List ℕ
-cloneableName = 106 ∷ 97 ∷ 118 ∷ 97 ∷ 47 ∷ 108 ∷ 97 ∷ 110 ∷ 103 ∷ 47 ∷ 67 ∷ 108 ∷ 111 ∷ 110 ∷ 101 ∷ 97 ∷ 98 ∷ 108 ∷ 101 ∷ []
+cloneableName = ascii "java/lang/Cloneable"
 
--- java/io/Serializable
 unfoldable pub serializableName : List ℕ
-serializableName = 106 ∷ 97 ∷ 118 ∷ 97 ∷ 47 ∷ 105 ∷ 111 ∷ 47 ∷ 83 ∷ 101 ∷ 114 ∷ 105 ∷ 97 ∷ 108 ∷ 105 ∷ 122 ∷ 97 ∷ 98 ∷ 108 ∷ 101 ∷ []
+serializableName = ascii "java/io/Serializable"
 
 -- the number of a name that is the wanted one; else what was known
 unfoldable pub noted : List ℕ → List ℕ → ℕ → ℕ → ℕ
@@ -79,7 +79,7 @@ allBelow n (x ∷ xs) = ltb x n && allBelow n xs
 
 -- the key of a pair
 abbrev pub key : ℕ → ℕ → ℕ
-key class parent = class * 1024 + parent
+key class parent = class * namesRoom + parent
 
 -- the keys with each parent of a class
 unfoldable pub putAll : ℕ → List ℕ → List ℕ → List ℕ
@@ -88,11 +88,11 @@ putAll class (p ∷ ps) l = putAll class ps (put (key class p) l)
 
 -- whether c is in set k
 abbrev pub isMarked : ℕ → ℕ → List ℕ → Bool
-isMarked k c marks = member marks (1024 * k + c)
+isMarked k c marks = member marks (namesRoom * k + c)
 
 -- c put into set k, or taken out of it
 unfoldable pub marked : Bool → ℕ → ℕ → List ℕ → List ℕ
-marked on k c marks = cond on (insert marks (1024 * k + c)) (remove marks (1024 * k + c))
+marked on k c marks = cond on (insert marks (namesRoom * k + c)) (remove marks (namesRoom * k + c))
 
 -- a class is recorded; a declared record gives its facts, another leaves them
 unfoldable pub recordMarks : ℕ → ℕ → List ℕ → List ℕ
@@ -107,7 +107,7 @@ unfoldable pub recordChecks : ℕ → List ℕ → ℕ → ℕ → List ℕ → 
 recordChecks names keys flags class parents =
     check (ltb 254 (length parents)) 3
     ∷ check (not (goodFlags flags && (ltb class names && allBelow names parents))) 6
-    ∷ check (ltb 4096 (length (putAll class parents keys))) 8
+    ∷ check (ltb pairsRoom (length (putAll class parents keys))) 8
     ∷ []
 
 -- the first of them that holds; 0 where none does

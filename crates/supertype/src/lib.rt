@@ -1,10 +1,10 @@
 // The least common supertype, from hierarchy.rs, over the class tables as `hierarchy` reads them.
-use hierarchy::Classes;
 use hierarchy::ancestors;
 use hierarchy::distance_or_far;
 use hierarchy::reached;
 use hierarchy::reaches;
 use sets::Set;
+use tables::Tables;
 ghost use mathlib.Core.Path.{_≡_};
 ghost use mathlib.Core.Bool.{true, cond};
 ghost use Prim.Native.Nat.{ℕ, _≤_, _<_, max};
@@ -14,7 +14,7 @@ ghost use Rattle.view.specs.View.{supertype, numberOf};
 ghost use Rattle.view.specs.Nearest.{greater, sum};
 ghost use Rattle.view.specs.Lows.{strip, Lows, LowestOf};
 ghost use Rattle.view.specs.Pick.{before, NearestOf};
-ghost use Rattle.hierarchy.specs.Table.{parentView};
+ghost use Rattle.tables.specs.Table.{namesRoom, viewOf};
 
 // The set, without c where `taken`.
 fn without_if(s: Set, taken: bool, c: u64) -> Set
@@ -27,14 +27,14 @@ fn without_if(s: Set, taken: bool, c: u64) -> Set
 }
 
 // Of s, the classes that do not reach d.
-fn not_reaching(pairs: &[u64], t: Classes, s: Set, d: u64) -> Set
-    ensures { λ r. ⌜ r .words ≡ strip (parentView (now (pairs .entry)) t) d (s .words) (members (at (s .words)) 0 1024) ⌝ }
+fn not_reaching(pairs: &[u64], marks: &[u64], t: Tables, s: Set, d: u64) -> Set
+    ensures { λ r. ⌜ r .words ≡ strip (viewOf (now (pairs .entry)) (now (marks .entry)) t) d (s .words) (members (at (s .words)) 0 1024) ⌝ }
 {
     let mut kept = s;
     let mut left = s;
     let mut c = left.lowest();
     while c < 1024 {
-        kept = without_if(kept, reaches(pairs, t, c, d), c);
+        kept = without_if(kept, reaches(pairs, marks, t, c, d), c);
         left = left.without(c);
         c = left.lowest();
     }
@@ -43,16 +43,16 @@ fn not_reaching(pairs: &[u64], t: Classes, s: Set, d: u64) -> Set
 
 // Of a set without Object, the classes with none strictly below. What a class reaches is looked at no more: it is strictly
 // above, and out, or reaches back, and has the same above it.
-fn lowest_others(pairs: &[u64], t: Classes, all: Set) -> Set
-    requires { ⌜ (t .names ≤ 1024) × (t .object < t .names) × (length (all .words) ≡ 16) × ((c : ℕ) → member (all .words) c ≡ true → c < t .names) ⌝ }
-    ensures { λ r. ⌜ Lows (parentView (now (pairs .entry)) t) (all .words) (r .words) ⌝ }
+fn lowest_others(pairs: &[u64], marks: &[u64], t: Tables, all: Set) -> Set
+    requires { ⌜ (t .names ≤ namesRoom) × (t .object < t .names) × (length (all .words) ≡ 16) × ((c : ℕ) → member (all .words) c ≡ true → c < t .names) ⌝ }
+    ensures { λ r. ⌜ Lows (viewOf (now (pairs .entry)) (now (marks .entry)) t) (all .words) (r .words) ⌝ }
 {
     let mut alive = all;
     let mut todo = all;
     let mut d = todo.lowest();
     while d < 1024 {
-        let r = reached(pairs, t, d);
-        let above = not_reaching(pairs, t, r.intersection(alive), d);
+        let r = reached(pairs, marks, t, d);
+        let above = not_reaching(pairs, marks, t, r.intersection(alive), d);
         alive = alive.difference(above);
         todo = todo.difference(r);
         d = todo.lowest();
@@ -61,13 +61,13 @@ fn lowest_others(pairs: &[u64], t: Classes, all: Set) -> Set
 }
 
 // Of a set with Object, the classes with none strictly below. Below Object is what it does not reach.
-fn lowest_of(pairs: &[u64], t: Classes, all: Set) -> Set
-    requires { ⌜ (t .names ≤ 1024) × (t .object < t .names) × (length (all .words) ≡ 16) × ((c : ℕ) → member (all .words) c ≡ true → c < t .names) × (member (all .words) (t .object) ≡ true) ⌝ }
-    ensures { λ r. ⌜ LowestOf (parentView (now (pairs .entry)) t) (all .words) (r .words) ⌝ }
+fn lowest_of(pairs: &[u64], marks: &[u64], t: Tables, all: Set) -> Set
+    requires { ⌜ (t .names ≤ namesRoom) × (t .object < t .names) × (length (all .words) ≡ 16) × ((c : ℕ) → member (all .words) c ≡ true → c < t .names) × (member (all .words) (t .object) ≡ true) ⌝ }
+    ensures { λ r. ⌜ LowestOf (viewOf (now (pairs .entry)) (now (marks .entry)) t) (all .words) (r .words) ⌝ }
 {
     let others = all.without(t.object);
-    let low = lowest_others(pairs, t, others);
-    let unreached = others.difference(reached(pairs, t, t.object));
+    let low = lowest_others(pairs, marks, t, others);
+    let unreached = others.difference(reached(pairs, marks, t, t.object));
     if unreached.lowest() == 1024 {
         return low.with(t.object);
     }
@@ -92,12 +92,12 @@ fn larger(a: u64, b: u64) -> u64
 }
 
 // A class with its distances.
-fn measured(pairs: &[u64], t: Classes, left: u64, right: u64, c: u64) -> Candidate
-    requires { ⌜ t .names ≤ 1024 ⌝ }
-    ensures { λ r. ⌜ (r .class ≡ c) × (r .greater ≡ greater (parentView (now (pairs .entry)) t) left right c) × (r .sum ≡ sum (parentView (now (pairs .entry)) t) left right c) ⌝ }
+fn measured(pairs: &[u64], marks: &[u64], t: Tables, left: u64, right: u64, c: u64) -> Candidate
+    requires { ⌜ t .names ≤ namesRoom ⌝ }
+    ensures { λ r. ⌜ (r .class ≡ c) × (r .greater ≡ greater (viewOf (now (pairs .entry)) (now (marks .entry)) t) left right c) × (r .sum ≡ sum (viewOf (now (pairs .entry)) (now (marks .entry)) t) left right c) ⌝ }
 {
-    let l = distance_or_far(pairs, t, left, c);
-    let r = distance_or_far(pairs, t, right, c);
+    let l = distance_or_far(pairs, marks, t, left, c);
+    let r = distance_or_far(pairs, marks, t, right, c);
     Candidate {
         class: c,
         greater: larger(l, r),
@@ -135,9 +135,9 @@ fn first_of(a: Candidate, b: Candidate) -> Candidate
 }
 
 // The nearest of a set. Of one class no distance is asked.
-fn nearest_of(pairs: &[u64], t: Classes, left: u64, right: u64, s: Set) -> u64
-    requires { ⌜ (t .names ≤ 1024) × (length (s .words) ≡ 16) ⌝ }
-    ensures { λ r. ⌜ NearestOf (parentView (now (pairs .entry)) t) left right (s .words) r ⌝ }
+fn nearest_of(pairs: &[u64], marks: &[u64], t: Tables, left: u64, right: u64, s: Set) -> u64
+    requires { ⌜ (t .names ≤ namesRoom) × (length (s .words) ≡ 16) ⌝ }
+    ensures { λ r. ⌜ NearestOf (viewOf (now (pairs .entry)) (now (marks .entry)) t) left right (s .words) r ⌝ }
 {
     let least = s.lowest();
     let mut rest = s.without(least);
@@ -145,9 +145,9 @@ fn nearest_of(pairs: &[u64], t: Classes, left: u64, right: u64, s: Set) -> u64
     if c == 1024 {
         return least;
     }
-    let mut best = measured(pairs, t, left, right, least);
+    let mut best = measured(pairs, marks, t, left, right, least);
     while c < 1024 {
-        best = first_of(measured(pairs, t, left, right, c), best);
+        best = first_of(measured(pairs, marks, t, left, right, c), best);
         rest = rest.without(c);
         c = rest.lowest();
     }
@@ -155,18 +155,18 @@ fn nearest_of(pairs: &[u64], t: Classes, left: u64, right: u64, s: Set) -> u64
 }
 
 // The least common supertype: least_common_supertype. All ones for none.
-pub fn supertype(pairs: &[u64], t: Classes, left: u64, right: u64) -> u64
-    requires { ⌜ (t .names ≤ 1024) × (t .object < t .names) × (left < t .names) × (right < t .names) ⌝ }
-    ensures { λ r. ⌜ r ≡ numberOf (supertype (parentView (now (pairs .entry)) t) left right) ⌝ }
+pub fn supertype(pairs: &[u64], marks: &[u64], t: Tables, left: u64, right: u64) -> u64
+    requires { ⌜ (t .names ≤ namesRoom) × (t .object < t .names) × (left < t .names) × (right < t .names) ⌝ }
+    ensures { λ r. ⌜ r ≡ numberOf (supertype (viewOf (now (pairs .entry)) (now (marks .entry)) t) left right) ⌝ }
 {
-    let a = ancestors(pairs, t, left);
+    let a = ancestors(pairs, marks, t, left);
     if a.has(right) {
         return right;
     }
-    let b = ancestors(pairs, t, right);
+    let b = ancestors(pairs, marks, t, right);
     if b.has(left) {
         return left;
     }
-    let low = lowest_of(pairs, t, a.intersection(b));
-    nearest_of(pairs, t, left, right, low)
+    let low = lowest_of(pairs, marks, t, a.intersection(b));
+    nearest_of(pairs, marks, t, left, right, low)
 }

@@ -1,6 +1,6 @@
 -- THE TABLE OF COLUMNS HAS THE VIEW AND THE WORLD OF ITS ROWS, wherever it is taken. Assumes nothing.
 use mathlib.Core.Path.{_≡_, refl, sym, ap, _∙_, subst}
-use mathlib.Core.Bool.{Bool, true, false, cond, not, _||_, true≢false, false≢true}
+use mathlib.Core.Bool.{Bool, true, false, cond, _||_, true≢false, false≢true}
 use mathlib.Core.List.{List, [], _∷_, List·Memᴰ, List·Memᴰ·head, List·Memᴰ·tail, List·Memᴰ·not-nil, List·Memᴰ·cases-cons}
 use mathlib.Core.Logic.{_↔_, ⊎-elim}
 use mathlib.Core.Option.{Option, some, none}
@@ -24,11 +24,11 @@ use Rattle.order.specs.declared.Order.{Order}
 use Rattle.order.specs.declared.Order.the-variants.{Less, Equal, Greater}
 use Rattle.names.specs.Names.{nameOf, nameAt, next}
 use Rattle.names.specs.Table.{number-of-name}
-use Rattle.view.specs.View.{View, numberOf}
-use Rattle.hierarchy.specs.Table.{parentsIn, mark, mark-length, parentsOf as keyParents, parents-below, parents-entry, view-good}
+use Rattle.view.specs.View.{numberOf}
+use Rattle.tables.specs.Table.{parentsIn, mark, mark-length, parentsOf as keyParents, parents-below, parents-entry}
 use Rattle.lattice.specs.World.{present, worldWith}
 use Rattle.rows.specs.declared.Outcome.{Outcome}
-use Rattle.rows.specs.Rows.{objectName, cloneableName, serializableName, noTables, allBelow, State, key, isMarked, Ran}
+use Rattle.rows.specs.Rows.{objectName, cloneableName, serializableName, noTables, State, key, isMarked, Ran}
 use Rattle.rows.specs.Marks.{mark-set}
 use Rattle.rows.specs.Laws.{Sound}
 use Rattle.columns.specs.Columns.{nameRows, recordRows, tableOf}

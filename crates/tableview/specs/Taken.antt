@@ -11,7 +11,7 @@ use lib.Dec.{eqb}
 use lib.ListN.{length, take, drop}
 use borrow.Author.Tests.{eq-eqb, ne-eqb, eqb-true, eqb-false}
 use Rattle.order.specs.Lists.{elem}
-use Rattle.rows.specs.declared.Tables.{Tables}
+use Rattle.tables.specs.declared.Tables.{Tables}
 use Rattle.rows.specs.Rows.{State, key, isMarked, recordMarks, recordRefusal, withRecord, Ran, Below}
 use Rattle.rows.specs.Keys.{all-has}
 use Rattle.rows.specs.Marks.{others-stay, undeclared-keeps, recorded-now, declared-gives}

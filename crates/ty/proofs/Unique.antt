@@ -45,6 +45,10 @@ use Rattle.ty.proofs.TypeWord.concrete_hint.Reads as concrete-hint-read
 use Rattle.ty.proofs.TypeWord.concrete_hint.Kinds as concrete-hint-kinds
 use Rattle.ty.proofs.digit.Reads as digit-reads
 use Rattle.ty.proofs.digit.Kinds as digit-kinds
+use Rattle.ty.proofs.is_legal.Reads as is-legal-reads
+use Rattle.ty.proofs.is_legal.Kinds as is-legal-kinds
+use Rattle.ty.proofs.are_legal.Reads as are-legal-reads
+use Rattle.ty.proofs.are_legal.Kinds as are-legal-kinds
 use Rattle.ty.proofs.decode.Reads as decode-reads
 use Rattle.ty.proofs.decode.Kinds as decode-kinds
 
@@ -131,6 +135,14 @@ categories-one κs a r₁ r₂ x₁ x₂ p q = p ∙ sym q
 pub concrete-hint-one : (κs : Lfts 0) (a : Dens κs concrete-hint-kinds.ps) (r₁ r₂ : resT concrete-hint-kinds.r κs .Denot) (x₁ x₂ : AtExit (endedOf 0 concrete-hint-kinds.ps concrete-hint-kinds.r) κs)
     → concrete-hint-reads.Post κs a r₁ x₁ → concrete-hint-reads.Post κs a r₂ x₂ → r₁ ≡ r₂
 concrete-hint-one κs a r₁ r₂ x₁ x₂ p q = p ∙ sym q
+
+pub is-legal-one : (κs : Lfts 0) (a : Dens κs is-legal-kinds.ps) (r₁ r₂ : resT is-legal-kinds.r κs .Denot) (x₁ x₂ : AtExit (endedOf 0 is-legal-kinds.ps is-legal-kinds.r) κs)
+    → is-legal-reads.Post κs a r₁ x₁ → is-legal-reads.Post κs a r₂ x₂ → r₁ ≡ r₂
+is-legal-one κs a r₁ r₂ x₁ x₂ p q = p ∙ sym q
+
+pub are-legal-one : (κs : Lfts 1) (a : Dens κs are-legal-kinds.ps) (r₁ r₂ : resT are-legal-kinds.r κs .Denot) (x₁ x₂ : AtExit (endedOf 1 are-legal-kinds.ps are-legal-kinds.r) κs)
+    → are-legal-reads.Post κs a r₁ x₁ → are-legal-reads.Post κs a r₂ x₂ → r₁ ≡ r₂
+are-legal-one κs a r₁ r₂ x₁ x₂ p q = p ∙ sym q
 
 pub decode-one : (κs : Lfts 0) (a : Dens κs decode-kinds.ps) (r₁ r₂ : resT decode-kinds.r κs .Denot) (x₁ x₂ : AtExit (endedOf 0 decode-kinds.ps decode-kinds.r) κs)
     → decode-reads.Post κs a r₁ x₁ → decode-reads.Post κs a r₂ x₂ → r₁ ≡ r₂

@@ -15,7 +15,7 @@ use Rattle.ty.specs.declared.MaybeType.the-variants.{Is, Nothing}
 use Rattle.ty.specs.declared.Arrayed.{Arrayed}
 use Rattle.ty.specs.declared.Arrayed.the-variants.{Of, Deep}
 use Rattle.ty.specs.Types.{ArgType, Primitive, Array, Unknown, element, depth, Int, Long, Float, Double, Boolean, Short, Byte, Char, ObjectCategory, ArrayCategory}
-use Rattle.ty.specs.Words.{tagOf, loadOf, baseOf, typeOf, legalWord, wordOf, pack}
+use Rattle.ty.specs.Words.{dimension, noType, tagOf, loadOf, baseOf, typeOf, legalWord, wordOf, pack}
 use Rattle.ty.specs.Shape.{type-array, type-flat, word-deeper, legal-element}
 use Rattle.ty.specs.Round.{word-of-type, depth-dims}
 
@@ -56,15 +56,15 @@ constants = (refl, refl, refl, refl, refl)
 -- ---- the answers
 
 unfoldable pub decodeWord : ℕ → ℕ → Decoded
-decodeWord names w = cond (legalWord names w) (Good (word w)) (Refused 7)
+decodeWord names w = cond (legalWord names w) (Good (word w)) (Refused noType)
 
 -- a word's element: a dimension less, where it has one
 unfoldable pub elementWord : ℕ → MaybeType
-elementWord w = cond (leb (2 ^ 56) w) (Is (word (w - 2 ^ 56))) Nothing
+elementWord w = cond (leb dimension w) (Is (word (w - dimension))) Nothing
 
 -- a word's array: a dimension more, where it has fewer than 255
 unfoldable pub arrayWord : ℕ → Arrayed
-arrayWord w = cond (ltb w (255 * 2 ^ 56)) (Of (word (w + 2 ^ 56))) Deep
+arrayWord w = cond (ltb w (255 * dimension)) (Of (word (w + dimension))) Deep
 
 -- a type that may be missing, as a word
 abbrev pub maybeWord : Option ArgType → MaybeType
@@ -76,7 +76,7 @@ module _ (names w : ℕ) where
   unfolding decodeWord
   decode-good e = rw e
 
-  pub decode-bad : legalWord names w ≡ false → Refused 7 ≡ decodeWord names w
+  pub decode-bad : legalWord names w ≡ false → Refused noType ≡ decodeWord names w
   unfolding decodeWord
   decode-bad e = rw e
 
@@ -120,7 +120,7 @@ module _ (names w : ℕ) where
   unfolding decodeWord
   good-legal t h = go (legalWord names w) h
     where
-      go : (b : Bool) → cond b (Good (word w)) (Refused 7) ≡ Good t → b ≡ true
+      go : (b : Bool) → cond b (Good (word w)) (Refused noType) ≡ Good t → b ≡ true
       go true e = refl
       go false e = cc
 
@@ -128,7 +128,7 @@ module _ (names w : ℕ) where
   unfolding decodeWord
   refused-legal k h = go (legalWord names w) h
     where
-      go : (b : Bool) → cond b (Good (word w)) (Refused 7) ≡ Refused k → b ≡ false
+      go : (b : Bool) → cond b (Good (word w)) (Refused noType) ≡ Refused k → b ≡ false
       go true e = cc
       go false e = refl
 

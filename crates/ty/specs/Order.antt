@@ -8,7 +8,7 @@ use Rattle.order.specs.declared.Order.{Order}
 use Rattle.order.specs.declared.Order.the-variants.{Less, Equal, Greater}
 use Rattle.order.specs.Compare.{flip, compareNumbers, compareLists}
 use Rattle.order.specs.Laws.{then-equal, lists-same, lists-equal, lists-swap, lists-trans}
-use Rattle.ty.specs.Types.{ArgType, Primitive, Object, Array, Unknown, compare}
+use Rattle.ty.specs.Types.{ArgType, Primitive, Object, Array, Unknown, Void, compare}
 
 -- ---- types, compared as lists
 
@@ -27,7 +27,7 @@ decodeAs (suc (suc zero)) rest t = Array t
 decodeAs (suc (suc (suc n))) rest t = Unknown rest
 
 decode : List ℕ → ArgType
-decode [] = Primitive 0
+decode [] = Primitive Void
 decode (x ∷ rest) = decodeAs x rest (decode rest)
 
 decode-code : (t : ArgType) → decode (code t) ≡ t

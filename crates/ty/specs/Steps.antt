@@ -5,17 +5,18 @@ use mathlib.Core.List.{List, [], _∷_}
 use mathlib.Core.Option.{Option, some, none}
 use Prim.Native.Nat.{ℕ, zero, suc, _+_, _-_, _*_, _/_, _%_, _^_, _≤_, _<_}
 use native.Mathlib.Nat.{one-mul}
+use native.Mathlib.Numerals.{add-one}
 use native.Mathlib.Omega.{arith}
 use lib.Dec.{eqb, leb, ltb}
 use lib.Bits.{bitOr, or-zero-l}
 use lib.Pow.{shl-exact}
-use lib.ListN.{take}
-use lib.Seq.{take-nil}
+use lib.ListN.{length, getD, take, drop, drop-of-length-le}
+use lib.Seq.{take-nil, drop-cons}
 use borrow.Author.Tests.{eq-eqb, ne-eqb, lt-ltb, le-ltb, le-leb, lt-leb, leb-true, leb-false}
 use Rattle.order.specs.Truth.{and-assoc}
 use Rattle.order.specs.Lists.{elem}
 use Rattle.ty.specs.Types.{ArgType, Primitive, Object, Array, Unknown, isKnown, isPrimitive, isObject, isArray, isReference, wideCategory, allWide, isWide, isConcrete, categories, maskWith, hintOfList, concreteHint, arrays}
-use Rattle.ty.specs.Words.{dimsOf, tagOf, loadOf, unpack, listOf, goodDigits, goodUnknown, baseOf, typeOf, wordOf, legalBase, legalWord}
+use Rattle.ty.specs.Words.{dimsOf, tagOf, loadOf, unpack, listOf, goodDigits, goodUnknown, baseOf, typeOf, wordOf, legalBase, legalWord, allLegal}
 use Rattle.ty.specs.Shape.{type-array, type-flat}
 use Rattle.ty.specs.Round.{word-known, legal-primitive, legal-object, legal-unknown, legal-none}
 
@@ -408,6 +409,18 @@ module _ (names w : ℕ) where
     where
       above : (t : ℕ) → (t ≡ 0 → ⊥) → (t ≡ 1 → ⊥) → (t ≡ 2 → ⊥) → 2 < t
       above t p q r = omega arith
+
+-- ---- the words of a slice
+
+module _ (names : ℕ) (ws : List ℕ) (i : ℕ) where
+  -- what is said of the word i decides what is said of it and the words after it
+  pub all-legal-next : i < length ws → (t : Bool) → legalWord names (getD ws i 0) ≡ t → allLegal names (drop i ws) ≡ (t && allLegal names (drop (i + 1) ws))
+  unfolding allLegal
+  all-legal-next h t e = rw (add-one i, drop-cons ws i 0 h) (ap (λ (b : Bool). b && allLegal names (drop (suc i) ws)) e)
+
+  pub all-legal-end : length ws ≤ i → allLegal names (drop i ws) ≡ true
+  unfolding allLegal
+  all-legal-end h = rw (drop-of-length-le ws h)
 
 -- 1 << k, within a word
 pub one-shifted : (k : ℕ) → k < 64 → 1 * 2 ^ k % 2 ^ 64 ≡ 2 ^ k

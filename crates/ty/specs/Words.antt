@@ -11,14 +11,24 @@ use Rattle.ty.specs.Types.{ArgType, Primitive, Object, Array, Unknown, a
 
 -- ---- the parts of a word
 
+-- what one dimension adds to a word, one step of the tag, and one of the length of an Unknown's list
+abbrev pub dimension : ℕ
+dimension = 2 ^ 56
+
+abbrev pub tagStep : ℕ
+tagStep = 2 ^ 48
+
+abbrev pub lengthStep : ℕ
+lengthStep = 2 ^ 44
+
 abbrev pub dimsOf : ℕ → ℕ
-dimsOf w = w / 2 ^ 56
+dimsOf w = w / dimension
 
 abbrev pub tagOf : ℕ → ℕ
-tagOf w = w / 2 ^ 48 % 256
+tagOf w = w / tagStep % 256
 
 abbrev pub loadOf : ℕ → ℕ
-loadOf w = w % 2 ^ 48
+loadOf w = w % tagStep
 
 -- ---- an Unknown's payload: a digit for the length, then a digit for each category, eleven in all
 
@@ -34,7 +44,7 @@ pack (suc n) [] = zero
 pack (suc n) (d ∷ ds) = d * 2 ^ (4 * n) + pack n ds
 
 unfoldable pub listOf : ℕ → List ℕ
-listOf load = take (load / 2 ^ 44) (unpack 11 load)
+listOf load = take (load / lengthStep) (unpack 11 load)
 
 -- n categories, none twice, and zeros after them
 unfoldable pub goodDigits : ℕ → List ℕ → Bool
@@ -43,7 +53,7 @@ goodDigits zero (d ∷ ds) = eqb d 0 && goodDigits zero ds
 goodDigits (suc n) (d ∷ ds) = leb d 10 && (not (elem d (take n ds)) && goodDigits n ds)
 
 unfoldable pub goodUnknown : ℕ → Bool
-goodUnknown load = leb (load / 2 ^ 44) 11 && goodDigits (load / 2 ^ 44) (unpack 11 load)
+goodUnknown load = leb (load / lengthStep) 11 && goodDigits (load / lengthStep) (unpack 11 load)
 
 -- ---- words and types
 
@@ -59,9 +69,13 @@ typeOf w = arrays (dimsOf w) (baseOf (tagOf w) (loadOf w))
 -- a type's word
 unfoldable pub wordOf : ArgType → ℕ
 wordOf (Primitive k) = k
-wordOf (Object c) = 2 ^ 48 + c
-wordOf (Array t) = 2 ^ 56 + wordOf t
-wordOf (Unknown cs) = 2 * 2 ^ 48 + (length cs * 2 ^ 44 + pack 11 cs)
+wordOf (Object c) = tagStep + c
+wordOf (Array t) = dimension + wordOf t
+wordOf (Unknown cs) = 2 * tagStep + (length cs * lengthStep + pack 11 cs)
+
+-- the refusal of a word that is no type
+abbrev pub noType : ℕ
+noType = 7
 
 -- whether a word is one of a type over that many names: refusal 7 is for the others
 unfoldable pub legalBase : ℕ → ℕ → ℕ → Bool

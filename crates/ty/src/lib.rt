@@ -4,9 +4,31 @@ ghost use Prim.Native.Nat.{_+_, _-_, _*_, _/_, _%_, _^_, _≤_, _<_};
 ghost use lib.ListN.{take};
 ghost use Rattle.order.specs.Lists.{elem};
 ghost use Rattle.ty.specs.Types.{isKnown, isPrimitive, isObject, isArray, isReference, wideCategory, allWide, isWide, isConcrete, categories, concreteHint, hintOfList, maskWith};
-ghost use Rattle.ty.specs.Words.{dimsOf, tagOf, loadOf, unpack, listOf, goodUnknown, typeOf, Legal};
+ghost use Rattle.ty.specs.Words.{tagStep, dimsOf, tagOf, loadOf, unpack, listOf, goodUnknown, typeOf, legalWord, allLegal, Legal};
 ghost use Rattle.ty.specs.Steps.{digitGood};
 ghost use Rattle.ty.specs.Answers.{intWord, longWord, floatWord, doubleWord, unknownWord, decodeWord, elementWord, arrayWord, maybeWord};
+
+// What one dimension adds to a word, one step of the tag, and one of the length of an Unknown's list.
+pub const DIMENSION: u64 = 1 << 56;
+
+pub const TAG: u64 = 1 << 48;
+
+pub const LENGTH: u64 = 1 << 44;
+
+// The least word with 255 dimensions: it has no array.
+const FULL: u64 = 255 << 56;
+
+// Categories that are asked for by name; the last of the eleven is ARRAY.
+const LONG: u64 = 6;
+
+const DOUBLE: u64 = 8;
+
+const OBJECT: u64 = 9;
+
+const ARRAY: u64 = 10;
+
+// The refusal of a word that is no type.
+pub const NO_TYPE: u64 = 7;
 
 // A type: dimensions (8 bits), tag (8 bits; 0 primitive, 1 class, 2 Unknown), payload (48 bits).
 pub struct TypeWord {
@@ -62,7 +84,7 @@ fn good_digit(load: u64, n: u64, i: u64) -> bool
     if n <= i {
         return d == 0;
     }
-    if 10 < d {
+    if ARRAY < d {
         return false;
     }
     let again = contains(load, i + 1, n, d);
@@ -73,7 +95,7 @@ fn good_digit(load: u64, n: u64, i: u64) -> bool
 fn good_unknown(load: u64) -> bool
     ensures { λ r. ⌜ r ≡ goodUnknown load ⌝ }
 {
-    let n = load / 17592186044416;
+    let n = load / LENGTH;
     if 11 < n {
         return false;
     }
@@ -92,17 +114,17 @@ fn good_unknown(load: u64) -> bool
 fn wide_category(category: u64) -> bool
     ensures { λ r. ⌜ r ≡ wideCategory category ⌝ }
 {
-    if category == 6 {
+    if category == LONG {
         return true;
     }
-    category == 8
+    category == DOUBLE
 }
 
 // Whether every category of an Unknown's list is wide; of an empty list, too.
 fn all_wide(load: u64) -> bool
     ensures { λ r. ⌜ r ≡ allWide (listOf load) ⌝ }
 {
-    let n = load / 17592186044416;
+    let n = load / LENGTH;
     let mut i: u64 = 0;
     while i < 11 {
         if n <= i {
@@ -122,7 +144,7 @@ fn all_wide(load: u64) -> bool
 fn list_mask(load: u64) -> u64
     ensures { λ r. ⌜ r ≡ maskWith 0 (listOf load) ⌝ }
 {
-    let n = load / 17592186044416;
+    let n = load / LENGTH;
     let mut m: u64 = 0;
     let mut i: u64 = 0;
     while i < 11 {
@@ -136,41 +158,59 @@ fn list_mask(load: u64) -> u64
     m
 }
 
+// Whether a word is that of a type over that many names.
+pub fn is_legal(word: u64, names: u64) -> bool
+    ensures { λ r. ⌜ r ≡ legalWord names word ⌝ }
+{
+    let tag = word / TAG % 256;
+    let load = word % TAG;
+    if tag == 0 {
+        return load <= ARRAY;
+    }
+    if tag == 1 {
+        return load < names;
+    }
+    if tag == 2 {
+        return good_unknown(load);
+    }
+    false
+}
+
+// The same of each word of a slice.
+pub fn are_legal(words: &[u64], names: u64) -> bool
+    ensures { λ r. ⌜ r ≡ allLegal names (now (words .entry)) ⌝ }
+{
+    let mut i: usize = 0;
+    while i < words.len() {
+        let legal = is_legal(words[i], names);
+        if legal {
+            i += 1;
+        } else {
+            return false;
+        }
+    }
+    true
+}
+
 // The type of a word over that many names, or refusal 7.
 pub fn decode(word: u64, names: u64) -> Decoded
     ensures { λ r. ⌜ r ≡ decodeWord names word ⌝ }
 {
-    let tag = word / 281474976710656 % 256;
-    let load = word % 281474976710656;
-    if tag == 0 {
-        if load <= 10 {
-            return Decoded::Good(TypeWord { word: word });
-        }
-        return Decoded::Refused(7);
+    if is_legal(word, names) {
+        Decoded::Good(TypeWord { word: word })
+    } else {
+        Decoded::Refused(NO_TYPE)
     }
-    if tag == 1 {
-        if load < names {
-            return Decoded::Good(TypeWord { word: word });
-        }
-        return Decoded::Refused(7);
-    }
-    if tag == 2 {
-        if good_unknown(load) {
-            return Decoded::Good(TypeWord { word: word });
-        }
-        return Decoded::Refused(7);
-    }
-    Decoded::Refused(7)
 }
 
 impl TypeWord {
     pub const INT: TypeWord = TypeWord { word: 5 };
 
-    pub const LONG: TypeWord = TypeWord { word: 6 };
+    pub const LONG: TypeWord = TypeWord { word: LONG };
 
     pub const FLOAT: TypeWord = TypeWord { word: 7 };
 
-    pub const DOUBLE: TypeWord = TypeWord { word: 8 };
+    pub const DOUBLE: TypeWord = TypeWord { word: DOUBLE };
 
     pub const UNKNOWN: TypeWord = TypeWord {
         word: 0x0002a567813249a0,
@@ -210,65 +250,63 @@ impl TypeWord {
     // The class of that number.
     pub fn object(class: u64) -> TypeWord
         requires { ⌜ class < 1024 ⌝ }
-        ensures { λ r. ⌜ r .word ≡ 2 ^ 48 + class ⌝ }
+        ensures { λ r. ⌜ r .word ≡ tagStep + class ⌝ }
     {
-        TypeWord {
-            word: 281474976710656 + class,
-        }
+        TypeWord { word: TAG + class }
     }
 
     pub fn dims(self) -> u64
         ensures { λ r. ⌜ r ≡ dimsOf (self .word) ⌝ }
     {
-        self.word / 72057594037927936
+        self.word / DIMENSION
     }
 
     pub fn tag(self) -> u64
         ensures { λ r. ⌜ r ≡ tagOf (self .word) ⌝ }
     {
-        self.word / 281474976710656 % 256
+        self.word / TAG % 256
     }
 
     pub fn load(self) -> u64
         ensures { λ r. ⌜ r ≡ loadOf (self .word) ⌝ }
     {
-        self.word % 281474976710656
+        self.word % TAG
     }
 
     pub fn is_known(self) -> bool
         ensures { λ r. ⌜ r ≡ isKnown (typeOf (self .word)) ⌝ }
     {
         let w = self.word;
-        if 72057594037927936 <= w {
+        if DIMENSION <= w {
             return true;
         }
-        w / 281474976710656 % 256 < 2
+        w / TAG % 256 < 2
     }
 
     pub fn is_primitive(self) -> bool
         ensures { λ r. ⌜ r ≡ isPrimitive (typeOf (self .word)) ⌝ }
     {
         let w = self.word;
-        if 72057594037927936 <= w {
+        if DIMENSION <= w {
             return false;
         }
-        w / 281474976710656 % 256 == 0
+        w / TAG % 256 == 0
     }
 
     pub fn is_object(self) -> bool
         ensures { λ r. ⌜ r ≡ isObject (typeOf (self .word)) ⌝ }
     {
         let w = self.word;
-        if 72057594037927936 <= w {
+        if DIMENSION <= w {
             return false;
         }
-        w / 281474976710656 % 256 == 1
+        w / TAG % 256 == 1
     }
 
     pub fn is_array(self) -> bool
         ensures { λ r. ⌜ r ≡ isArray (typeOf (self .word)) ⌝ }
     {
-        72057594037927936 <= self.word
+        DIMENSION <= self.word
     }
 
     // Whether this is a class or an array.
@@ -276,10 +314,10 @@ impl TypeWord {
         ensures { λ r. ⌜ r ≡ isReference (typeOf (self .word)) ⌝ }
     {
         let w = self.word;
-        if 72057594037927936 <= w {
+        if DIMENSION <= w {
             return true;
         }
-        w / 281474976710656 % 256 == 1
+        w / TAG % 256 == 1
     }
 
     // Whether it takes two registers.
@@ -287,11 +325,11 @@ impl TypeWord {
         ensures { λ r. ⌜ r ≡ isWide (typeOf (self .word)) ⌝ }
     {
         let w = self.word;
-        if 72057594037927936 <= w {
+        if DIMENSION <= w {
             return false;
         }
-        let tag = w / 281474976710656 % 256;
-        let load = w % 281474976710656;
+        let tag = w / TAG % 256;
+        let load = w % TAG;
         if tag == 0 {
             return wide_category(load);
         }
@@ -306,13 +344,13 @@ impl TypeWord {
         ensures { λ r. ⌜ r ≡ isConcrete (typeOf (self .word)) ⌝ }
     {
         let w = self.word;
-        let tag = w / 281474976710656 % 256;
-        let load = w % 281474976710656;
+        let tag = w / TAG % 256;
+        let load = w % TAG;
         if tag == 0 {
-            if load == 9 {
+            if load == OBJECT {
                 return false;
             }
-            return load != 10;
+            return load != ARRAY;
         }
         tag == 1
     }
@@ -321,9 +359,9 @@ impl TypeWord {
         ensures { λ r. ⌜ r ≡ elementWord (self .word) ⌝ }
     {
         let w = self.word;
-        if 72057594037927936 <= w {
+        if DIMENSION <= w {
             return MaybeType::Is(TypeWord {
-                word: w - 72057594037927936,
+                word: w - DIMENSION,
             });
         }
         MaybeType::Nothing
@@ -333,9 +371,9 @@ impl TypeWord {
         ensures { λ r. ⌜ r ≡ arrayWord (self .word) ⌝ }
     {
         let w = self.word;
-        if w < 18374686479671623680 {
+        if w < FULL {
             return Arrayed::Of(TypeWord {
-                word: w + 72057594037927936,
+                word: w + DIMENSION,
             });
         }
         Arrayed::Deep
@@ -347,16 +385,16 @@ impl TypeWord {
         ensures { λ r. ⌜ r ≡ maskWith 0 (categories (typeOf (self .word))) ⌝ }
     {
         let w = self.word;
-        if 72057594037927936 <= w {
-            return 1024;
+        if DIMENSION <= w {
+            return 1 << ARRAY;
         }
-        let tag = w / 281474976710656 % 256;
-        let load = w % 281474976710656;
+        let tag = w / TAG % 256;
+        let load = w % TAG;
         if tag == 0 {
             return 1u64 << load;
         }
         if tag == 1 {
-            return 512;
+            return 1 << OBJECT;
         }
         list_mask(load)
     }
@@ -381,16 +419,14 @@ fn single_hint(load: u64, object: u64) -> MaybeType
     requires { ⌜ object < 1024 ⌝ }
     ensures { λ r. ⌜ r ≡ maybeWord (hintOfList object (listOf load)) ⌝ }
 {
-    if load / 17592186044416 != 1 {
+    if load / LENGTH != 1 {
         return MaybeType::Nothing;
     }
     let c = digit(load, 0);
-    if c == 9 {
-        return MaybeType::Is(TypeWord {
-            word: 281474976710656 + object,
-        });
+    if c == OBJECT {
+        return MaybeType::Is(TypeWord { word: TAG + object });
     }
-    if c == 10 {
+    if c == ARRAY {
         return MaybeType::Nothing;
     }
     MaybeType::Is(TypeWord { word: c })

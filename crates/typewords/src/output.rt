@@ -1,14 +1,14 @@
 // Output through a buffer, of which the first `filled` bytes wait to be written. Each function answers how many do after it.
 use libc::STDOUT_FILENO;
 
-pub fn flush(out: &[u8], filled: usize) {
+pub(crate) fn flush(out: &[u8], filled: usize) {
     if filled <= out.len() {
         io::write_all(STDOUT_FILENO, &out[0..filled]);
     }
 }
 
 // One byte; a full buffer is written first.
-pub fn put(out: &mut [u8], filled: usize, b: u8) -> usize {
+pub(crate) fn put(out: &mut [u8], filled: usize, b: u8) -> usize {
     if filled < out.len() {
         out[filled] = b;
         return filled + 1;
@@ -21,7 +21,7 @@ pub fn put(out: &mut [u8], filled: usize, b: u8) -> usize {
     0
 }
 
-pub fn put_text(out: &mut [u8], filled: usize, text: &[u8]) -> usize {
+pub(crate) fn put_text(out: &mut [u8], filled: usize, text: &[u8]) -> usize {
     let mut at = filled;
     let mut i: usize = 0;
     while i < text.len() {
@@ -31,14 +31,14 @@ pub fn put_text(out: &mut [u8], filled: usize, text: &[u8]) -> usize {
     at
 }
 
-pub fn put_decimal(out: &mut [u8], filled: usize, n: u64) -> usize {
+pub(crate) fn put_decimal(out: &mut [u8], filled: usize, n: u64) -> usize {
     let mut text = [0u8; 20];
     let k = io::decimal(n, &mut text);
     put_text(out, filled, &text[..k])
 }
 
 // All 16 digits.
-pub fn put_hex(out: &mut [u8], filled: usize, n: u64) -> usize {
+pub(crate) fn put_hex(out: &mut [u8], filled: usize, n: u64) -> usize {
     let mut text = [0u8; 16];
     let k = io::hex(n, 16, &mut text);
     put_text(out, filled, &text[..k])

@@ -12,7 +12,7 @@ fn wide(b: u8) -> u64 {
 }
 
 // Where the line that goes on at `from` ends: at its newline, or at the chunk's end.
-pub fn line_end(chunk: &[u8], from: usize) -> usize
+pub(crate) fn line_end(chunk: &[u8], from: usize) -> usize
     requires { ⌜ from ≤ length (now chunk) ⌝ }
     ensures { λ r. ⌜ (from ≤ r) × (r ≤ length (now (chunk .entry))) ⌝ }
 {
@@ -36,7 +36,7 @@ fn hex_digit(b: u8) -> u64 {
 }
 
 // The word of 16 hex digits.
-pub fn hex_word(line: &[u8]) -> Word {
+pub(crate) fn hex_word(line: &[u8]) -> Word {
     if line.len() != 16 {
         return Word::Bad;
     }

@@ -10,7 +10,7 @@ struct Printed {
 }
 
 // `E line refusal`
-pub fn put_refusal(out: &mut [u8], filled: usize, line: u64, refusal: u64) -> usize {
+pub(crate) fn put_refusal(out: &mut [u8], filled: usize, line: u64, refusal: u64) -> usize {
     let a = output::put_text(out, filled, b"E ");
     let b = output::put_decimal(out, a, line);
     let c = output::put(out, b, b' ');
@@ -102,7 +102,7 @@ fn put_classes(out: &mut [u8], filled: usize, classes: Set) -> usize {
 }
 
 // All that stands after the refusals: n is at most the length of the table.
-pub fn put_all(table: &[u64], n: usize, out: &mut [u8], filled: usize) {
+pub(crate) fn put_all(table: &[u64], n: usize, out: &mut [u8], filled: usize) {
     if n <= table.len() {
         let p = put_types(&table[0..n], out, filled);
         let end = put_classes(out, p.filled, p.classes);

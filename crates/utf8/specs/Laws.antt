@@ -9,9 +9,10 @@ use lib.ListN.{length, take, drop, length-append, take-append-drop}
 use lib.Seq.{length-take-le, take-all, take-take, drop-append-seam}
 use lib.Dec.{ltb}
 use borrow.Author.Tests.{eqb-true, eq-eqb, ltb-true}
+use Rattle.order.specs.Truth.{both}
 use Rattle.utf8.specs.Utf8.{_‥_, table, matches, sequence, passing, scan, validPrefix, ascii, wellFormed}
 use Rattle.utf8.specs.Utf8.{Fits, Fits.done, Fits.next, WellFormed, WellFormed.empty, WellFormed.more}
-use Rattle.utf8.specs.Rows.{and-parts, fits-some, sequence-row, sequence-fits, sequence-found, sequence-le, long-high}
+use Rattle.utf8.specs.Rows.{fits-some, sequence-row, sequence-fits, sequence-found, sequence-le, long-high}
 
 -- ---- the valid prefix
 
@@ -133,7 +134,7 @@ pub ascii-whole : (bs : List ℕ) → ascii bs ≡ true → validPrefix bs ≡ l
 unfolding ascii
 ascii-whole [] e = omega (arith, prefix-le [])
 ascii-whole (b ∷ bs) e =
-    let p = and-parts (ltb b 0x80) (ascii bs) e in
+    let p = both (ltb b 0x80) (ascii bs) e in
     let h = ltb-true b 0x80 (p .0) in
     ascii-prefix b bs h ∙ ap suc (ascii-whole bs (p .1))
 

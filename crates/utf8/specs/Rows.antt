@@ -7,11 +7,8 @@ use native.Mathlib.Omega.{arith}
 use lib.Dec.{T, leb, ltb, ltb→lt, leb→le}
 use lib.ListN.{length, take, drop}
 use borrow.Author.Tests.{le-leb, lt-leb, leb-true}
+use Rattle.order.specs.Truth.{both}
 use Rattle.utf8.specs.Utf8.{Range, _‥_, table, within, matches, firstMatch, sequence, Fits, Fits.done, Fits.next}
-
-pub and-parts : (a b : Bool) → (a && b) ≡ true → (a ≡ true) × (b ≡ true)
-and-parts true b e = (refl, e)
-and-parts false b e = absurd (false≢true e)
 
 T-parts : (a b : Bool) → T (a && b) → T a × T b
 T-parts true b h = (tt, h)
@@ -45,8 +42,8 @@ unfolding matches within
 matches-fits [] bs e = done
 matches-fits (r ∷ row) [] e = absurd (false≢true e)
 matches-fits (r ∷ row) (b ∷ bs) e =
-    let p = and-parts (within r b) (matches row bs) e in
-    let q = and-parts (leb (r .lo) b) (leb b (r .hi)) (p .0) in
+    let p = both (within r b) (matches row bs) e in
+    let q = both (leb (r .lo) b) (leb b (r .hi)) (p .0) in
     next (leb-true (r .lo) b (q .0)) (leb-true b (r .hi) (q .1)) (matches-fits row bs (p .1))
 
 pub matches-le : (row : List Range) (bs : List ℕ) → matches row bs ≡ true → length row ≤ length bs
@@ -54,7 +51,7 @@ unfolding matches
 matches-le [] bs e = omega arith
 matches-le (r ∷ row) [] e = absurd (false≢true e)
 matches-le (r ∷ row) (b ∷ bs) e =
-    let ih = matches-le row bs (and-parts (within r b) (matches row bs) e .1) in
+    let ih = matches-le row bs (both (within r b) (matches row bs) e .1) in
     omega arith
 
 -- ---- the rows of the table, by tests of the whole table

@@ -5,6 +5,8 @@ pub mod Grow
 pub mod Reach
 pub mod Ancestors
 pub mod Relations
+pub mod Casts
+pub mod Distances
 pub mod Below
 pub mod Nearest
 pub mod Supertype

@@ -6,6 +6,7 @@ use mathlib.Core.List.{List, [], _∷_, _++_}
 use Prim.Native.Nat.{ℕ, zero, suc, _+_}
 use lib.Dec.{ltb}
 use lib.ListN.{length, getD, drop}
+use Rattle.text.specs.Text.{ascii, byte}
 use Rattle.ty.specs.Types.{ArgType, Primitive, Object, Array, Unknown}
 use Rattle.ty.specs.Words.{typeOf, legalWord, allLegal}
 use Rattle.checks.specs.Checks.{check, firstRefusal, orElse}
@@ -14,16 +15,16 @@ use Rattle.writer.specs.declared.Written.{Written}
 
 -- ---- a type
 
--- PrimitiveType::descriptor: V Z B S C I J F D, and L and [ for the categories 9 and 10
+-- PrimitiveType::descriptor, by category
 unfoldable pub letterByte : ℕ → ℕ
-letterByte k = getD (86 ∷ 90 ∷ 66 ∷ 83 ∷ 67 ∷ 73 ∷ 74 ∷ 70 ∷ 68 ∷ 76 ∷ 91 ∷ []) k 0
+letterByte k = getD (ascii "VZBSCIJFDL[") k 0
 
 -- to_descriptor; `name` gives the bytes of a class's name
 unfoldable pub print : (ℕ → List ℕ) → ArgType → List ℕ
 print name (Primitive k) = letterByte k ∷ []
-print name (Object c) = 76 ∷ name c ++ (59 ∷ [])
-print name (Array t) = 91 ∷ print name t
-print name (Unknown cs) = 63 ∷ []
+print name (Object c) = byte "L" ∷ name c ++ (byte ";" ∷ [])
+print name (Array t) = byte "[" ∷ print name t
+print name (Unknown cs) = byte "?" ∷ []
 
 -- ---- a method
 
@@ -34,7 +35,7 @@ printAll name (t ∷ ts) = print name t ++ printAll name ts
 
 -- Display of MethodDescriptor
 unfoldable pub printMethod : (ℕ → List ℕ) → List ArgType → ArgType → List ℕ
-printMethod name params result = 40 ∷ printAll name params ++ (41 ∷ print name result)
+printMethod name params result = byte "(" ∷ printAll name params ++ (byte ")" ∷ print name result)
 
 -- ---- the same of words, over names as places in a slice
 

@@ -7,11 +7,29 @@ ghost use mathlib.Core.Bool.{true};
 ghost use Prim.Native.Nat.{_+_, _≤_};
 ghost use lib.ListN.{length, take, drop, replicate};
 ghost use lib.Seq.{sets};
+ghost use Rattle.text.specs.Text.{byte};
 ghost use Rattle.ty.specs.Words.{legalBase, legalWord, allLegal};
 ghost use Rattle.names.specs.Table.{Checked};
 ghost use Rattle.writer.specs.Print.{letterByte, printWord, printWords, printMethodWords, Wrote, checkedTypeRefusal, typeRefusal, checkedMethodRefusal, methodRefusal};
 ghost use Rattle.writer.specs.Store.{Put};
 ghost use Rattle.writer.specs.Steps.{Short, classBytes, printBase, wordSize, wordsSize, methodSize};
+
+// Refusals.
+const TYPE: u64 = 7;
+
+const ROOM: u64 = 8;
+
+const SHORT: u64 = 22;
+
+// A word is its dimensions, its tag below TAGS and its load below TAG.
+const DIMENSION: u64 = 1 << 56;
+
+const TAG: u64 = 1 << 48;
+
+const TAGS: u64 = 256;
+
+// How many parameters a method has at most.
+const PARAMETERS: usize = 255;
 
 // How much was written; or a refusal, and nothing was.
 pub struct Written {
@@ -50,10 +68,10 @@ fn type_length(lens: &[u64], word: u64) -> u64
     requires { ⌜ Short (now lens) × (legalWord (length (now lens)) word ≡ true) ⌝ }
     ensures { λ r. ⌜ (r ≡ wordSize (now (lens .entry)) word) × (r ≤ 512) ⌝ }
 {
-    let dims = word / 72057594037927936;
-    let tag = word / 281474976710656 % 256;
+    let dims = word / DIMENSION;
+    let tag = word / TAG % TAGS;
     if tag == 1 {
-        let class = (word % 281474976710656) as usize;
+        let class = (word % TAG) as usize;
         return dims + (lens[class] + 2);
     }
     dims + 1
@@ -94,7 +112,7 @@ fn letter(category: u64) -> u8
 // A '[' for each dimension.
 fn put_brackets(out: &mut [u8], at: usize, dims: usize)
     requires { ⌜ at + dims ≤ length (now out) ⌝ }
-    ensures { λ _. ⌜ now (out .exit) ≡ sets (now (out .entry)) at (replicate dims 91) ⌝ }
+    ensures { λ _. ⌜ now (out .exit) ≡ sets (now (out .entry)) at (replicate dims (byte "[")) ⌝ }
 {
     let mut i: usize = 0;
     while i < dims {
@@ -158,9 +176,9 @@ fn put_type(names: &[u8], ats: &[u64], lens: &[u64], word: u64, out: &mut [u8], 
     requires { ⌜ Checked (now names) (now ats) (now lens) × (legalWord (length (now ats)) word ≡ true) × (at + length (printWord (now names) (now ats) (now lens) word) ≤ length (now out)) ⌝ }
     ensures { λ r. ⌜ Put (printWord (now (names .entry)) (now (ats .entry)) (now (lens .entry)) word) (now (out .entry)) (now (out .exit)) at r ⌝ }
 {
-    let dims = (word / 72057594037927936) as usize;
-    let tag = word / 281474976710656 % 256;
-    let load = word % 281474976710656;
+    let dims = (word / DIMENSION) as usize;
+    let tag = word / TAG % TAGS;
+    let load = word % TAG;
     put_brackets(out, at, dims);
     put_base(names, ats, lens, tag, load, out, at + dims)
 }
@@ -220,10 +238,10 @@ fn write_checked_type(names: &[u8], ats: &[u64], lens: &[u64], word: u64, out: &
     ensures { λ r. ⌜ Wrote (checkedTypeRefusal (now (names .entry)) (now (ats .entry)) (now (lens .entry)) word (length (now (out .entry)))) (printWord (now (names .entry)) (now (ats .entry)) (now (lens .entry)) word) (now (out .entry)) (now (out .exit)) r ⌝ }
 {
     if !is_legal(word, ats.len() as u64) {
-        return refused(7);
+        return refused(TYPE);
     }
     if (out.len() as u64) < type_length(lens, word) {
-        return refused(22);
+        return refused(SHORT);
     }
     let end = put_type(names, ats, lens, word, out, 0);
     Written {
@@ -243,18 +261,18 @@ fn write_checked_method(
     requires { ⌜ Checked (now names) (now ats) (now lens) ⌝ }
     ensures { λ r. ⌜ Wrote (checkedMethodRefusal (now (names .entry)) (now (ats .entry)) (now (lens .entry)) (now (params .entry)) result (length (now (out .entry)))) (printMethodWords (now (names .entry)) (now (ats .entry)) (now (lens .entry)) (now (params .entry)) result) (now (out .entry)) (now (out .exit)) r ⌝ }
 {
-    if 255 < params.len() {
-        return refused(8);
+    if PARAMETERS < params.len() {
+        return refused(ROOM);
     }
     let n = ats.len() as u64;
     if !are_legal(params, n) {
-        return refused(7);
+        return refused(TYPE);
     }
     if !is_legal(result, n) {
-        return refused(7);
+        return refused(TYPE);
     }
     if (out.len() as u64) < method_length(lens, params, result) {
-        return refused(22);
+        return refused(SHORT);
     }
     let end = put_method(names, ats, lens, params, result, out);
     Written {

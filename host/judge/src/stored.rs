@@ -2,8 +2,7 @@
 
 pub const LEAVES: &str = include_str!("../../../crates/replay_leaves/stdin");
 pub const DESCRIPTORS: &str = include_str!("../../../crates/replay_descriptors/stdin");
-pub const TABLES: &str = include_str!("../../../crates/replay_tables/stdin");
-pub const TYPES: &str = include_str!("../../../crates/replay_types/stdin");
+pub const QUERIES: &str = include_str!("../../../crates/replay_queries/stdin");
 
 /// Every file, in the order of the recorder's.
-pub const FILES: [&str; 4] = [LEAVES, DESCRIPTORS, TABLES, TYPES];
+pub const FILES: [&str; 3] = [LEAVES, DESCRIPTORS, QUERIES];

@@ -6,14 +6,12 @@ use dexdec::PrimitiveType::{self, *};
 use judge::classes::{Classes, Judge, WORK};
 use words::{word, CATEGORIES};
 
-use crate::out::{bytes, list, numbers, Out};
+use crate::out::Out;
 use crate::rng::Rng;
-use crate::tables::{any_table, damage, layered_table};
+use crate::tables::{any_table, damage, layered_table, table_case, INT};
 
 /// A word that is no type.
 const NO_TYPE: u64 = 11;
-
-const INT: u64 = 5;
 
 fn unknown(list: &[PrimitiveType]) -> ArgType {
     ArgType::Unknown(list.to_vec())
@@ -57,26 +55,6 @@ fn some_types(rng: &mut Rng, names: &[String], most: usize) -> Vec<u64> {
         .iter()
         .map(|ty| word(ty, names).expect("a type with a word"));
     legal.collect()
-}
-
-/// The table and the types in a line.
-fn table_case(out: &mut Out, table: &Classes, types: &[u64], room: usize) {
-    let mut arguments = vec![format!("{room:x}"), bytes(&table.names.store)];
-    let columns = [
-        &table.names.at,
-        &table.names.len,
-        &types.to_vec(),
-        &table.flags,
-        &table.class,
-        &table.at,
-        &table.len,
-        &table.parents,
-    ];
-    for column in columns {
-        arguments.extend(numbers(&list(column.iter().copied())));
-    }
-    let refusal = table.word_refusal(&[INT, INT], room);
-    out.begin("table", &arguments, &numbers(&[refusal]));
 }
 
 /// An answer for each type, or the refusal of all and zeros.
@@ -124,7 +102,7 @@ pub fn types(rng: &mut Rng, out: &mut Out) {
         let types = some_types(rng, &names, most);
         all(out, &table, &types, &types, WORK);
     }
-    for _ in 0..out.cases(40) {
+    for _ in 0..out.cases(42) {
         let count = 1 + rng.below(5);
         let mut table = any_table(rng, count);
         let names = table.names().expect("a sound table");

@@ -80,16 +80,11 @@ const DESCRIPTORS: &[Function] = &[
 ];
 
 #[rustfmt::skip]
-const TABLES: &[Function] = &[
-    function("table", "room names flags class at len parents = refusal of the ancestors of class 0", "rules", tables::tables),
+const QUERIES: &[Function] = &[
+    function("table", "room names types rec_flags rec_class rec_at rec_len parents = refusal, and the join of Int and Int", "rules", tables::tables),
     function("pair", "a b = refusal relation distance supertype cast of a and b over the last table: relation 0 yes, 1 no, 2 unknown", "subtype_relation, distances, least_common_supertype, is_cast_convertible of ClassHierarchyIndex in hierarchy.rs; rules for refusals", with_the_table),
     function("ancestors", "class = refusal count lowest and the list of words of the set of its ancestors, without the zeros at its end", "ancestor_names of ClassHierarchyIndex; rules for refusals", with_the_table),
-];
-
-#[rustfmt::skip]
-const TYPES: &[Function] = &[
-    function("table", "room names types flags class at len parents = refusal of the join of Int and Int", "rules", joins::types),
-    function("join", "w = refusal, and the join of w and each of the types of the last table", "TypeLattice::join over ClassHierarchyIndex; rules for refusals", with_the_table),
+    function("join", "w = refusal, and the join of w and each of the types of the last table", "TypeLattice::join over ClassHierarchyIndex; rules for refusals", joins::types),
     function("assign", "w = refusal, and whether w is assignable to each of the types of the last table", "TypeLattice::is_assignable over ClassHierarchyIndex; rules for refusals", with_the_table),
 ];
 
@@ -97,7 +92,7 @@ const TYPES: &[Function] = &[
 fn with_the_table(_: &mut Rng, _: &mut Out) {}
 
 /// Every file that can be recorded.
-pub static FILES: [File; 4] = [
+pub static FILES: [File; 3] = [
     File {
         name: "leaves",
         about: "\
@@ -120,30 +115,18 @@ pub static FILES: [File; 4] = [
         functions: DESCRIPTORS,
     },
     File {
-        name: "tables",
+        name: "queries",
         about: "\
             # Numbers are lower-case hex without leading zeros. A list: the length, then the members. names: the\n\
-            # bytes that names are cut from (one token, x and two digits a byte), the list of their places, the list\n\
-            # of their lengths. flags, class, at, len: a list each, an entry a record; parents: the list that records\n\
-            # cut theirs from. room: how many working words are lent. A table holds until the next one. A refused\n\
-            # answer has its number, then zeros. ffffffffffffffff: no answer.\n\
-            # rules: those of the scope paper, written apart in host/judge/src/classes.rs. Tables that pass the\n\
-            # limits (8) are too long for a line; the tests of host/bracepuffin have them.\n",
+            # bytes that names are cut from (one token, x and two digits a byte), name_at, the list of their places,\n\
+            # and name_len, the list of their lengths. rec_flags, rec_class, rec_at, rec_len: a list each, an entry a\n\
+            # record; parents: the list that records cut theirs from. types: a list of words, none where classes are\n\
+            # asked about. room: how many working words are lent. A table holds until the next one. A refused answer\n\
+            # has its number, then zeros. ffffffffffffffff: no answer.\n\
+            # rules: those of the scope paper, written apart in host/judge/src/classes.rs and types.rs. Tables that\n\
+            # pass the limits (8) are too long for a line; the tests of host/bracepuffin have them.\n",
         most_tokens: 1600,
-        functions: TABLES,
-    },
-    File {
-        name: "types",
-        about: "\
-            # Numbers are lower-case hex without leading zeros. A list: the length, then the members. names: the\n\
-            # bytes that names are cut from (one token, x and two digits a byte), the list of their places, the list\n\
-            # of their lengths. flags, class, at, len: a list each, an entry a record; parents: the list that records\n\
-            # cut theirs from. types: a list of words. room: how many working words are lent. A table holds until the next one. A refused\n\
-            # answer has its number, then zeros. ffffffffffffffff: no answer.\n\
-            # rules: those of the scope paper, written apart in host/judge/src/types.rs. Tables that pass the\n\
-            # limits (8) are too long for a line; the tests of host/bracepuffin have them.\n",
-        most_tokens: 1600,
-        functions: TYPES,
+        functions: QUERIES,
     },
 ];
 

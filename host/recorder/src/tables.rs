@@ -9,6 +9,9 @@ use crate::rng::Rng;
 /// Flags that a record may have: undeclared, or declared with its facts.
 const FLAGS: [u64; 5] = [0, 1, 3, 5, 7];
 
+/// The word of the type Int.
+pub(crate) const INT: u64 = 5;
+
 /// Short names in the order of bytes; java/lang/Object comes between the last capital and `k`.
 fn names(count: u64, before: u64) -> Vec<String> {
     let letter = |first: u8, number: u64| {
@@ -157,12 +160,13 @@ pub(crate) fn damage(rng: &mut Rng, table: &mut Classes) {
     }
 }
 
-/// The table in a line, as the columns are lent.
-fn table_case(out: &mut Out, table: &Classes, room: usize) {
+/// The table in a line, as the columns are lent, and the types that are asked about after it.
+pub(crate) fn table_case(out: &mut Out, table: &Classes, types: &[u64], room: usize) {
     let mut arguments = vec![format!("{room:x}"), bytes(&table.names.store)];
     let columns = [
         &table.names.at,
         &table.names.len,
+        &types.to_vec(),
         &table.flags,
         &table.class,
         &table.at,
@@ -172,7 +176,11 @@ fn table_case(out: &mut Out, table: &Classes, room: usize) {
     for column in columns {
         arguments.extend(numbers(&list(column.iter().copied())));
     }
-    out.begin("table", &arguments, &numbers(&[table.refusal(&[0], room)]));
+    let answer = match table.word_refusal(&[INT, INT], room) {
+        0 => [0, INT],
+        refusal => [refusal, 0],
+    };
+    out.begin("table", &arguments, &numbers(&answer));
 }
 
 /// What is asked about a table: nothing but refusals if it has no judge.
@@ -184,7 +192,7 @@ struct Asked<'a> {
 
 impl<'a> Asked<'a> {
     fn new(out: &mut Out, table: &'a Classes, room: usize) -> Self {
-        table_case(out, table, room);
+        table_case(out, table, &[], room);
         let judge = table.names().is_ok().then(|| table.judge());
         Self { table, room, judge }
     }

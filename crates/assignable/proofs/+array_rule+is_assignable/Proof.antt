@@ -81,14 +81,14 @@ array-rule-returns t c =
     let s = c .before .before .before .before .before .before .before .before in
     let a = s .args in
     let p = s .pre .1 in
-    rule-same (worldOf (a .pairs .now) (a .marks .now) (a .n)) (a .value .word) (a .expected .word) (p .3) (p .4) (p .1) (p .2) (sym (c .before .before .before .is-primitive .ensures) ∙ c .before .before .if1 .taken) (sym (c .before .is-primitive2 .ensures) ∙ c .if2 .taken)
+    rule-same (worldOf (a .pairs .now) (a .marks .now) (a .t)) (a .value .word) (a .expected .word) (p .3) (p .4) (p .1) (p .2) (sym (c .before .before .before .is-primitive .ensures) ∙ c .before .before .if1 .taken) (sym (c .before .is-primitive2 .ensures) ∙ c .if2 .taken)
 
 array-rule-returns-2 : (t : ℕ) → array-rule-lts.Need-returns-2 (array-rule-claims t) (array-rule-at t) array-rule.Post
 array-rule-returns-2 t c =
     let s = c .before .before .before .before .before .before .before .before in
     let a = s .args in
     let p = s .pre .1 in
-    rule-left (worldOf (a .pairs .now) (a .marks .now) (a .n)) (a .value .word) (a .expected .word) (p .3) (p .4) (sym (c .before .before .before .is-primitive .ensures) ∙ c .before .before .if1 .taken) (sym (c .before .is-primitive2 .ensures) ∙ c .if2 .left)
+    rule-left (worldOf (a .pairs .now) (a .marks .now) (a .t)) (a .value .word) (a .expected .word) (p .3) (p .4) (sym (c .before .before .before .is-primitive .ensures) ∙ c .before .before .if1 .taken) (sym (c .before .is-primitive2 .ensures) ∙ c .if2 .left)
 
 array-rule-is-primitive-requires-3 : (t : ℕ) → array-rule-lts.Need-is-primitive-requires-3 (array-rule-claims t) (array-rule-at t) array-rule.Post
 array-rule-is-primitive-requires-3 t c κs = search needs
@@ -98,7 +98,7 @@ array-rule-returns-3 t c =
     let s = c .before .before .before .before .before .before .before .before in
     let a = s .args in
     let p = s .pre .1 in
-    rule-right (worldOf (a .pairs .now) (a .marks .now) (a .n)) (a .value .word) (a .expected .word) (p .3) (p .4) (sym (c .before .before .before .is-primitive .ensures) ∙ c .before .before .if1 .left) (sym (c .before .is-primitive3 .ensures) ∙ c .if3 .taken)
+    rule-right (worldOf (a .pairs .now) (a .marks .now) (a .t)) (a .value .word) (a .expected .word) (p .3) (p .4) (sym (c .before .before .before .is-primitive .ensures) ∙ c .before .before .if1 .left) (sym (c .before .is-primitive3 .ensures) ∙ c .if3 .taken)
 
 array-rule-is-assignable-requires : (t : ℕ) → array-rule-lts.Need-is-assignable-requires (array-rule-claims t) (array-rule-at t) array-rule.Post
 array-rule-is-assignable-requires t c κs =
@@ -115,12 +115,12 @@ array-rule-returns-4 t c =
     let a = s .args in
     let p = s .pre .1 in
     c .is-assignable .ensures
-    ∙ rule-whole (worldOf (a .pairs .now) (a .marks .now) (a .n)) (a .value .word) (a .expected .word) (p .3) (p .4) (sym (c .before .before .before .before .is-primitive .ensures) ∙ c .before .before .before .if1 .left) (sym (c .before .before .is-primitive3 .ensures) ∙ c .before .if3 .left)
+    ∙ rule-whole (worldOf (a .pairs .now) (a .marks .now) (a .t)) (a .value .word) (a .expected .word) (p .3) (p .4) (sym (c .before .before .before .before .is-primitive .ensures) ∙ c .before .before .before .if1 .left) (sym (c .before .before .is-primitive3 .ensures) ∙ c .before .if3 .left)
 
 is-assignable-returns : (t : ℕ) → is-assignable-lts.Need-returns (is-assignable-claims t) (is-assignable-at t) is-assignable.Post
 is-assignable-returns t c =
     let a = c .before .before .before .before .before .args in
-    equal-words (worldOf (a .pairs .now) (a .marks .now) (a .n)) (a .value .word) (a .expected .word) (c .if1 .taken)
+    equal-words (worldOf (a .pairs .now) (a .marks .now) (a .t)) (a .value .word) (a .expected .word) (c .if1 .taken)
 
 is-assignable-are-arrays-requires : (t : ℕ) → is-assignable-lts.Need-are-arrays-requires (is-assignable-claims t) (is-assignable-at t) is-assignable.Post
 is-assignable-are-arrays-requires t c κs = search needs
@@ -139,7 +139,7 @@ is-assignable-returns-2 t c =
     let s = c .before .before .before .before .before .before .before .before in
     let a = s .args in
     let p = s .pre .1 in
-    c .array-rule .ensures ∙ other-words (worldOf (a .pairs .now) (a .marks .now) (a .n)) (a .value .word) (a .expected .word) (p .1) (p .2) (c .before .before .before .if1 .left)
+    c .array-rule .ensures ∙ other-words (worldOf (a .pairs .now) (a .marks .now) (a .t)) (a .value .word) (a .expected .word) (p .1) (p .2) (c .before .before .before .if1 .left)
 
 is-assignable-bases-assignable-requires : (t : ℕ) → is-assignable-lts.Need-bases-assignable-requires (is-assignable-claims t) (is-assignable-at t) is-assignable.Post
 is-assignable-bases-assignable-requires t c κs =
@@ -151,7 +151,7 @@ is-assignable-returns-3 t c =
     let s = c .before .before .before .before .before .before .before .before in
     let a = s .args in
     let p = s .pre .1 in
-    c .bases-assignable .ensures ∙ other-words (worldOf (a .pairs .now) (a .marks .now) (a .n)) (a .value .word) (a .expected .word) (p .1) (p .2) (c .before .before .before .if1 .left)
+    c .bases-assignable .ensures ∙ other-words (worldOf (a .pairs .now) (a .marks .now) (a .t)) (a .value .word) (a .expected .word) (p .1) (p .2) (c .before .before .before .if1 .left)
 
 pub +array-rule+is-assignable-spec : {M : Type 1} → statement M
 +array-rule+is-assignable-spec = close μ-array-rule μ-is-assignable (λ t. array-rule-lts.spec (array-rule-claims t)

@@ -28,7 +28,7 @@ returns-2 : tie.Need-returns-2
 returns-2 c =
     let a = c .before .before .before .before .before .before .before .args in
     c .unknown-accepts .ensures
-    ∙ apart-from (worldOf (a .pairs .now) (a .marks .now) (a .n)) (typeOf (a .value .word)) (typeOf (a .expected .word))
+    ∙ apart-from (worldOf (a .pairs .now) (a .marks .now) (a .t)) (typeOf (a .value .word)) (typeOf (a .expected .word))
     (sym (c .before .before .is-known2 .ensures) ∙ c .before .if2 .left) (sym (c .before .before .before .before .is-known .ensures) ∙ c .before .before .before .if1 .taken)
 
 unknown-accepts-requires-2 : tie.Need-unknown-accepts-requires-2
@@ -38,7 +38,7 @@ returns-3 : tie.Need-returns-3
 returns-3 c =
     let a = c .before .before .before .before .before .args in
     c .unknown-accepts2 .ensures
-    ∙ apart-to (worldOf (a .pairs .now) (a .marks .now) (a .n)) (typeOf (a .value .word)) (typeOf (a .expected .word)) (sym (c .before .before .is-known .ensures) ∙ c .before .if1 .left)
+    ∙ apart-to (worldOf (a .pairs .now) (a .marks .now) (a .t)) (typeOf (a .value .word)) (typeOf (a .expected .word)) (sym (c .before .before .is-known .ensures) ∙ c .before .if1 .left)
 
 pub bases-assignable-spec : {M : Type 1} → statement M
 bases-assignable-spec =

@@ -27,7 +27,7 @@ returns : tie.Need-returns
 returns c =
     let a = c .before .before .before .before .before .before .args in
     c .to-class .ensures
-    ∙ ap (λ (u : ArgType). assignableApart (worldOf (a .pairs .now) (a .marks .now) (a .n)) (typeOf (a .value .word)) u)
+    ∙ ap (λ (u : ArgType). assignableApart (worldOf (a .pairs .now) (a .marks .now) (a .t)) (typeOf (a .value .word)) u)
     (ap Object (c .before .load .ensures) ∙ sym (object-load (a .expected .word) (sym (c .before .before .before .is-object .ensures) ∙ c .before .before .if1 .taken)))
 
 is-primitive-requires : tie.Need-is-primitive-requires
@@ -51,7 +51,7 @@ returns-2 c =
     let v = c .before .before .load2 in
     let e = c .before .load3 in
     c .primitive-assignable .ensures
-    ∙ primitives (worldOf (a .pairs .now) (a .marks .now) (a .n)) (typeOf (a .value .word)) (typeOf (a .expected .word)) (v .result) (e .result)
+    ∙ primitives (worldOf (a .pairs .now) (a .marks .now) (a .t)) (typeOf (a .value .word)) (typeOf (a .expected .word)) (v .result) (e .result)
     (primitive-load (a .value .word) (sym (c .before .before .before .before .before .before .is-primitive .ensures) ∙ c .before .before .before .before .before .if2 .taken) ∙ ap Primitive (sym (v .ensures)))
     (primitive-load (a .expected .word) (sym (c .before .before .before .before .is-primitive2 .ensures) ∙ c .before .before .before .if3 .taken) ∙ ap Primitive (sym (e .ensures)))
 
@@ -59,7 +59,7 @@ returns-3 : tie.Need-returns-3
 returns-3 c =
     let s = c .before .before .before .before .before .before .before .before in
     let a = s .args in
-    from-primitive (worldOf (a .pairs .now) (a .marks .now) (a .n)) (typeOf (a .value .word)) (typeOf (a .expected .word))
+    from-primitive (worldOf (a .pairs .now) (a .marks .now) (a .t)) (typeOf (a .value .word)) (typeOf (a .expected .word))
     (sym (c .before .before .before .is-primitive .ensures) ∙ c .before .before .if2 .taken) (s .pre .3) (sym (c .before .before .before .before .before .is-object .ensures) ∙ c .before .before .before .before .if1 .left)
     (sym (c .before .is-primitive2 .ensures) ∙ c .if3 .left)
 
@@ -67,7 +67,7 @@ returns-4 : tie.Need-returns-4
 returns-4 c =
     let s = c .before .before .before .before .before .before in
     let a = s .args in
-    from-reference (worldOf (a .pairs .now) (a .marks .now) (a .n)) (typeOf (a .value .word)) (typeOf (a .expected .word))
+    from-reference (worldOf (a .pairs .now) (a .marks .now) (a .t)) (typeOf (a .value .word)) (typeOf (a .expected .word))
     (sym (c .before .is-primitive .ensures) ∙ c .if2 .left) (s .pre .2) (s .pre .3) (sym (c .before .before .before .is-object .ensures) ∙ c .before .before .if1 .left) (s .pre .4)
 
 pub known-assignable-spec : {M : Type 1} → statement M

@@ -20,7 +20,7 @@ unfolding arrayParent
 returns c =
     let a = c .before .before .before .before .before .args in
     c .array-parent .ensures
-    ∙ array-to-class (worldOf (a .pairs .now) (a .marks .now) (a .n)) (typeOf (a .value .word)) (a .class) (sym (c .before .before .is-array .ensures) ∙ c .before .if1 .taken)
+    ∙ array-to-class (worldOf (a .pairs .now) (a .marks .now) (a .t)) (typeOf (a .value .word)) (a .class) (sym (c .before .before .is-array .ensures) ∙ c .before .if1 .taken)
 
 is-object-requires : tie.Need-is-object-requires
 is-object-requires c κs = search needs
@@ -40,13 +40,13 @@ returns-2 c =
     let l = c .before .before .load in
     c .not-no .ensures
     ∙ ap notNo (c .before .subtype-relation .ensures)
-    ∙ class-to-class (worldOf (a .pairs .now) (a .marks .now) (a .n)) (typeOf (a .value .word)) (l .result) (a .class)
+    ∙ class-to-class (worldOf (a .pairs .now) (a .marks .now) (a .t)) (typeOf (a .value .word)) (l .result) (a .class)
     (object-load (a .value .word) (sym (c .before .before .before .before .is-object .ensures) ∙ c .before .before .before .if2 .taken) ∙ ap Object (sym (l .ensures)))
 
 returns-3 : tie.Need-returns-3
 returns-3 c =
     let a = c .before .before .before .before .before .before .args in
-    other-to-class (worldOf (a .pairs .now) (a .marks .now) (a .n)) (typeOf (a .value .word)) (a .class) (c .before .before .before .before .before .before .pre .1)
+    other-to-class (worldOf (a .pairs .now) (a .marks .now) (a .t)) (typeOf (a .value .word)) (a .class) (c .before .before .before .before .before .before .pre .1)
     (sym (c .before .before .before .is-array .ensures) ∙ c .before .before .if1 .left) (sym (c .before .is-object .ensures) ∙ c .if2 .left)
 
 pub to-class-spec : {M : Type 1} → statement M

@@ -13,10 +13,10 @@ use Rattle.candidates.proofs.is_assignable_to_all.Statement.{statement}
 use Rattle.candidates.proofs.is_assignable_to_all.Tie as tie
 
 abbrev Inv-loop : tie.InvT-loop
-Inv-loop pairs marks n candidate upper i₀ i = (i ≤ length upper) × (assignableToAll (worldOf pairs marks n) (typeOf (candidate .word)) (map typeOf upper) ≡ assignableToAll (worldOf pairs marks n) (typeOf (candidate .word)) (typesFrom i upper))
+Inv-loop pairs marks t candidate upper i₀ i = (i ≤ length upper) × (assignableToAll (worldOf pairs marks t) (typeOf (candidate .word)) (map typeOf upper) ≡ assignableToAll (worldOf pairs marks t) (typeOf (candidate .word)) (typesFrom i upper))
 
 abbrev μ-loop : tie.MeasureT-loop
-μ-loop pairs marks n candidate upper i₀ i = length upper - i
+μ-loop pairs marks t candidate upper i₀ i = length upper - i
 
 loop-holds : tie.Need-loop-holds Inv-loop μ-loop
 loop-holds c = (omega arith, refl)
@@ -43,19 +43,19 @@ loop-again : tie.Need-loop-again Inv-loop μ-loop
 loop-again c =
     let a = c .before .before .before .before .before .before .before .before .args in
     let l = c .before .before .before .before .loop in
-    (omega arith, l .inv .1 ∙ all-later (a .upper .now) (l .i) (worldOf (a .pairs .now) (a .marks .now) (a .n)) (typeOf (a .candidate .word)) (omega arith) (sym (c .before .is-assignable .ensures) ∙ c .if1 .taken))
+    (omega arith, l .inv .1 ∙ all-later (a .upper .now) (l .i) (worldOf (a .pairs .now) (a .marks .now) (a .t)) (typeOf (a .candidate .word)) (omega arith) (sym (c .before .is-assignable .ensures) ∙ c .if1 .taken))
 
 returns : tie.Need-returns Inv-loop μ-loop
 returns c =
     let a = c .before .before .before .before .before .before .before .before .args in
     let l = c .before .before .before .before .loop in
-    sym (l .inv .1 ∙ all-not (a .upper .now) (l .i) (worldOf (a .pairs .now) (a .marks .now) (a .n)) (typeOf (a .candidate .word)) (omega arith) (sym (c .before .is-assignable .ensures) ∙ c .if1 .left))
+    sym (l .inv .1 ∙ all-not (a .upper .now) (l .i) (worldOf (a .pairs .now) (a .marks .now) (a .t)) (typeOf (a .candidate .word)) (omega arith) (sym (c .before .is-assignable .ensures) ∙ c .if1 .left))
 
 returns-2 : tie.Need-returns-2 Inv-loop μ-loop
 returns-2 c =
     let a = c .before .before .before .before .before .args in
     let l = c .before .loop in
-    sym (l .inv .1 ∙ all-end (a .upper .now) (l .i) (worldOf (a .pairs .now) (a .marks .now) (a .n)) (typeOf (a .candidate .word)) (omega arith))
+    sym (l .inv .1 ∙ all-end (a .upper .now) (l .i) (worldOf (a .pairs .now) (a .marks .now) (a .t)) (typeOf (a .candidate .word)) (omega arith))
 
 pub is-assignable-to-all-spec : {M : Type 1} → statement M
 is-assignable-to-all-spec =

@@ -17,16 +17,16 @@ use Rattle.candidates.proofs.most_specific_upper.Statement.{statement}
 use Rattle.candidates.proofs.most_specific_upper.Tie as tie
 
 abbrev Inv-loop : tie.InvT-loop
-Inv-loop pairs marks n upper best₀ i₀ best i =
-    (i ≤ length upper) × LegalMaybe best × (maybeType best ≡ leastHint (worldOf pairs marks n) (map typeOf upper) (typesFrom i upper))
+Inv-loop pairs marks t upper best₀ i₀ best i =
+    (i ≤ length upper) × LegalMaybe best × (maybeType best ≡ leastHint (worldOf pairs marks t) (map typeOf upper) (typesFrom i upper))
 
 abbrev μ-loop : tie.MeasureT-loop
-μ-loop pairs marks n upper best₀ i₀ best i = i
+μ-loop pairs marks t upper best₀ i₀ best i = i
 
 loop-holds : tie.Need-loop-holds Inv-loop μ-loop
 loop-holds c =
     let a = c .before .before .before .args in
-    (omega arith, tt, sym (least-end (worldOf (a .pairs .now) (a .marks .now) (a .n)) (map typeOf (a .upper .now)) (a .upper .now) (length (a .upper .now)) (omega arith)))
+    (omega arith, tt, sym (least-end (worldOf (a .pairs .now) (a .marks .now) (a .t)) (map typeOf (a .upper .now)) (a .upper .now) (length (a .upper .now)) (omega arith)))
 
 sub-i : tie.Need-sub-i Inv-loop μ-loop
 sub-i c = search needs
@@ -54,8 +54,8 @@ loop-again c =
       omega arith,
       r .0,
       r .1
-          ∙ ap (λ (o : Option ArgType). candidate (worldOf (a .pairs .now) (a .marks .now) (a .n)) (map typeOf (a .upper .now)) (concreteHint (a .n .classes .object) (typeOf (getD (a .upper .now) (l .i - 1) 0))) o) (l .inv .2)
-          ∙ sym (least-step (worldOf (a .pairs .now) (a .marks .now) (a .n)) (map typeOf (a .upper .now)) (a .upper .now) (l .i) (omega arith) (omega arith)),
+          ∙ ap (λ (o : Option ArgType). candidate (worldOf (a .pairs .now) (a .marks .now) (a .t)) (map typeOf (a .upper .now)) (concreteHint (a .t .object) (typeOf (getD (a .upper .now) (l .i - 1) 0))) o) (l .inv .2)
+          ∙ sym (least-step (worldOf (a .pairs .now) (a .marks .now) (a .t)) (map typeOf (a .upper .now)) (a .upper .now) (l .i) (omega arith) (omega arith)),
     )
 
 returns : tie.Need-returns Inv-loop μ-loop
@@ -64,7 +64,7 @@ returns c =
     let a = c .before .before .before .before .before .args in
     let l = c .before .loop in
     maybe-word (l .best) (l .inv .1)
-    ∙ ap maybeWord (l .inv .2 ∙ ap (λ (k : ℕ). leastHint (worldOf (a .pairs .now) (a .marks .now) (a .n)) (map typeOf (a .upper .now)) (typesFrom k (a .upper .now))) (let q : l .i ≡ 0 = omega arith in q))
+    ∙ ap maybeWord (l .inv .2 ∙ ap (λ (k : ℕ). leastHint (worldOf (a .pairs .now) (a .marks .now) (a .t)) (map typeOf (a .upper .now)) (typesFrom k (a .upper .now))) (let q : l .i ≡ 0 = omega arith in q))
 
 pub most-specific-upper-spec : {M : Type 1} → statement M
 most-specific-upper-spec =

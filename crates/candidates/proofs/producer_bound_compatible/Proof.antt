@@ -13,7 +13,7 @@ are-references-requires c κs = search needs
 returns : tie.Need-returns
 returns c =
     let a = c .before .before .before .before .args in
-    compatible-references (worldOf (a .pairs .now) (a .marks .now) (a .n)) (typeOf (a .produced .word)) (typeOf (a .expected .word)) (sym (c .before .are-references .ensures) ∙ c .if1 .taken)
+    compatible-references (worldOf (a .pairs .now) (a .marks .now) (a .t)) (typeOf (a .produced .word)) (typeOf (a .expected .word)) (sym (c .before .are-references .ensures) ∙ c .if1 .taken)
 
 is-assignable-requires : tie.Need-is-assignable-requires
 is-assignable-requires c κs = search needs
@@ -22,7 +22,7 @@ returns-2 : tie.Need-returns-2
 returns-2 c =
     let a = c .before .before .before .before .before .args in
     c .is-assignable .ensures
-    ∙ compatible-other (worldOf (a .pairs .now) (a .marks .now) (a .n)) (typeOf (a .produced .word)) (typeOf (a .expected .word)) (sym (c .before .before .are-references .ensures) ∙ c .before .if1 .left)
+    ∙ compatible-other (worldOf (a .pairs .now) (a .marks .now) (a .t)) (typeOf (a .produced .word)) (typeOf (a .expected .word)) (sym (c .before .before .are-references .ensures) ∙ c .before .if1 .left)
 
 pub producer-bound-compatible-spec : {M : Type 1} → statement M
 producer-bound-compatible-spec =

@@ -22,7 +22,7 @@ with-hint-requires : tie.Need-with-hint-requires
 with-hint-requires c κs =
     let s = c .before .before .before .before .before .before .before in
     let a = s .args in
-    (s .pre .0, s .pre .2, subst LegalMaybe (c .before .hint .given .1) (hint-word (a .n .classes .object) (a .bound .word) (c .before .before .before .concrete-hint .result) (s .pre .1) (omega arith) (s .pre .3) (c .before .before .before .concrete-hint .ensures)), s .pre .4)
+    (s .pre .0, s .pre .2, subst LegalMaybe (c .before .hint .given .1) (hint-word (a .t .object) (a .bound .word) (c .before .before .before .concrete-hint .result) (s .pre .1) (omega arith) (s .pre .3) (c .before .before .before .concrete-hint .ensures)), s .pre .4)
 
 enum-told : tie.Need-enum-told
 enum-told c = search needs
@@ -32,13 +32,13 @@ returns c =
     let s = c .before .before .before .before .before .before .before .before in
     let a = s .args in
     let r = c .with-hint .ensures in
-    (r .0, r .1 ∙ ap (λ (o : Option ArgType). candidate (worldOf (a .pairs .now) (a .marks .now) (a .n)) (map typeOf (a .upper .now)) o (maybeType (a .best))) (ap maybeType (sym (c .before .before .hint .given .1)) ∙ hint-type (a .n .classes .object) (a .bound .word) (c .before .before .before .before .concrete-hint .result) (s .pre .1) (omega arith) (s .pre .3) (c .before .before .before .before .concrete-hint .ensures)))
+    (r .0, r .1 ∙ ap (λ (o : Option ArgType). candidate (worldOf (a .pairs .now) (a .marks .now) (a .t)) (map typeOf (a .upper .now)) o (maybeType (a .best))) (ap maybeType (sym (c .before .before .hint .given .1)) ∙ hint-type (a .t .object) (a .bound .word) (c .before .before .before .before .concrete-hint .result) (s .pre .1) (omega arith) (s .pre .3) (c .before .before .before .before .concrete-hint .ensures)))
 
 returns-2 : tie.Need-returns-2
 returns-2 c =
     let s = c .before .before .before .before .before .before in
     let a = s .args in
-    (s .pre .4, ap (λ (o : Option ArgType). candidate (worldOf (a .pairs .now) (a .marks .now) (a .n)) (map typeOf (a .upper .now)) o (maybeType (a .best))) (ap maybeType (sym (c .enum-told .given .1)) ∙ hint-type (a .n .classes .object) (a .bound .word) (c .before .before .concrete-hint .result) (s .pre .1) (omega arith) (s .pre .3) (c .before .before .concrete-hint .ensures)))
+    (s .pre .4, ap (λ (o : Option ArgType). candidate (worldOf (a .pairs .now) (a .marks .now) (a .t)) (map typeOf (a .upper .now)) o (maybeType (a .best))) (ap maybeType (sym (c .enum-told .given .1)) ∙ hint-type (a .t .object) (a .bound .word) (c .before .before .concrete-hint .result) (s .pre .1) (omega arith) (s .pre .3) (c .before .before .concrete-hint .ensures)))
 
 pub with-bound-spec : {M : Type 1} → statement M
 with-bound-spec =

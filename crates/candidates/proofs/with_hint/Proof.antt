@@ -19,13 +19,13 @@ returns : tie.Need-returns
 returns c =
     let a = c .before .before .before .before .before .before .args in
     let r = c .lesser .ensures in
-    (r .0, r .1 ∙ sym (candidate-yes (worldOf (a .pairs .now) (a .marks .now) (a .n)) (map typeOf (a .upper .now)) (typeOf (a .hint .word)) (maybeType (a .best)) (sym (c .before .before .is-assignable-to-all .ensures) ∙ c .before .if1 .taken)))
+    (r .0, r .1 ∙ sym (candidate-yes (worldOf (a .pairs .now) (a .marks .now) (a .t)) (map typeOf (a .upper .now)) (typeOf (a .hint .word)) (maybeType (a .best)) (sym (c .before .before .is-assignable-to-all .ensures) ∙ c .before .if1 .taken)))
 
 returns-2 : tie.Need-returns-2
 returns-2 c =
     let s = c .before .before .before .before .before in
     let a = s .args in
-    (s .pre .3, sym (candidate-no (worldOf (a .pairs .now) (a .marks .now) (a .n)) (map typeOf (a .upper .now)) (typeOf (a .hint .word)) (maybeType (a .best)) (sym (c .before .is-assignable-to-all .ensures) ∙ c .if1 .left)))
+    (s .pre .3, sym (candidate-no (worldOf (a .pairs .now) (a .marks .now) (a .t)) (map typeOf (a .upper .now)) (typeOf (a .hint .word)) (maybeType (a .best)) (sym (c .before .is-assignable-to-all .ensures) ∙ c .if1 .left)))
 
 pub with-hint-spec : {M : Type 1} → statement M
 with-hint-spec =

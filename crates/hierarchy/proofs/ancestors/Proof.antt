@@ -16,7 +16,7 @@ with-requires c κs = search needs
 
 returns : tie.Need-returns
 unfolding ancestors
-returns c = c .with .ensures ∙ ap (λ (s : List ℕ). insert s (c .before .before .before .args .t .object)) (c .before .reached .ensures)
+returns c = c .with .ensures ∙ ap (λ (s : List ℕ). insert s (c .before .before .before .before .args .t .object)) (c .before .reached .ensures)
 
 pub ancestors-spec : {M : Type 1} → statement M
 ancestors-spec = tie.close (tie.spec reached-requires with-requires returns)

@@ -7,19 +7,19 @@ use Prim.Native.Nat.{ℕ, _-_}
 use lib.ListN.{length}
 use Rattle.sets.specs.Sets.{at, members, first}
 use Rattle.view.specs.View.{withParents}
-use Rattle.hierarchy.specs.Table.{parentView}
+use Rattle.tables.specs.Table.{viewOf}
 use Rattle.hierarchy.proofs.Steps.{expand-step, expand-end}
 use Rattle.view.specs.Frontier.{left-less}
 use Rattle.hierarchy.proofs.expand.Statement.{statement}
 use Rattle.hierarchy.proofs.expand.Tie as tie
 
 abbrev Inv-loop : tie.InvT-loop
-Inv-loop pairs t all₀ left₀ c₀ all left c =
+Inv-loop pairs marks t all₀ left₀ c₀ all left c =
     (c ≡ first (at (left .words)) 1024)
-    × (withParents (parentView pairs t) (all₀ .words) (members (at (left₀ .words)) 0 1024) ≡ withParents (parentView pairs t) (all .words) (members (at (left .words)) 0 1024))
+    × (withParents (viewOf pairs marks t) (all₀ .words) (members (at (left₀ .words)) 0 1024) ≡ withParents (viewOf pairs marks t) (all .words) (members (at (left .words)) 0 1024))
 
 abbrev μ-loop : tie.MeasureT-loop
-μ-loop pairs t all₀ left₀ c₀ all left c = length (members (at (left .words)) 0 1024)
+μ-loop pairs marks t all₀ left₀ c₀ all left c = length (members (at (left .words)) 0 1024)
 
 lowest-requires : tie.Need-lowest-requires Inv-loop μ-loop
 lowest-requires c κs = search needs
@@ -43,9 +43,9 @@ loop-less c =
 
 loop-again : tie.Need-loop-again Inv-loop μ-loop
 loop-again c =
-    let a = c .before .before .before .before .before .before .before .args in
+    let a = c .before .before .before .before .before .before .before .before .args in
     let l = c .before .before .before .before .loop in
-    let v = parentView (a .pairs .now) (a .t) in (
+    let v = viewOf (a .pairs .now) (a .marks .now) (a .t) in (
       c .lowest2 .ensures,
       l .inv .1 ∙ expand-step v (l .all .words) (l .left .words) (l .c) (l .inv .0) (omega arith)
           ∙ ap₂ (λ (s f : List ℕ). withParents v s (members (at f) 0 1024)) (sym (c .before .before .with-parents .ensures)) (sym (c .before .without .ensures)),
@@ -53,9 +53,9 @@ loop-again c =
 
 returns : tie.Need-returns Inv-loop μ-loop
 returns c =
-    let a = c .before .before .before .before .args in
+    let a = c .before .before .before .before .before .args in
     let l = c .before .loop in
-    sym (l .inv .1 ∙ expand-end (parentView (a .pairs .now) (a .t)) (l .all .words) (l .left .words) (l .c) (l .inv .0) (omega arith))
+    sym (l .inv .1 ∙ expand-end (viewOf (a .pairs .now) (a .marks .now) (a .t)) (l .all .words) (l .left .words) (l .c) (l .inv .0) (omega arith))
 
 pub expand-spec : {M : Type 1} → statement M
 expand-spec =

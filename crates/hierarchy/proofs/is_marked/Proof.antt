@@ -6,7 +6,7 @@ use Prim.Native.Nat.{ℕ}
 use lib.Dec.{eqb}
 use Rattle.sets.specs.Sets.{bit, member}
 use Rattle.sets.specs.Laws.{member-past}
-use Rattle.hierarchy.specs.Table.{mark, mark-at, mark-length}
+use Rattle.tables.specs.Table.{mark, mark-at, mark-length}
 use Rattle.hierarchy.proofs.is_marked.Statement.{statement}
 use Rattle.hierarchy.proofs.is_marked.Tie as tie
 

@@ -5,25 +5,25 @@ use mathlib.Core.Path.{_≡_, refl, sym, ap, _∙_}
 use Prim.Native.Nat.{_+_, _-_, _≤_}
 use lib.ListN.{length, take}
 use Rattle.view.specs.View.{insertAll}
-use Rattle.hierarchy.specs.Table.{parentsIn, between, parentsOf}
+use Rattle.tables.specs.Table.{parentsIn, between, parentsOf}
 use Rattle.hierarchy.proofs.Steps.{parents-step, parents-end, run-past}
 use Rattle.hierarchy.proofs.with_parents.Statement.{statement}
 use Rattle.hierarchy.proofs.with_parents.Tie as tie
 
 abbrev Inv-loop : tie.InvT-loop
-Inv-loop pairs t c past i₀ all₀ i all =
+Inv-loop pairs marks t c past i₀ all₀ i all =
     (past ≤ length pairs) × (past ≤ length (take (t .pairs) pairs))
     × (insertAll (all₀ .words) (parentsIn (t .names) (between i₀ past (take (t .pairs) pairs))) ≡ insertAll (all .words) (parentsIn (t .names) (between i past (take (t .pairs) pairs))))
 
 abbrev μ-loop : tie.MeasureT-loop
-μ-loop pairs t c past i₀ all₀ i all = past - i
+μ-loop pairs marks t c past i₀ all₀ i all = past - i
 
 run-requires : tie.Need-run-requires Inv-loop μ-loop
 run-requires c κs = search needs
 
 loop-holds : tie.Need-loop-holds Inv-loop μ-loop
 loop-holds c =
-    let a = c .before .before .args in
+    let a = c .before .before .before .args in
     let p = run-past (a .c) (a .t .pairs) (a .pairs .now) in
     let e = ap (λ s. s .past) (c .run .ensures) in
     (omega arith, omega arith, refl)
@@ -45,7 +45,7 @@ loop-less c = search needs
 
 loop-again : tie.Need-loop-again Inv-loop μ-loop
 loop-again c =
-    let a = c .before .before .before .before .before .before .args in
+    let a = c .before .before .before .before .before .before .before .args in
     let l = c .before .before .before .loop in
     let past = c .before .before .before .before .run .result .past in (
       l .inv .0,
@@ -57,7 +57,7 @@ loop-again c =
 returns : tie.Need-returns Inv-loop μ-loop
 unfolding parentsOf
 returns c =
-    let a = c .before .before .before .before .args in
+    let a = c .before .before .before .before .before .args in
     let l = c .before .loop in
     let run = c .before .before .run in
     sym (ap (λ r. insertAll (a .s .words) (parentsIn (a .t .names) (between (r .first) (r .past) (take (a .t .pairs) (a .pairs .now))))) (sym (run .ensures))

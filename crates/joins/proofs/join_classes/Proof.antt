@@ -12,18 +12,18 @@ supertype-requires c κs = search needs
 
 object-requires : tie.Need-object-requires
 object-requires c κs =
-    let a = c .before .before .args in
-    let p = c .before .before .pre in
+    let a = c .before .before .before .args in
+    let p = c .before .before .before .pre in
     let e = c .supertype .ensures in
-    omega (arith, supertype-lt (a .pairs .now) (a .n) (p .0) (a .left) (a .right) (p .1) (p .2))
+    omega (arith, supertype-lt (a .pairs .now) (a .marks .now) (a .t) (p .0) (a .left) (a .right) (p .1) (p .2))
 
 returns : tie.Need-returns
 returns c =
-    let a = c .before .before .before .args in
-    let p = c .before .before .before .pre in
+    let a = c .before .before .before .before .args in
+    let p = c .before .before .before .before .pre in
     c .object .ensures
     ∙ ap (λ (x : ℕ). 2 ^ 48 + x) (c .before .supertype .ensures)
-    ∙ classes-word (a .pairs .now) (a .n) (p .0) (a .left) (a .right) (p .1) (p .2)
+    ∙ classes-word (a .pairs .now) (a .marks .now) (a .t) (p .0) (a .left) (a .right) (p .1) (p .2)
 
 pub join-classes-spec : {M : Type 1} → statement M
 join-classes-spec = tie.close (tie.spec supertype-requires object-requires returns)

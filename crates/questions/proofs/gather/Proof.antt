@@ -2,7 +2,6 @@
 use borrow.Author.Needs.{needs}
 use mathlib.Core.Path.{ap₂}
 use Prim.Native.Nat.{ℕ}
-use Rattle.questions.specs.declared.Ancestors.{Ancestors}
 use Rattle.questions.specs.Questions.{gathered}
 use Rattle.questions.proofs.gather.Statement.{statement}
 use Rattle.questions.proofs.gather.Tie as tie

@@ -26,10 +26,12 @@ enum-told-3 c = search needs
 
 supertype-requires : tie.Need-supertype-requires
 supertype-requires c κs =
-    let s = c .before .before .before .before .before in
+    let s = c .before .before .before .before in
     let a = s .args in
-    let p = are-classes (a .n .classes .names) (a .a) (a .b) (ofTypes (a .q)) (ap ofTypes (c .enum-told3 .given .1)) (s .pre .2) in
-    (s .pre .1 .0, s .pre .1 .1, p .0, p .1)
+    let p = are-classes (a .t .names) (a .a) (a .b) (ofTypes (a .q)) (ap ofTypes (c .enum-told3 .given .1)) (s .pre .2) in
+    let left = p .0 in
+    let right = p .1 in
+    search needs
 
 enum-told-4 : tie.Need-enum-told-4
 enum-told-4 c = search needs
@@ -45,10 +47,12 @@ enum-told-5 c = search needs
 
 join-requires : tie.Need-join-requires
 join-requires c κs =
-    let s = c .before .before .before .before .before in
+    let s = c .before .before .before .before in
     let a = s .args in
-    let p = are-types (a .n .classes .names) (a .a) (a .b) (ofTypes (a .q)) (ap ofTypes (c .enum-told5 .given .1)) (s .pre .2) in
-    (s .pre .1, p .0, p .1)
+    let p = are-types (a .t .names) (a .a) (a .b) (ofTypes (a .q)) (ap ofTypes (c .enum-told5 .given .1)) (s .pre .2) in
+    let left = p .0 in
+    let right = p .1 in
+    search needs
 
 number-requires : tie.Need-number-requires
 number-requires c κs = search needs
@@ -58,44 +62,46 @@ enum-told-6 c = search needs
 
 is-assignable-requires : tie.Need-is-assignable-requires
 is-assignable-requires c κs =
-    let s = c .before .before .before .before .before in
+    let s = c .before .before .before .before in
     let a = s .args in
-    let p = are-types (a .n .classes .names) (a .a) (a .b) (ofTypes (a .q)) (ap ofTypes (c .enum-told6 .given .1)) (s .pre .2) in
-    let l = legal-words (a .n .classes .names) (a .a) (a .b) (s .pre .1 .0) p in
-    (s .pre .0, l .0, l .1)
+    let p = are-types (a .t .names) (a .a) (a .b) (ofTypes (a .q)) (ap ofTypes (c .enum-told6 .given .1)) (s .pre .2) in
+    let l = legal-words (a .t .names) (a .a) (a .b) (s .pre .1 .0) p in
+    let left = l .0 in
+    let right = l .1 in
+    search needs
 
 flag-requires-2 : tie.Need-flag-requires-2
 flag-requires-2 c κs = search needs
 
 returns : tie.Need-returns
 returns c =
-    let a = c .before .before .before .before .before .before .before .args in
-    value-relation (a .pairs .now) (a .marks .now) (a .n) (a .q) (a .a) (a .b) (c .relation-number .result) (c .before .before .enum-told .given .1) (c .before .subtype-relation .result) (c .relation-number .ensures) (c .before .subtype-relation .ensures)
+    let a = c .before .before .before .before .before .before .args in
+    value-relation (a .pairs .now) (a .marks .now) (a .t) (a .q) (a .a) (a .b) (c .relation-number .result) (c .before .before .enum-told .given .1) (c .before .subtype-relation .result) (c .relation-number .ensures) (c .before .subtype-relation .ensures)
 
 returns-2 : tie.Need-returns-2
 returns-2 c =
-    let a = c .before .before .before .before .before .before .args in
-    value-distance (a .pairs .now) (a .marks .now) (a .n) (a .q) (a .a) (a .b) (c .distance .result) (c .before .enum-told2 .given .1) (c .distance .ensures)
+    let a = c .before .before .before .before .before .args in
+    value-distance (a .pairs .now) (a .marks .now) (a .t) (a .q) (a .a) (a .b) (c .distance .result) (c .before .enum-told2 .given .1) (c .distance .ensures)
 
 returns-3 : tie.Need-returns-3
 returns-3 c =
-    let a = c .before .before .before .before .before .before .args in
-    value-supertype (a .pairs .now) (a .marks .now) (a .n) (a .q) (a .a) (a .b) (c .supertype .result) (c .before .enum-told3 .given .1) (c .supertype .ensures)
+    let a = c .before .before .before .before .before .args in
+    value-supertype (a .pairs .now) (a .marks .now) (a .t) (a .q) (a .a) (a .b) (c .supertype .result) (c .before .enum-told3 .given .1) (c .supertype .ensures)
 
 returns-4 : tie.Need-returns-4
 returns-4 c =
-    let a = c .before .before .before .before .before .before .before .args in
-    value-cast (a .pairs .now) (a .marks .now) (a .n) (a .q) (a .a) (a .b) (c .flag .result) (c .before .before .enum-told4 .given .1) (c .before .cast .result) (c .flag .ensures) (c .before .cast .ensures)
+    let a = c .before .before .before .before .before .before .args in
+    value-cast (a .pairs .now) (a .marks .now) (a .t) (a .q) (a .a) (a .b) (c .flag .result) (c .before .before .enum-told4 .given .1) (c .before .cast .result) (c .flag .ensures) (c .before .cast .ensures)
 
 returns-5 : tie.Need-returns-5
 returns-5 c =
-    let a = c .before .before .before .before .before .before .before .args in
-    value-join (a .pairs .now) (a .marks .now) (a .n) (a .q) (a .a) (a .b) (c .number .result) (c .before .before .enum-told5 .given .1) (c .number .ensures ∙ c .before .join .ensures)
+    let a = c .before .before .before .before .before .before .args in
+    value-join (a .pairs .now) (a .marks .now) (a .t) (a .q) (a .a) (a .b) (c .number .result) (c .before .before .enum-told5 .given .1) (c .number .ensures ∙ c .before .join .ensures)
 
 returns-6 : tie.Need-returns-6
 returns-6 c =
-    let a = c .before .before .before .before .before .before .before .args in
-    value-assignable (a .pairs .now) (a .marks .now) (a .n) (a .q) (a .a) (a .b) (c .flag2 .result) (c .before .before .enum-told6 .given .1) (c .before .is-assignable .result) (c .flag2 .ensures) (c .before .is-assignable .ensures)
+    let a = c .before .before .before .before .before .before .args in
+    value-assignable (a .pairs .now) (a .marks .now) (a .t) (a .q) (a .a) (a .b) (c .flag2 .result) (c .before .before .enum-told6 .given .1) (c .before .is-assignable .result) (c .flag2 .ensures) (c .before .is-assignable .ensures)
 
 pub value-of-spec : {M : Type 1} → statement M
 value-of-spec =

@@ -2,12 +2,12 @@
 use borrow.Author.Needs.{needs}
 use mathlib.Core.Path.{_≡_, sym, ap, subst, _∙_}
 use mathlib.Core.Bool.{true}
-use mathlib.Core.List.{List, []}
+use mathlib.Core.List.{List}
 use Prim.Native.Nat.{ℕ}
 use lib.ListN.{length}
 use Rattle.sets.specs.Sets.{member}
 use Rattle.sets.specs.Laws.{length-remove}
-use Rattle.hierarchy.specs.Table.{parentView, view-good}
+use Rattle.tables.specs.Table.{viewOf, view-good}
 use Rattle.view.specs.Lows.{remove-only, object-lowest, object-not-lowest}
 use Rattle.supertype.proofs.lowest_of.Statement.{statement}
 use Rattle.supertype.proofs.lowest_of.Tie as tie
@@ -17,8 +17,8 @@ without-requires c κs = search needs
 
 lowest-others-requires : tie.Need-lowest-others-requires
 lowest-others-requires c κs =
-    let a = c .before .before .args in
-    let p = c .before .before .pre in
+    let a = c .before .before .before .args in
+    let p = c .before .before .before .pre in
     let e = c .without .ensures in (
       p .0,
       p .1,
@@ -40,18 +40,18 @@ with-requires c κs = search needs
 
 returns : tie.Need-returns
 returns c =
-    let a = c .before .before .before .before .before .before .before .before .args in
-    let p = c .before .before .before .before .before .before .before .before .pre in
-    object-lowest (parentView (a .pairs .now) (a .t)) (view-good (a .pairs .now) [] (a .t) (p .0) (p .1)) (a .all .words)
+    let a = c .before .before .before .before .before .before .before .before .before .args in
+    let p = c .before .before .before .before .before .before .before .before .before .pre in
+    object-lowest (viewOf (a .pairs .now) (a .marks .now) (a .t)) (view-good (a .pairs .now) (a .marks .now) (a .t) (p .0) (p .1)) (a .all .words)
     (c .before .before .before .before .before .before .without .result .words) (c .before .before .before .before .before .lowest-others .result .words) (c .before .before .before .before .reached .result .words) (c .before .before .before .difference .result .words)
     (p .2) (p .3) (p .4) (c .before .before .before .before .before .before .without .ensures) (c .before .before .before .before .before .lowest-others .ensures) (c .before .before .before .before .reached .ensures) (c .before .before .before .difference .ensures)
     (sym (c .before .before .lowest .ensures) ∙ c .before .if1 .taken) (c .with .result .words) (c .with .ensures)
 
 returns-2 : tie.Need-returns-2
 returns-2 c =
-    let a = c .before .before .before .before .before .before .before .args in
-    let p = c .before .before .before .before .before .before .before .pre in
-    object-not-lowest (parentView (a .pairs .now) (a .t)) (view-good (a .pairs .now) [] (a .t) (p .0) (p .1)) (a .all .words)
+    let a = c .before .before .before .before .before .before .before .before .args in
+    let p = c .before .before .before .before .before .before .before .before .pre in
+    object-not-lowest (viewOf (a .pairs .now) (a .marks .now) (a .t)) (view-good (a .pairs .now) (a .marks .now) (a .t) (p .0) (p .1)) (a .all .words)
     (c .before .before .before .before .before .without .result .words) (c .before .before .before .before .lowest-others .result .words) (c .before .before .before .reached .result .words) (c .before .before .difference .result .words)
     (p .2) (p .3) (p .4) (c .before .before .before .before .before .without .ensures) (c .before .before .before .before .lowest-others .ensures) (c .before .before .before .reached .ensures) (c .before .before .difference .ensures)
     (λ e. c .if1 .left (c .before .lowest .ensures ∙ e))

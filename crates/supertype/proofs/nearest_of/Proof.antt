@@ -7,7 +7,7 @@ use lib.ListN.{length}
 use Rattle.sets.specs.Sets.{at, members, first}
 use Rattle.sets.specs.Bits.{first-le}
 use Rattle.sets.specs.Laws.{length-remove}
-use Rattle.hierarchy.specs.Table.{parentView}
+use Rattle.tables.specs.Table.{viewOf}
 use Rattle.view.specs.Pick.{Nearing, nearing-start, nearing-next, nearing-end}
 use Rattle.supertype.proofs.Candidates.{Measured, measured-of, first-nearer, first-measured}
 use Rattle.view.specs.Frontier.{left-less}
@@ -15,12 +15,12 @@ use Rattle.supertype.proofs.nearest_of.Statement.{statement}
 use Rattle.supertype.proofs.nearest_of.Tie as tie
 
 abbrev Inv-loop : tie.InvT-loop
-Inv-loop pairs t left right least rest₀ c₀ best₀ rest c best =
-    (c ≡ first (at (rest .words)) 1024) × Nearing (parentView pairs t) left right least (rest₀ .words) (best .class) (rest .words)
-    × Measured (parentView pairs t) left right best
+Inv-loop pairs marks t left right least rest₀ c₀ best₀ rest c best =
+    (c ≡ first (at (rest .words)) 1024) × Nearing (viewOf pairs marks t) left right least (rest₀ .words) (best .class) (rest .words)
+    × Measured (viewOf pairs marks t) left right best
 
 abbrev μ-loop : tie.MeasureT-loop
-μ-loop pairs t left right least rest₀ c₀ best₀ rest c best = length (members (at (rest .words)) 0 1024)
+μ-loop pairs marks t left right least rest₀ c₀ best₀ rest c best = length (members (at (rest .words)) 0 1024)
 
 lowest-requires : tie.Need-lowest-requires Inv-loop μ-loop
 lowest-requires c κs = search needs
@@ -33,26 +33,26 @@ lowest-requires-2 c κs = search needs
 
 returns : tie.Need-returns Inv-loop μ-loop
 returns c =
-    let a = c .before .before .before .before .before .args in
+    let a = c .before .before .before .before .before .before .args in
     let b = c .before .before .before .lowest in
     let w = c .before .before .without in
-    nearing-end (parentView (a .pairs .now) (a .t)) (a .left) (a .right) (b .result) (w .result .words) (b .result) (w .result .words)
-    (nearing-start (parentView (a .pairs .now) (a .t)) (a .left) (a .right) (b .result) (w .result .words) (ap length (w .ensures) ∙ length-remove (a .s .words) (b .result) ∙ c .before .before .before .before .before .pre .1))
-    (a .s .words) (c .before .before .before .before .before .pre .1) (b .ensures) (w .ensures) (sym (c .before .lowest2 .ensures) ∙ c .if1 .taken)
+    nearing-end (viewOf (a .pairs .now) (a .marks .now) (a .t)) (a .left) (a .right) (b .result) (w .result .words) (b .result) (w .result .words)
+    (nearing-start (viewOf (a .pairs .now) (a .marks .now) (a .t)) (a .left) (a .right) (b .result) (w .result .words) (ap length (w .ensures) ∙ length-remove (a .s .words) (b .result) ∙ c .before .before .before .before .before .before .pre .1))
+    (a .s .words) (c .before .before .before .before .before .before .pre .1) (b .ensures) (w .ensures) (sym (c .before .lowest2 .ensures) ∙ c .if1 .taken)
 
 measured-requires : tie.Need-measured-requires Inv-loop μ-loop
 measured-requires c κs = search needs
 
 loop-holds : tie.Need-loop-holds Inv-loop μ-loop
 loop-holds c =
-    let a = c .before .before .before .before .before .before .args in
+    let a = c .before .before .before .before .before .before .before .args in
     let b = c .before .before .before .before .lowest in
     let w = c .before .before .before .without in
     let m = c .measured in (
       c .before .before .lowest2 .ensures,
-      subst (λ (x : ℕ). Nearing (parentView (a .pairs .now) (a .t)) (a .left) (a .right) (b .result) (w .result .words) x (w .result .words)) (sym (m .ensures .0))
-          (nearing-start (parentView (a .pairs .now) (a .t)) (a .left) (a .right) (b .result) (w .result .words) (ap length (w .ensures) ∙ length-remove (a .s .words) (b .result) ∙ c .before .before .before .before .before .before .pre .1)),
-      measured-of (parentView (a .pairs .now) (a .t)) (a .left) (a .right) (b .result) (m .result) (m .ensures .0) (m .ensures .1) (m .ensures .2),
+      subst (λ (x : ℕ). Nearing (viewOf (a .pairs .now) (a .marks .now) (a .t)) (a .left) (a .right) (b .result) (w .result .words) x (w .result .words)) (sym (m .ensures .0))
+          (nearing-start (viewOf (a .pairs .now) (a .marks .now) (a .t)) (a .left) (a .right) (b .result) (w .result .words) (ap length (w .ensures) ∙ length-remove (a .s .words) (b .result) ∙ c .before .before .before .before .before .before .before .pre .1)),
+      measured-of (viewOf (a .pairs .now) (a .marks .now) (a .t)) (a .left) (a .right) (b .result) (m .result) (m .ensures .0) (m .ensures .1) (m .ensures .2),
     )
 
 measured-requires-2 : tie.Need-measured-requires-2 Inv-loop μ-loop
@@ -74,25 +74,25 @@ loop-less c =
 
 loop-again : tie.Need-loop-again Inv-loop μ-loop
 loop-again c =
-    let a = c .before .before .before .before .before .before .before .before .before .before .before .before .args in
+    let a = c .before .before .before .before .before .before .before .before .before .before .before .before .before .args in
     let l = c .before .before .before .before .before .loop in
     let m = c .before .before .before .measured2 in
     let f = c .before .before .first-of in
-    let k = measured-of (parentView (a .pairs .now) (a .t)) (a .left) (a .right) (l .c) (m .result) (m .ensures .0) (m .ensures .1) (m .ensures .2) in (
+    let k = measured-of (viewOf (a .pairs .now) (a .marks .now) (a .t)) (a .left) (a .right) (l .c) (m .result) (m .ensures .0) (m .ensures .1) (m .ensures .2) in (
       c .lowest3 .ensures,
-      nearing-next (parentView (a .pairs .now) (a .t)) (a .left) (a .right) (c .before .before .before .before .before .before .before .before .before .before .lowest .result) (c .before .before .before .before .before .before .before .before .before .without .result .words) (l .best .class) (l .rest .words) (l .inv .1) (l .c) (f .result .class)
+      nearing-next (viewOf (a .pairs .now) (a .marks .now) (a .t)) (a .left) (a .right) (c .before .before .before .before .before .before .before .before .before .before .lowest .result) (c .before .before .before .before .before .before .before .before .before .without .result .words) (l .best .class) (l .rest .words) (l .inv .1) (l .c) (f .result .class)
           (c .before .without2 .result .words) (l .inv .0) (omega arith)
-          (first-nearer (parentView (a .pairs .now) (a .t)) (a .left) (a .right) (m .result) (l .best) (f .result) k (l .inv .2) (f .ensures) (l .c) (m .ensures .0)) (c .before .without2 .ensures),
-      first-measured (parentView (a .pairs .now) (a .t)) (a .left) (a .right) (m .result) (l .best) (f .result) k (l .inv .2) (f .ensures),
+          (first-nearer (viewOf (a .pairs .now) (a .marks .now) (a .t)) (a .left) (a .right) (m .result) (l .best) (f .result) k (l .inv .2) (f .ensures) (l .c) (m .ensures .0)) (c .before .without2 .ensures),
+      first-measured (viewOf (a .pairs .now) (a .marks .now) (a .t)) (a .left) (a .right) (m .result) (l .best) (f .result) k (l .inv .2) (f .ensures),
     )
 
 returns-2 : tie.Need-returns-2 Inv-loop μ-loop
 returns-2 c =
-    let a = c .before .before .before .before .before .before .before .before .args in
+    let a = c .before .before .before .before .before .before .before .before .before .args in
     let l = c .before .loop in
     let e = l .inv .0 in
     let h = first-le (at (l .rest .words)) 1024 in
-    nearing-end (parentView (a .pairs .now) (a .t)) (a .left) (a .right) (c .before .before .before .before .before .before .lowest .result) (c .before .before .before .before .before .without .result .words) (l .best .class) (l .rest .words) (l .inv .1) (a .s .words) (c .before .before .before .before .before .before .before .before .pre .1) (c .before .before .before .before .before .before .lowest .ensures)
+    nearing-end (viewOf (a .pairs .now) (a .marks .now) (a .t)) (a .left) (a .right) (c .before .before .before .before .before .before .lowest .result) (c .before .before .before .before .before .without .result .words) (l .best .class) (l .rest .words) (l .inv .1) (a .s .words) (c .before .before .before .before .before .before .before .before .before .pre .1) (c .before .before .before .before .before .before .lowest .ensures)
     (c .before .before .before .before .before .without .ensures) (let q : first (at (l .rest .words)) 1024 ≡ 1024 = omega arith in q)
 
 pub nearest-of-spec : {M : Type 1} → statement M

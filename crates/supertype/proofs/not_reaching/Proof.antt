@@ -7,7 +7,7 @@ use mathlib.Core.List.{List}
 use Prim.Native.Nat.{ℕ}
 use lib.ListN.{length}
 use Rattle.sets.specs.Sets.{at, remove, members, first}
-use Rattle.hierarchy.specs.Table.{parentView}
+use Rattle.tables.specs.Table.{viewOf}
 use Rattle.view.specs.Lows.{strip}
 use Rattle.supertype.proofs.Steps.{strip-step, strip-end}
 use Rattle.view.specs.Frontier.{left-less}
@@ -15,12 +15,12 @@ use Rattle.supertype.proofs.not_reaching.Statement.{statement}
 use Rattle.supertype.proofs.not_reaching.Tie as tie
 
 abbrev Inv-loop : tie.InvT-loop
-Inv-loop pairs t d kept₀ left₀ c₀ kept left c =
+Inv-loop pairs marks t d kept₀ left₀ c₀ kept left c =
     (c ≡ first (at (left .words)) 1024)
-    × (strip (parentView pairs t) d (kept₀ .words) (members (at (left₀ .words)) 0 1024) ≡ strip (parentView pairs t) d (kept .words) (members (at (left .words)) 0 1024))
+    × (strip (viewOf pairs marks t) d (kept₀ .words) (members (at (left₀ .words)) 0 1024) ≡ strip (viewOf pairs marks t) d (kept .words) (members (at (left .words)) 0 1024))
 
 abbrev μ-loop : tie.MeasureT-loop
-μ-loop pairs t d kept₀ left₀ c₀ kept left c = length (members (at (left .words)) 0 1024)
+μ-loop pairs marks t d kept₀ left₀ c₀ kept left c = length (members (at (left .words)) 0 1024)
 
 lowest-requires : tie.Need-lowest-requires Inv-loop μ-loop
 lowest-requires c κs = search needs
@@ -47,9 +47,9 @@ loop-less c =
 
 loop-again : tie.Need-loop-again Inv-loop μ-loop
 loop-again c =
-    let a = c .before .before .before .before .before .before .before .before .args in
+    let a = c .before .before .before .before .before .before .before .before .before .args in
     let l = c .before .before .before .before .before .loop in
-    let v = parentView (a .pairs .now) (a .t) in (
+    let v = viewOf (a .pairs .now) (a .marks .now) (a .t) in (
       c .lowest2 .ensures,
       l .inv .1 ∙ strip-step v (a .d) (l .kept .words) (l .left .words) (l .c) (l .inv .0) (omega arith)
           ∙ ap₂ (λ (s f : List ℕ). strip v (a .d) s (members (at f) 0 1024))
@@ -59,9 +59,9 @@ loop-again c =
 
 returns : tie.Need-returns Inv-loop μ-loop
 returns c =
-    let a = c .before .before .before .before .args in
+    let a = c .before .before .before .before .before .args in
     let l = c .before .loop in
-    sym (l .inv .1 ∙ strip-end (parentView (a .pairs .now) (a .t)) (a .d) (l .kept .words) (l .left .words) (l .c) (l .inv .0) (omega arith))
+    sym (l .inv .1 ∙ strip-end (viewOf (a .pairs .now) (a .marks .now) (a .t)) (a .d) (l .kept .words) (l .left .words) (l .c) (l .inv .0) (omega arith))
 
 pub not-reaching-spec : {M : Type 1} → statement M
 not-reaching-spec =

@@ -1,8 +1,7 @@
 -- `supertype` meets its contract.
 use borrow.Author.Needs.{needs}
 use mathlib.Core.Path.{sym, _∙_}
-use mathlib.Core.List.{[]}
-use Rattle.hierarchy.specs.Table.{parentView, view-good}
+use Rattle.tables.specs.Table.{viewOf, view-good}
 use Rattle.view.specs.Pick.{found-right, found-left, found-nearest, all-fits}
 use Rattle.supertype.proofs.supertype.Statement.{statement}
 use Rattle.supertype.proofs.supertype.Tie as tie
@@ -15,9 +14,9 @@ has-requires c κs = search needs
 
 returns : tie.Need-returns
 returns c =
-    let a = c .before .before .before .before .args in
-    let p = c .before .before .before .before .pre in
-    found-right (parentView (a .pairs .now) (a .t)) (view-good (a .pairs .now) [] (a .t) (p .0) (p .1)) (a .left) (a .right) (p .2) (p .3) (c .before .before .ancestors .result .words) (c .before .before .ancestors .ensures) (sym (c .before .has .ensures) ∙ c .if1 .taken)
+    let a = c .before .before .before .before .before .args in
+    let p = c .before .before .before .before .before .pre in
+    found-right (viewOf (a .pairs .now) (a .marks .now) (a .t)) (view-good (a .pairs .now) (a .marks .now) (a .t) (p .0) (p .1)) (a .left) (a .right) (p .2) (p .3) (c .before .before .ancestors .result .words) (c .before .before .ancestors .ensures) (sym (c .before .has .ensures) ∙ c .if1 .taken)
 
 ancestors-requires-2 : tie.Need-ancestors-requires-2
 ancestors-requires-2 c κs = search needs
@@ -27,9 +26,9 @@ has-requires-2 c κs = search needs
 
 returns-2 : tie.Need-returns-2
 returns-2 c =
-    let a = c .before .before .before .before .before .before .before .args in
-    let p = c .before .before .before .before .before .before .before .pre in
-    found-left (parentView (a .pairs .now) (a .t)) (view-good (a .pairs .now) [] (a .t) (p .0) (p .1)) (a .left) (a .right) (p .2) (p .3) (c .before .before .before .before .before .ancestors .result .words) (c .before .before .ancestors2 .result .words) (c .before .before .before .before .before .ancestors .ensures) (c .before .before .ancestors2 .ensures)
+    let a = c .before .before .before .before .before .before .before .before .args in
+    let p = c .before .before .before .before .before .before .before .before .pre in
+    found-left (viewOf (a .pairs .now) (a .marks .now) (a .t)) (view-good (a .pairs .now) (a .marks .now) (a .t) (p .0) (p .1)) (a .left) (a .right) (p .2) (p .3) (c .before .before .before .before .before .ancestors .result .words) (c .before .before .ancestors2 .result .words) (c .before .before .before .before .before .ancestors .ensures) (c .before .before .ancestors2 .ensures)
     (sym (c .before .before .before .before .has .ensures) ∙ c .before .before .before .if1 .left)
     (sym (c .before .has2 .ensures) ∙ c .if2 .taken)
 
@@ -38,10 +37,10 @@ intersection-requires c κs = search needs
 
 lowest-of-requires : tie.Need-lowest-of-requires
 lowest-of-requires c κs =
-    let a = c .before .before .before .before .before .before .before .before .args in
-    let p = c .before .before .before .before .before .before .before .before .pre in
+    let a = c .before .before .before .before .before .before .before .before .before .args in
+    let p = c .before .before .before .before .before .before .before .before .before .pre in
     let f =
-    all-fits (parentView (a .pairs .now) (a .t)) (view-good (a .pairs .now) [] (a .t) (p .0) (p .1)) (a .left) (a .right) (p .2) (p .3)
+    all-fits (viewOf (a .pairs .now) (a .marks .now) (a .t)) (view-good (a .pairs .now) (a .marks .now) (a .t) (p .0) (p .1)) (a .left) (a .right) (p .2) (p .3)
     (c .before .before .before .before .before .before .ancestors .result .words) (c .before .before .before .ancestors2 .result .words) (c .before .before .before .before .before .before .ancestors .ensures) (c .before .before .before .ancestors2 .ensures) (sym (c .before .before .before .before .before .has .ensures) ∙ c .before .before .before .before .if1 .left) (c .intersection .result .words) (c .intersection .ensures) in
     (p .0, p .1, f .0, f .1, f .2)
 
@@ -50,9 +49,9 @@ nearest-of-requires c κs = search needs
 
 returns-3 : tie.Need-returns-3
 returns-3 c =
-    let a = c .before .before .before .before .before .before .before .before .before .before .args in
-    let p = c .before .before .before .before .before .before .before .before .before .before .pre in
-    found-nearest (parentView (a .pairs .now) (a .t)) (view-good (a .pairs .now) [] (a .t) (p .0) (p .1)) (a .left) (a .right) (p .2) (p .3) (c .before .before .before .before .before .before .before .before .ancestors .result .words) (c .before .before .before .before .before .ancestors2 .result .words) (c .before .before .before .before .before .before .before .before .ancestors .ensures) (c .before .before .before .before .before .ancestors2 .ensures)
+    let a = c .before .before .before .before .before .before .before .before .before .before .before .args in
+    let p = c .before .before .before .before .before .before .before .before .before .before .before .pre in
+    found-nearest (viewOf (a .pairs .now) (a .marks .now) (a .t)) (view-good (a .pairs .now) (a .marks .now) (a .t) (p .0) (p .1)) (a .left) (a .right) (p .2) (p .3) (c .before .before .before .before .before .before .before .before .ancestors .result .words) (c .before .before .before .before .before .ancestors2 .result .words) (c .before .before .before .before .before .before .before .before .ancestors .ensures) (c .before .before .before .before .before .ancestors2 .ensures)
     (sym (c .before .before .before .before .before .before .before .has .ensures) ∙ c .before .before .before .before .before .before .if1 .left) (c .before .before .intersection .result .words) (c .before .before .intersection .ensures)
     (c .before .lowest-of .result .words) (c .before .lowest-of .ensures) (c .nearest-of .result) (c .nearest-of .ensures)
     (sym (c .before .before .before .before .has2 .ensures) ∙ c .before .before .before .if2 .left)

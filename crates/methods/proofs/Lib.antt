@@ -1,0 +1,2 @@
+-- What the promises of the public functions determine.
+pub mod Unique

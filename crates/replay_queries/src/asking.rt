@@ -1,0 +1,105 @@
+// The questions of the boundary about two numbers over a table of eight columns.
+use bracepuffin::BpAnswer;
+
+// The answer to question 0 relation, 1 distance, 2 supertype, 3 cast of two classes; 4 join, 5 assignability of two types.
+pub(crate) fn answer(
+    question: usize,
+    names: &[u8],
+    name_at: &[u64],
+    name_len: &[u64],
+    rec_flags: &[u64],
+    rec_class: &[u64],
+    rec_at: &[u64],
+    rec_len: &[u64],
+    parents: &[u64],
+    x: u64,
+    y: u64,
+    work: &mut [u64],
+) -> BpAnswer {
+    match question {
+        0 => {
+            let a = bracepuffin::bp_relation(
+                names,
+                name_at,
+                name_len,
+                rec_flags,
+                rec_class,
+                rec_at,
+                rec_len,
+                parents,
+                x,
+                y,
+                work,
+            );
+            BpAnswer {
+                refusal: a.refusal,
+                value: a.relation,
+            }
+        }
+        1 => bracepuffin::bp_distance(
+            names,
+            name_at,
+            name_len,
+            rec_flags,
+            rec_class,
+            rec_at,
+            rec_len,
+            parents,
+            x,
+            y,
+            work,
+        ),
+        2 => bracepuffin::bp_supertype(
+            names,
+            name_at,
+            name_len,
+            rec_flags,
+            rec_class,
+            rec_at,
+            rec_len,
+            parents,
+            x,
+            y,
+            work,
+        ),
+        3 => bracepuffin::bp_cast(
+            names,
+            name_at,
+            name_len,
+            rec_flags,
+            rec_class,
+            rec_at,
+            rec_len,
+            parents,
+            x,
+            y,
+            work,
+        ),
+        4 => bracepuffin::bp_join(
+            names,
+            name_at,
+            name_len,
+            rec_flags,
+            rec_class,
+            rec_at,
+            rec_len,
+            parents,
+            x,
+            y,
+            work,
+        ),
+        _ => bracepuffin::bp_assignable(
+            names,
+            name_at,
+            name_len,
+            rec_flags,
+            rec_class,
+            rec_at,
+            rec_len,
+            parents,
+            x,
+            y,
+            work,
+        ),
+    }
+}

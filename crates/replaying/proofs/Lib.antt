@@ -1,0 +1,2 @@
+-- Laws for the loops and the verdicts.
+mod Steps

@@ -1,0 +1,83 @@
+-- What the loops and the verdicts go by, stated as the code meets it. Assumes nothing.
+use mathlib.Core.Bool.{Bool, true, false, cond, true≢false}
+use mathlib.Core.List.{List}
+use mathlib.Core.Logic.{_↔_}
+use mathlib.Core.Path.{_≡_, refl, sym, ap, _∙_}
+use Prim.Native.Nat.{ℕ, _+_, _%_, _^_, _≤_, _<_}
+use native.Mathlib.Decide.{ℕ-discrete}
+use native.Mathlib.Omega.{arith}
+use lib.Dec.{eqb, leb}
+use borrow.Author.Tests.{eq-eqb, ne-eqb, le-leb, lt-leb}
+use lib.ListN.{length, getD, set}
+use lib.Seq.{ext-getD, set-out}
+use Rattle.replaying.specs.Replaying.{verdict, more, tallied, counted}
+use Rattle.replaying.specs.declared.answers.Verdict.{Verdict}
+use Rattle.replaying.specs.declared.answers.Verdict.the-variants.{Agrees, Differs, Unread}
+
+-- ---- a part: b does not stand between `from` and i
+
+abbrev pub Without : List ℕ → ℕ → ℕ → ℕ → Type 0
+Without s from b i = (k : ℕ) → from ≤ k → k < i → getD s k 0 ≡ b → ⊥
+
+pub without-more : (s : List ℕ) (from b i : ℕ) → Without s from b i → (getD s i 0 ≡ b → ⊥) → Without s from b (i + 1)
+without-more s from b i w h k g l e = go (ℕ-discrete k i)
+  where
+    go : Dec (k ≡ i) → ⊥
+    go (yes q) = h (ap (λ (j : ℕ). getD s j 0) (sym q) ∙ e)
+    go (no q) = w k g (omega arith) e
+
+-- ---- two lists that are the same below i
+
+abbrev pub Alike : List ℕ → List ℕ → ℕ → Type 0
+Alike x y i = (k : ℕ) → k < i → getD x k 0 ≡ getD y k 0
+
+pub alike-more : (x y : List ℕ) (i : ℕ) → Alike x y i → getD x i 0 ≡ getD y i 0 → Alike x y (i + 1)
+alike-more x y i a h k l = go (ℕ-discrete k i)
+  where
+    go : Dec (k ≡ i) → getD x k 0 ≡ getD y k 0
+    go (yes q) = ap (λ (j : ℕ). getD x j 0) q ∙ h ∙ ap (λ (j : ℕ). getD y j 0) (sym q)
+    go (no q) = a k (omega arith)
+
+-- at the end they are the same, and `true` says so
+pub alike-all : (x y : List ℕ) (i : ℕ) → length x ≡ length y → length x ≤ i → Alike x y i → (true ≡ true) ↔ (x ≡ y)
+alike-all x y i e l a = (λ t. ext-getD 0 x y e (λ k h. a k (omega arith)), λ q. refl)
+
+-- what differs is not the same, and `false` says so
+pub differs : (x y : List ℕ) → (x ≡ y → ⊥) → (false ≡ true) ↔ (x ≡ y)
+differs x y n = (λ t. absurd (true≢false (sym t)), λ q. absurd (n q))
+
+-- ---- verdicts
+
+isAgrees : Verdict → Bool
+isAgrees Agrees = true
+isAgrees Differs = false
+isAgrees Unread = false
+
+-- the verdict on a comparison that tells whether P says whether P
+pub agrees-if : {P : Type 0} (r : Verdict) (b : Bool) → r ≡ verdict b → (b ≡ true) ↔ P → (r ≡ Agrees) ↔ P
+unfolding isAgrees
+agrees-if r true e f = (λ q. f .0 refl, λ p. e)
+agrees-if r false e f = (λ q. absurd (true≢false (sym (ap isAgrees (sym e ∙ q)))), λ p. absurd (true≢false (sym (f .1 p))))
+
+-- ---- counts
+
+-- past the end nothing is counted
+pub more-out : (at : ℕ) (counts : List ℕ) → length counts ≤ at → counts ≡ more at counts
+unfolding more
+more-out at counts l = sym (set-out counts at ((getD counts at 0 + 1) % 2 ^ 64) l)
+
+pub more-at : (at n : ℕ) (counts : List ℕ) → n ≡ (getD counts at 0 + 1) % 2 ^ 64 → set counts at n ≡ more at counts
+unfolding more
+more-at at n counts e = ap (λ (m : ℕ). set counts at m) e
+
+pub counted-comment : (place : ℕ) (v : Verdict) (counts : List ℕ) → place ≡ 64 → counts ≡ counted place v counts
+unfolding counted
+counted-comment place v counts e = sym (simp (eq-eqb _ _ e))
+
+pub counted-past : (place : ℕ) (v : Verdict) (counts : List ℕ) → (place ≡ 64 → ⊥) → 63 ≤ place → more 127 counts ≡ counted place v counts
+unfolding counted
+counted-past place v counts n l = sym (simp (ne-eqb _ _ n, le-leb _ _ l))
+
+pub counted-in : (place : ℕ) (v : Verdict) (counts : List ℕ) → (place ≡ 64 → ⊥) → place < 63 → tallied place v counts ≡ counted place v counts
+unfolding counted
+counted-in place v counts n l = sym (simp (ne-eqb _ _ n, lt-leb _ _ l))

@@ -1,0 +1,2 @@
+-- The definitions of the library.
+pub mod Replaying

@@ -1,0 +1,45 @@
+-- What the contracts cite: parts of a text, lists among numbers, and what a verdict does to the counts. Assumes nothing.
+use mathlib.Core.Bool.{Bool, cond}
+use mathlib.Core.List.{List}
+use mathlib.Core.Path.{_≡_}
+use Prim.Native.Nat.{ℕ, _+_, _-_, _*_, _%_, _^_, _≤_, _<_}
+use lib.Dec.{eqb, leb}
+use lib.ListN.{length, getD, set}
+use Rattle.replaying.specs.declared.answers.Verdict.{Verdict}
+use Rattle.replaying.specs.declared.answers.Verdict.the-variants.{Agrees, Differs, Unread}
+
+-- r is where the part of a text that starts at `from` ends: b stands there or the text is over, and b stands nowhere before.
+-- A part that starts past the text ends where it starts.
+pub record Part (text : List ℕ) (from b r : ℕ) : Type 0 where
+  pub after : from ≤ r
+  pub inside : r ≤ length text + (from - length text)
+  pub ends : r < length text → getD text r 0 ≡ b
+  pub before : (k : ℕ) → from ≤ k → k < r → getD text k 0 ≡ b → ⊥
+
+-- r is the end of the list at a place, its length and its members, or 0
+pub record ListEnd (a : List ℕ) (at r : ℕ) : Type 0 where
+  pub inside : r ≤ length a
+  pub whole : (r ≡ 0 → ⊥) → r ≡ at + 1 + getD a at 0
+
+-- the same, and so many numbers follow
+pub record LastEnd (a : List ℕ) (at more r : ℕ) : Type 0 where
+  pub inside : r ≤ length a - more
+  pub whole : (r ≡ 0 → ⊥) → (r ≡ at + 1 + getD a at 0) × (r + more ≡ length a)
+
+-- the verdict on a comparison
+abbrev pub verdict : Bool → Verdict
+verdict agrees = cond agrees Agrees Differs
+
+-- one more at a place of the counts, none past their end
+unfoldable pub more : ℕ → List ℕ → List ℕ
+more at counts = set counts at ((getD counts at 0 + 1) % 2 ^ 64)
+
+-- the counts after a verdict on a function by its number
+unfoldable pub tallied : ℕ → Verdict → List ℕ → List ℕ
+tallied place Agrees counts = more (2 * place + 1) (more (2 * place) counts)
+tallied place Differs counts = more (2 * place + 1) counts
+tallied place Unread counts = more 127 counts
+
+-- and on a line: 64 stands for one that is to be no case, 63 and what else passes the functions for one that is none
+unfoldable pub counted : ℕ → Verdict → List ℕ → List ℕ
+counted place v counts = cond (eqb place 64) counts (cond (leb 63 place) (more 127 counts) (tallied place v counts))

@@ -1,0 +1,27 @@
+// Lists among numbers: the length, then the members.
+ghost use Rattle.replaying.specs.Replaying.{ListEnd, LastEnd};
+
+// The end of the list at `at`; 0 where there is no whole list.
+pub fn end(a: &[u64], at: usize) -> usize
+    ensures { λ r. ⌜ ListEnd (now (a .entry)) at r ⌝ }
+{
+    if a.len() <= at {
+        return 0;
+    }
+    let n = a[at] as usize;
+    if a.len() - at - 1 < n {
+        return 0;
+    }
+    at + 1 + n
+}
+
+// The end of the list at `at` where exactly `more` numbers follow it, else 0.
+pub fn end_before(a: &[u64], at: usize, more: usize) -> usize
+    ensures { λ r. ⌜ LastEnd (now (a .entry)) at more r ⌝ }
+{
+    let e = end(a, at);
+    if a.len() - e == more {
+        return e;
+    }
+    0
+}
