@@ -22,8 +22,8 @@ use Rattle.descriptor.specs.declared.Base.the-variants.{Simple, Class}
 use Rattle.descriptor.specs.declared.Read.{Read}
 use Rattle.descriptor.specs.declared.Read.the-variants.{Found, Refused}
 use Rattle.descriptor.specs.Read.{readWhole, readStrict}
-use Rattle.descriptor.specs.Method.{Method, Whole, Broken, pickM, readMethod, readMethodStrict}
-use Rattle.descriptor.specs.Answers.{foundMethod, refusedMethod, methodAnswer, methodOf}
+use Rattle.methods.specs.Method.{Method, Whole, Broken, pickM, readMethod, readMethodStrict}
+use Rattle.methods.specs.Answers.{foundMethod, refusedMethod, methodAnswer, methodOf}
 use Rattle.writer.specs.Print.{printWord, printMethodWords}
 use Rattle.rows.specs.Rows.{allBelow}
 use Rattle.columns.specs.Given.{Given, even, table}

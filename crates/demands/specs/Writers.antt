@@ -32,11 +32,11 @@ use Rattle.writer.specs.Print as print
 use Rattle.writer.specs.Steps.{type-named, type-fits, method-named, method-fits}
 use Rattle.bracepuffin.proofs.bp_lookup.Reads as bp-lookup-reads
 use Rattle.bracepuffin.proofs.bp_lookup.Kinds as bp-lookup-kinds
-use Rattle.writer.specs.ToWord.{toType, readAs, toWord, MethodWords, toWords}
-use Rattle.writer.specs.Readable.{readable, allReadable, named, allNamed, named-depth, named-length, named-low, return-derived, parameters-derived}
-use Rattle.writer.specs.Derived.{limits-parts, legalTypes}
-use Rattle.writer.specs.Held.{HoldsAll, words-there}
-use Rattle.writer.specs.Round.{write-read-place, write-read-word, write-read-words, type-again, method-again}
+use Rattle.roundtrips.specs.ToWord.{toType, readAs, toWord, MethodWords, toWords}
+use Rattle.roundtrips.specs.Readable.{readable, allReadable, named, allNamed, named-depth, named-length, named-low, return-derived, parameters-derived}
+use Rattle.roundtrips.specs.Derived.{limits-parts, legalTypes}
+use Rattle.roundtrips.specs.Held.{HoldsAll, words-there}
+use Rattle.roundtrips.specs.Round.{write-read-place, write-read-word, write-read-words, type-again, method-again}
 use Rattle.descriptor.specs.Read.{readWhole}
 use Rattle.jvms.specs.Ends.{stands-return}
 use Rattle.jvms.specs.JvmsTheorem.{ordinary-type, ordinary-method}
