@@ -94,3 +94,18 @@ pub arrays-by-elements :
     × (isAssignable world (Array (Object 1)) (Object 0) ≡ false)
 unfolding bit at member insert members first insertAll withParents grow level reached reach steps distance ancestor allRecorded complete relation common below anyBelow lowest nearer nearest numbers candidates supertype elem compareNumbers compareLists compare isPrimitive sameType primitiveAssignable elementsAssignable arrayParent assignableApart isAssignable joinPrimitive joinElements joinApart join
 arrays-by-elements = (refl, refl, refl, refl, refl, refl, refl, refl, refl, refl, refl, refl, refl, refl)
+
+-- ---- classes
+
+-- two classes by the relation, either way; where a world knows no common supertype, Object
+abbrev bare : World
+bare = record { names = 4; object = 3; relation = relation whole; supertype = λ c d. none; cloneable = none; serializable = none }
+
+pub classes-related :
+    (isAssignable world (Object 1) (Object 0) ≡ true)
+    × (isAssignable world (Object 0) (Object 1) ≡ false)
+    × (join world (Object 1) (Object 0) ≡ Object 0)
+    × (join world (Object 1) (Object 2) ≡ Object 0)
+    × (join bare (Object 1) (Object 2) ≡ Object 3)
+unfolding bit at member insert members first insertAll withParents grow level reached reach steps distance ancestor allRecorded complete relation common below anyBelow lowest nearer nearest numbers candidates supertype compareNumbers compare sameType assignableApart isAssignable joinApart join
+classes-related = (refl, refl, refl, refl, refl)

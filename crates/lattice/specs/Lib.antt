@@ -18,4 +18,5 @@ pub mod JoinGrid
 pub mod Registers
 pub mod Kinds
 pub mod JoinAll
+pub mod Unknowns
 pub mod JoinCases
