@@ -3,6 +3,7 @@
 use mathlib.Core.Path.{_≡_, refl}
 use mathlib.Core.List.{List, [], _∷_}
 use Prim.Native.Nat.{ℕ, _-_, _^_}
+use Rattle.text.specs.Text.{ascii}
 use Rattle.order.specs.Lists.{elem}
 use Rattle.order.specs.Compare.{compareNumbers, compareLists}
 use Rattle.utf8.specs.Utf8.{table, within, matches, firstMatch, sequence, scan, validPrefix, wellFormed}
@@ -102,5 +103,5 @@ examples =
 
 -- EVERY EXAMPLE HOLDS
 pub all-hold : All holds examples
-unfolding answerOf answered refusalOf tableChecks goodNumbers valueOf columns.table evenLengths even rowsView rowsWorld rowsIn namesOf recordsOf isRecorded parentsOf setOf lastDeclared indexOf allLegal legalWord legalBase goodUnknown goodDigits unpack typeOf arrays baseOf listOf wordOf pack compare categories sameType hasAll unknownAccepts inEither unknownUnion primitiveAssignable assignableApart isAssignable narrow underDouble joinPrimitive joinKnown joinApart join arrayParent joinArrayClass firstRefusal inside placedName nameRows placedRecord recordRows tableOf objectName cloneableName serializableName noTables noted withName nameRow goodFlags allBelow putAll marked recordMarks recordChecks recordRefusal withRecord recordRow nameChecks checkName compareLists compareNumbers table within matches firstMatch sequence scan validPrefix wellFormed insert remove clear elem insertSorted put bit at member members sets.first insertAll withParents grow level reached reach steps distance numberOf ancestor allRecorded complete relation relationNumber castByFacts cast common below anyBelow lowest nearer nearest numbers candidates supertype
+unfolding answerOf answered refusalOf tableChecks goodNumbers valueOf columns.table evenLengths even rowsView rowsWorld rowsIn namesOf recordsOf isRecorded parentsOf setOf lastDeclared indexOf allLegal legalWord legalBase goodUnknown goodDigits unpack typeOf arrays baseOf listOf wordOf pack compare categories sameType hasAll unknownAccepts inEither unknownUnion primitiveAssignable assignableApart isAssignable narrow underDouble joinPrimitive joinKnown joinApart join arrayParent joinArrayClass firstRefusal inside placedName nameRows placedRecord recordRows tableOf ascii objectName cloneableName serializableName noTables noted withName nameRow goodFlags allBelow putAll marked recordMarks recordChecks recordRefusal withRecord recordRow nameChecks checkName compareLists compareNumbers table within matches firstMatch sequence scan validPrefix wellFormed insert remove clear elem insertSorted put bit at member members sets.first insertAll withParents grow level reached reach steps distance numberOf ancestor allRecorded complete relation relationNumber castByFacts cast common below anyBelow lowest nearer nearest numbers candidates supertype
 all-hold = (refl, (refl, (refl, (refl, (refl, (refl, (refl, (refl, (refl, (refl, (refl, (refl, (refl, (refl, (refl, (refl, (refl, (refl, (refl, (refl, tt))))))))))))))))))))

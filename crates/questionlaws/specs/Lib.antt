@@ -1,4 +1,5 @@
 -- Laws of the questions that no proof of code cites.
 pub mod Accepted
+pub mod Loops
 pub mod Refusals
 pub mod Examples

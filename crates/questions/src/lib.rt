@@ -5,16 +5,15 @@ use sets::Set;
 use tables::MARKS;
 use tables::PAIRS;
 use tables::Tables;
-use ty::Decoded;
 use ty::TypeWord;
-use ty::decode;
+use ty::is_legal;
 use view::Relation;
 ghost use mathlib.Core.Path.{_≡_};
 ghost use mathlib.Core.Bool.{true, cond};
 ghost use mathlib.Core.List.{[], _∷_};
 ghost use lib.ListN.{length, replicate};
 ghost use Rattle.checks.specs.Checks.{firstRefusal};
-ghost use Rattle.ty.specs.Words.{legalWord, allLegal};
+ghost use Rattle.ty.specs.Words.{allLegal};
 ghost use Rattle.view.specs.View.{relationNumber};
 ghost use Rattle.tables.specs.Table.{pairsRoom, marksRoom, viewOf};
 ghost use Rattle.lattice.specs.World.{worldOf};
@@ -150,21 +149,11 @@ fn of_types(q: Question) -> bool
     }
 }
 
-fn is_type(word: u64, names: u64) -> bool
-    ensures { λ r. ⌜ r ≡ legalWord names word ⌝ }
-{
-    let d = decode(word, names);
-    match d {
-        Decoded::Good(_) => true,
-        Decoded::Refused(_) => false,
-    }
-}
-
 fn are_types(a: u64, b: u64, names: u64) -> bool
     ensures { λ r. ⌜ r ≡ allLegal names (a ∷ b ∷ []) ⌝ }
 {
-    if is_type(a, names) {
-        return is_type(b, names);
+    if is_legal(a, names) {
+        return is_legal(b, names);
     }
     false
 }

@@ -1,19 +1,17 @@
 -- A CLASS WITHOUT A ROW HAS NO PARENTS. So over the rows of any table the loop of `subtype_relation`, as hierarchy.rs has it, ends with
--- what `relation` defines, and nothing is left to assume of the table.
-use mathlib.Core.Path.{_≡_, refl, sym, ap, _∙_, subst}
+-- what `relation` defines, and nothing is left to assume of the table. Assumes nothing.
+use mathlib.Core.Path.{_≡_, refl, ap}
 use mathlib.Core.Bool.{Bool, true, false, cond, _||_, true≢false}
 use mathlib.Core.List.{List, [], _∷_, _++_}
 use mathlib.Core.Option.{some}
 use Prim.Native.Nat.{ℕ, _<_}
 use lib.Dec.{eqb}
-use Rattle.view.specs.View.{View, relation}
+use Rattle.view.specs.View.{relation}
 use Rattle.view.specs.Reach.{Good}
 use Rattle.view.specs.Loops.{subtypeRelation}
 use Rattle.view.specs.Search.{computed-relation, computed-relation-ends}
 use Rattle.view.specs.declared.Relation.{Relation}
-use Rattle.queries.specs.Queries.{Given, viewIn, queryRefusal}
-use Rattle.tableview.specs.TableRows.{Record, Rows, isRecorded, parentsOf, setOf, rowsView, rowsIn}
-use Rattle.tableview.specs.Agrees.{view-rows, accepted}
+use Rattle.tableview.specs.TableRows.{Record, Rows, isRecorded, parentsOf, setOf, rowsView}
 
 -- no row of it lists a parent where none is of it
 parents-none : (c : ℕ) (rs : List Record) → isRecorded c rs ≡ false → parentsOf c rs ≡ []
@@ -40,18 +38,3 @@ module _ (t : Rows) (g : Good (rowsView t)) (x y : ℕ) (h : x < rowsView t .nam
   -- and some number of turns is enough
   pub rows-relation-ends : (n : ℕ) × (subtypeRelation (rowsView t) x y n ≡ some (relation (rowsView t) x y))
   rows-relation-ends = computed-relation-ends (rowsView t) g (rows-bare t) x y h
-
--- ---- and of the table of a question that is not refused
-
-module _ (g : Given) (numbers : List ℕ) (room : ℕ) (h : queryRefusal g numbers room ≡ 0) (x y : ℕ) (l : x < viewIn g .names) where
-  -- a class without a record has no parents
-  given-bare : (c : ℕ) → viewIn g .recorded c ≡ false → viewIn g .parents c ≡ []
-  given-bare =
-      let k = accepted g numbers room h in
-      subst (λ (v : View). (c : ℕ) → v .recorded c ≡ false → v .parents c ≡ []) (sym (view-rows g (k .columns) (k .taken))) (rows-bare (rowsIn g))
-
-  pub given-relation : (n : ℕ) (r : Relation) → subtypeRelation (viewIn g) x y n ≡ some r → r ≡ relation (viewIn g) x y
-  given-relation = computed-relation (viewIn g) (accepted g numbers room h .good) given-bare x y l
-
-  pub given-relation-ends : (n : ℕ) × (subtypeRelation (viewIn g) x y n ≡ some (relation (viewIn g) x y))
-  given-relation-ends = computed-relation-ends (viewIn g) (accepted g numbers room h .good) given-bare x y l
