@@ -2,6 +2,7 @@
 use mathlib.Core.Path.{_≡_, refl}
 use mathlib.Core.Bool.{true, false}
 use mathlib.Core.List.{[], _∷_, _++_}
+use lib.ListN.{replicate}
 use Rattle.text.specs.Text.{ascii, byte}
 use Rattle.utf8.specs.Utf8.{table, within, matches, firstMatch, sequence, scan, validPrefix}
 use Rattle.descriptor.specs.declared.Base.the-variants.{Simple, Class}
@@ -9,7 +10,7 @@ use Rattle.descriptor.specs.declared.Read.the-variants.{Found, Refused}
 use Rattle.descriptor.specs.Read.{letterOf, indexOf, nameRead, readName, readType, finish, readWhole, partsFrom, strictName, strictly, readStrict}
 use Rattle.methods.specs.Method.{Whole, Broken, readParams, returns, afterParams, readMethod, strictParams, strictMethod, readMethodStrict}
 use Rattle.methods.specs.Answers.{methodOf, methodAnswer, paramsAfter}
-use Rattle.jvms.specs.Errors.{UnexpectedEnd, UnexpectedByte, VoidNotAllowed, EmptyObject, TrailingInput, MissingMethodStart, MissingMethodEnd, NotStrict, typeError, methodError}
+use Rattle.jvms.specs.Errors.{UnexpectedEnd, UnexpectedByte, VoidNotAllowed, EmptyObject, TrailingInput, MissingMethodStart, MissingMethodEnd, TooDeep, TooMany, NotStrict, typeError, methodError}
 
 -- the scope paper's, then names in strict reading
 pub types : (readWhole (ascii "[V") ≡ Refused 13 1 0)
@@ -84,3 +85,11 @@ pub answers : (methodAnswer (readMethod (ascii "(IJ)[La;")) ≡ record { refusal
     × (paramsAfter (7 ∷ 8 ∷ 9 ∷ []) (readMethod (ascii "(IJ)")) ≡ 7 ∷ 8 ∷ 9 ∷ [])
 unfolding methodAnswer methodOf paramsAfter letterOf indexOf nameRead readName readType finish readParams returns afterParams readMethod table within matches firstMatch sequence scan validPrefix strictParams strictMethod readMethodStrict ascii
 answers = (refl, refl, refl, refl, refl, refl)
+
+-- both sides of the limits: dimensions and parameters
+pub limits : (readWhole (replicate 255 (byte "[") ++ ascii "I") ≡ Found 255 (Simple 5) 256)
+    × (readWhole (replicate 256 (byte "[") ++ ascii "V") ≡ typeError (TooDeep 255))
+    × (methodAnswer (readMethod (ascii "(" ++ replicate 255 (byte "I") ++ ascii ")V")) ≡ record { refusal = 0; offset = 0; byte = 0; count = 255; «return_at» = 257; dims = 0; base = Simple 0 })
+    × (readMethod (ascii "(" ++ replicate 256 (byte "I") ++ ascii ")V") ≡ methodError (TooMany 256))
+unfolding methodAnswer letterOf readType finish readWhole readParams returns afterParams readMethod ascii
+limits = (refl, refl, refl, refl)
