@@ -7,6 +7,7 @@ use Prim.Native.Nat.{ℕ}
 use native.Mathlib.Omega.{arith}
 use lib.ListN.{length, take, drop}
 use lib.Seq.{take-append-seam, drop-append-seam}
+use Rattle.text.specs.Text.{byte}
 use Rattle.descriptor.specs.Read.{letterOf, indexOf, strictName}
 use Rattle.jvms.specs.Jvms.{JavaType, Primitive, Object, Array, AnyName, ClassName, BaseType, B, C, D, F, I, BaseType.J, S, Z}
 use Rattle.jvms.specs.Jvms.{FieldType, FieldType.base, FieldType.object, FieldType.array, ReturnDescriptor, ReturnDescriptor.field, ReturnDescriptor.void}
@@ -37,7 +38,7 @@ first-byte (array {bs} f) = (91, bs, refl, omega arith, omega arith)
 
 -- no class name has a ';'
 abbrev pub Ended : (List ℕ → Type 0) → Type 0
-Ended Name = (name : List ℕ) → Name name → List·Memᴰ 59 name → ⊥
+Ended Name = (name : List ℕ) → Name name → List·Memᴰ (byte ";") name → ⊥
 
 same-name : (xs ys r q : List ℕ) → (List·Memᴰ 59 xs → ⊥) → (List·Memᴰ 59 ys → ⊥) → xs ++ 59 ∷ [] ++ r ≡ ys ++ 59 ∷ [] ++ q → xs ≡ ys
 same-name xs ys r q u w e =

@@ -2,40 +2,42 @@
 use mathlib.Core.Path.{_≡_, refl}
 use mathlib.Core.Bool.{true, false}
 use mathlib.Core.List.{[], _∷_, _++_}
+use lib.ListN.{replicate}
 use Rattle.text.specs.Text.{ascii, byte}
+use Rattle.ty.specs.Types.{Void, Boolean, Byte, Short, Char, Int, Long, Float, Double}
 use Rattle.utf8.specs.Utf8.{table, within, matches, firstMatch, sequence, scan, validPrefix}
 use Rattle.descriptor.specs.declared.Base.the-variants.{Simple, Class}
 use Rattle.descriptor.specs.declared.Read.the-variants.{Found, Refused}
 use Rattle.descriptor.specs.Read.{letterOf, indexOf, nameRead, readName, readType, finish, readWhole, partsFrom, strictName, strictly, readStrict}
 use Rattle.methods.specs.Method.{Whole, Broken, readParams, returns, afterParams, readMethod, strictParams, strictMethod, readMethodStrict}
 use Rattle.methods.specs.Answers.{methodOf, methodAnswer, paramsAfter}
-use Rattle.jvms.specs.Errors.{UnexpectedEnd, UnexpectedByte, VoidNotAllowed, EmptyObject, TrailingInput, MissingMethodStart, MissingMethodEnd, NotStrict, typeError, methodError}
+use Rattle.jvms.specs.Errors.{UnexpectedEnd, UnexpectedByte, VoidNotAllowed, EmptyObject, TrailingInput, MissingMethodStart, MissingMethodEnd, TooDeep, TooMany, NotStrict, typeError, methodError}
 
 -- the scope paper's, then names in strict reading
 pub types : (readWhole (ascii "[V") ≡ Refused 13 1 0)
     × (readWhole (ascii "L;") ≡ Refused 14 0 0)
-    × (readWhole (ascii "[[I") ≡ Found 2 (Simple 5) 3)
+    × (readWhole (ascii "[[I") ≡ Found 2 (Simple Int) 3)
     × (readStrict (ascii "La/b;") ≡ Found 0 (Class 1 3) 5)
     × (readStrict (ascii "[L/a;") ≡ Refused 24 1 0)
 unfolding letterOf indexOf nameRead readName readType finish readWhole partsFrom strictName strictly readStrict table within matches firstMatch sequence scan validPrefix ascii
 types = (refl, refl, refl, refl, refl)
 
 pub methods : (readMethod (ascii "()") ≡ Broken 11 2 0)
-    × (readMethod (ascii "(ILa;)V") ≡ Whole (1 ∷ 2 ∷ []) 6 (Found 0 (Simple 0) 7))
+    × (readMethod (ascii "(ILa;)V") ≡ Whole (1 ∷ 2 ∷ []) 6 (Found 0 (Simple Void) 7))
     × (readMethodStrict (ascii "(La.b;)V") ≡ Broken 24 1 0)
 unfolding letterOf indexOf nameRead readName readType finish partsFrom strictName strictly readParams returns afterParams readMethod strictParams strictMethod readMethodStrict table within matches firstMatch sequence scan validPrefix ascii
 methods = (refl, refl, refl)
 
 -- each letter of ty.rs, with the category of its type
-pub letters : (readWhole (ascii "V") ≡ Found 0 (Simple 0) 1)
-    × (readWhole (ascii "Z") ≡ Found 0 (Simple 1) 1)
-    × (readWhole (ascii "B") ≡ Found 0 (Simple 2) 1)
-    × (readWhole (ascii "S") ≡ Found 0 (Simple 3) 1)
-    × (readWhole (ascii "C") ≡ Found 0 (Simple 4) 1)
-    × (readWhole (ascii "I") ≡ Found 0 (Simple 5) 1)
-    × (readWhole (ascii "J") ≡ Found 0 (Simple 6) 1)
-    × (readWhole (ascii "F") ≡ Found 0 (Simple 7) 1)
-    × (readWhole (ascii "D") ≡ Found 0 (Simple 8) 1)
+pub letters : (readWhole (ascii "V") ≡ Found 0 (Simple Void) 1)
+    × (readWhole (ascii "Z") ≡ Found 0 (Simple Boolean) 1)
+    × (readWhole (ascii "B") ≡ Found 0 (Simple Byte) 1)
+    × (readWhole (ascii "S") ≡ Found 0 (Simple Short) 1)
+    × (readWhole (ascii "C") ≡ Found 0 (Simple Char) 1)
+    × (readWhole (ascii "I") ≡ Found 0 (Simple Int) 1)
+    × (readWhole (ascii "J") ≡ Found 0 (Simple Long) 1)
+    × (readWhole (ascii "F") ≡ Found 0 (Simple Float) 1)
+    × (readWhole (ascii "D") ≡ Found 0 (Simple Double) 1)
 unfolding letterOf readType finish readWhole ascii
 letters = (refl, refl, refl, refl, refl, refl, refl, refl, refl)
 
@@ -79,8 +81,16 @@ method-errors = (refl, refl, refl, refl, refl, refl, refl, refl, refl, refl, ref
 pub answers : (methodAnswer (readMethod (ascii "(IJ)[La;")) ≡ record { refusal = 0; offset = 0; byte = 0; count = 2; «return_at» = 4; dims = 1; base = Class 6 1 })
     × (methodAnswer (readMethod (ascii "(I?)V")) ≡ record { refusal = 12; offset = 2; byte = 63; count = 0; «return_at» = 0; dims = 0; base = Simple 0 })
     × (methodAnswer (methodOf true (ascii "()V") 254) ≡ record { refusal = 22; offset = 0; byte = 0; count = 0; «return_at» = 0; dims = 0; base = Simple 0 })
-    × (methodAnswer (methodOf false (ascii "()V") 255) ≡ record { refusal = 0; offset = 0; byte = 0; count = 0; «return_at» = 2; dims = 0; base = Simple 0 })
+    × (methodAnswer (methodOf false (ascii "()V") 255) ≡ record { refusal = 0; offset = 0; byte = 0; count = 0; «return_at» = 2; dims = 0; base = Simple Void })
     × (paramsAfter (7 ∷ 8 ∷ 9 ∷ []) (readMethod (ascii "(IJ)V")) ≡ 1 ∷ 2 ∷ 9 ∷ [])
     × (paramsAfter (7 ∷ 8 ∷ 9 ∷ []) (readMethod (ascii "(IJ)")) ≡ 7 ∷ 8 ∷ 9 ∷ [])
 unfolding methodAnswer methodOf paramsAfter letterOf indexOf nameRead readName readType finish readParams returns afterParams readMethod table within matches firstMatch sequence scan validPrefix strictParams strictMethod readMethodStrict ascii
 answers = (refl, refl, refl, refl, refl, refl)
+
+-- both sides of the limits: dimensions and parameters
+pub limits : (readWhole (replicate 255 (byte "[") ++ ascii "I") ≡ Found 255 (Simple Int) 256)
+    × (readWhole (replicate 256 (byte "[") ++ ascii "V") ≡ typeError (TooDeep 255))
+    × (methodAnswer (readMethod (ascii "(" ++ replicate 255 (byte "I") ++ ascii ")V")) ≡ record { refusal = 0; offset = 0; byte = 0; count = 255; «return_at» = 257; dims = 0; base = Simple Void })
+    × (readMethod (ascii "(" ++ replicate 256 (byte "I") ++ ascii ")V") ≡ methodError (TooMany 256))
+unfolding methodAnswer letterOf readType finish readWhole readParams returns afterParams readMethod ascii
+limits = (refl, refl, refl, refl)

@@ -40,15 +40,6 @@ module _ (names : ℕ) (ws : List ℕ) (i : ℕ) where
       → (legalWord names (getD ws i 0) ≡ true) × (allLegal names (drop (i + 1) ws) ≡ true)
   legal-front h e = both (legalWord names (getD ws i 0)) (allLegal names (drop (i + 1) ws)) (sym (legal-next h) ∙ e)
 
-  -- where the test of the next word says t
-  pub legal-told : i < length ws → (t : Bool) → legalWord names (getD ws i 0) ≡ t
-      → allLegal names (drop i ws) ≡ (t && allLegal names (drop (i + 1) ws))
-  legal-told h t e = legal-next h ∙ ap (λ (b : Bool). b && allLegal names (drop (i + 1) ws)) e
-
-  pub legal-none : length ws ≤ i → allLegal names (drop i ws) ≡ true
-  unfolding allLegal
-  legal-none h = rw (drop-of-length-le ws h)
-
 -- ---- what a word prints: a '[' for each dimension, then its base
 
 pub print-arrays : (name : ℕ → List ℕ) (d : ℕ) (t : ArgType) → print name (arrays d t) ≡ replicate d 91 ++ print name t

@@ -1,7 +1,10 @@
 // Types and methods written as descriptors, from words over a table of names: lengths first, then the bytes.
 use names::check_names;
-use ty::Decoded;
-use ty::decode;
+use ty::DIMENSION;
+use ty::NO_TYPE;
+use ty::TAG;
+use ty::are_legal;
+use ty::is_legal;
 ghost use mathlib.Core.Path.{_≡_};
 ghost use mathlib.Core.Bool.{true};
 ghost use Prim.Native.Nat.{_+_, _≤_};
@@ -15,18 +18,9 @@ ghost use Rattle.writer.specs.Store.{Put};
 ghost use Rattle.writer.specs.Steps.{Short, classBytes, printBase, wordSize, wordsSize, methodSize};
 
 // Refusals.
-const TYPE: u64 = 7;
-
 const ROOM: u64 = 8;
 
 const SHORT: u64 = 22;
-
-// A word is its dimensions, its tag below TAGS and its load below TAG.
-const DIMENSION: u64 = 1 << 56;
-
-const TAG: u64 = 1 << 48;
-
-const TAGS: u64 = 256;
 
 // How many parameters a method has at most.
 const PARAMETERS: usize = 255;
@@ -37,31 +31,6 @@ pub struct Written {
     pub length: u64,
 }
 
-// ---- which words are types
-
-fn is_legal(word: u64, names: u64) -> bool
-    ensures { λ r. ⌜ r ≡ legalWord names word ⌝ }
-{
-    let d = decode(word, names);
-    match d {
-        Decoded::Good(_) => true,
-        Decoded::Refused(_) => false,
-    }
-}
-
-fn are_legal(words: &[u64], names: u64) -> bool
-    ensures { λ r. ⌜ r ≡ allLegal names (now (words .entry)) ⌝ }
-{
-    let mut i: usize = 0;
-    while i < words.len() {
-        if !is_legal(words[i], names) {
-            return false;
-        }
-        i += 1;
-    }
-    true
-}
-
 // ---- lengths
 
 fn type_length(lens: &[u64], word: u64) -> u64
@@ -69,7 +38,7 @@ fn type_length(lens: &[u64], word: u64) -> u64
     ensures { λ r. ⌜ (r ≡ wordSize (now (lens .entry)) word) × (r ≤ 512) ⌝ }
 {
     let dims = word / DIMENSION;
-    let tag = word / TAG % TAGS;
+    let tag = word / TAG % 256;
     if tag == 1 {
         let class = (word % TAG) as usize;
         return dims + (lens[class] + 2);
@@ -177,7 +146,7 @@ fn put_type(names: &[u8], ats: &[u64], lens: &[u64], word: u64, out: &mut [u8], 
     ensures { λ r. ⌜ Put (printWord (now (names .entry)) (now (ats .entry)) (now (lens .entry)) word) (now (out .entry)) (now (out .exit)) at r ⌝ }
 {
     let dims = (word / DIMENSION) as usize;
-    let tag = word / TAG % TAGS;
+    let tag = word / TAG % 256;
     let load = word % TAG;
     put_brackets(out, at, dims);
     put_base(names, ats, lens, tag, load, out, at + dims)
@@ -238,7 +207,7 @@ fn write_checked_type(names: &[u8], ats: &[u64], lens: &[u64], word: u64, out: &
     ensures { λ r. ⌜ Wrote (checkedTypeRefusal (now (names .entry)) (now (ats .entry)) (now (lens .entry)) word (length (now (out .entry)))) (printWord (now (names .entry)) (now (ats .entry)) (now (lens .entry)) word) (now (out .entry)) (now (out .exit)) r ⌝ }
 {
     if !is_legal(word, ats.len() as u64) {
-        return refused(TYPE);
+        return refused(NO_TYPE);
     }
     if (out.len() as u64) < type_length(lens, word) {
         return refused(SHORT);
@@ -266,10 +235,10 @@ fn write_checked_method(
     }
     let n = ats.len() as u64;
     if !are_legal(params, n) {
-        return refused(TYPE);
+        return refused(NO_TYPE);
     }
     if !is_legal(result, n) {
-        return refused(TYPE);
+        return refused(NO_TYPE);
     }
     if (out.len() as u64) < method_length(lens, params, result) {
         return refused(SHORT);
