@@ -1,4 +1,5 @@
 -- The rows that columns hold, taken one after the other until one is refused. Assumes nothing.
+use mathlib.Core.Path.{_≡_}
 use mathlib.Core.Bool.{Bool, cond, _&&_}
 use mathlib.Core.List.{List, [], _∷_}
 use Prim.Native.Nat.{ℕ, _-_}
@@ -7,7 +8,8 @@ use lib.ListN.{length, take, drop}
 use Rattle.names.specs.Names.{nameOf}
 use Rattle.tables.specs.declared.Tables.{Tables}
 use Rattle.rows.specs.declared.Outcome.{Outcome}
-use Rattle.rows.specs.Rows.{nameRow, State, Ran, recordRan}
+use Rattle.tables.specs.Table.{pairsRoom, marksRoom}
+use Rattle.rows.specs.Rows.{noTables, nameRow, State, Ran, recordRan}
 
 -- len entries from at on lie inside a slice of that size; the difference does not overflow where the sum would
 unfoldable pub inside : ℕ → ℕ → ℕ → Bool
@@ -51,3 +53,12 @@ unfoldable pub tableOf : Outcome → List ℕ → List ℕ → List ℕ → List
 tableOf named parents fs cs ats ls marks =
     let s : State = record { tables = named .tables; keys = []; marks = marks } in
     cond (eqb (named .refusal) 0) (recordRows parents fs cs ats ls s) (record { refusal = named .refusal; state = s })
+
+-- what the eight columns come to, from marks as they came
+abbrev pub built : List ℕ → List ℕ → List ℕ → List ℕ → List ℕ → List ℕ → List ℕ → List ℕ → List ℕ → Ran
+built names ats lens fs cs starts sizes parents marks = tableOf (nameRows names ats lens [] noTables) parents fs cs starts sizes marks
+
+-- columns of equal length, and the two slices of a table in full length
+abbrev pub Roomy : List ℕ → List ℕ → List ℕ → List ℕ → List ℕ → List ℕ → List ℕ → List ℕ → Type 0
+Roomy ats lens fs cs starts sizes pairs marks =
+    (length ats ≡ length lens) × (length fs ≡ length cs) × (length fs ≡ length starts) × (length fs ≡ length sizes) × (length pairs ≡ pairsRoom) × (length marks ≡ marksRoom)

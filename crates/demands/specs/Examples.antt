@@ -23,7 +23,7 @@ use Rattle.view.specs.declared.Relation.the-variants.{No, Unknown as Incomplete
 use Rattle.view.specs.View.{numberOf, insertAll, withParents, grow, level, reached, reach, steps, distance, ancestor, allRecorded, complete, relation, common, below, anyBelow, lowest, nearer, nearest, numbers, candidates, supertype}
 use Rattle.lattice.specs.Lattice.{sameType, hasAll, unknownAccepts, inEither, unknownUnion, primitiveAssignable, assignableApart, isAssignable, narrow, underDouble, joinPrimitive, joinKnown, joinApart, join, joinFrom, joinAll}
 use Rattle.rows.specs.Rows.{objectName, cloneableName, serializableName}
-use Rattle.tableview.specs.TableRows.{Record, Rows, isRecorded, parentsOf, setOf, lastDeclared, rowsView, rowsWorld}
+use Rattle.tableview.specs.TableRows.{Record, Rows, isRecorded, listedParents, setOf, lastDeclared, rowsView, rowsWorld}
 use Rattle.tableview.specs.TableRows as rows
 use Rattle.questionlaws.specs.Examples.{All}
 
@@ -83,5 +83,5 @@ examples =
 
 -- EVERY EXAMPLE HOLDS, by computation
 pub examples-hold : All Holds examples
-unfolding ascii letterOf indexOf nameRead readName readType finish readWhole readParams returns afterParams readMethod table within matches firstMatch sequence scan validPrefix rowsView rowsWorld rows.indexOf objectName cloneableName serializableName isRecorded parentsOf setOf put insertSorted elem lastDeclared numberOf bit at member insert members first insertAll withParents grow level reached reach steps distance ancestor allRecorded complete relation common below anyBelow lowest nearer nearest numbers candidates supertype compareNumbers compareLists compare categories sameType hasAll unknownAccepts inEither unknownUnion primitiveAssignable assignableApart isAssignable narrow underDouble joinPrimitive joinKnown joinApart join joinFrom joinAll
+unfolding ascii letterOf indexOf nameRead readName readType finish readWhole readParams returns afterParams readMethod table within matches firstMatch sequence scan validPrefix rowsView rowsWorld rows.placeOf objectName cloneableName serializableName isRecorded listedParents setOf put insertSorted elem lastDeclared numberOf bit at member insert members first insertAll withParents grow level reached reach steps distance ancestor allRecorded complete relation common below anyBelow lowest nearer nearest numbers candidates supertype compareNumbers compareLists compare categories sameType hasAll unknownAccepts inEither unknownUnion primitiveAssignable assignableApart isAssignable narrow underDouble joinPrimitive joinKnown joinApart join joinFrom joinAll
 examples-hold = (refl, (refl, (refl, (refl, (refl, (refl, (refl, (refl, (refl, (refl, tt))))))))))

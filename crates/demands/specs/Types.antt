@@ -20,7 +20,7 @@ use Rattle.lattice.specs.References.{assignable-self, assignable-arrays}
 use Rattle.lattice.specs.Legality.{legal-base}
 use Rattle.rows.specs.Rows.{cloneableName, serializableName}
 use Rattle.columns.specs.Given.{Given}
-use Rattle.tableview.specs.TableRows.{Rows, indexOf, rowsView, rowsWorld, rowsIn}
+use Rattle.tableview.specs.TableRows.{Rows, placeOf, rowsView, rowsWorld, rowsIn}
 use Rattle.tableview.specs.Paths.{IsObject}
 use Rattle.tableview.specs.Answers.{Ancestor, Whole, LeastCommon, join-rows-legal, join-rows-above, join-rows-classes, assignable-rows-classes, assignable-rows-array}
 use Rattle.questions.specs.declared.Question.the-variants.{Join, Assignable}
@@ -53,7 +53,7 @@ pub record AssignableSays (t : Rows) (value expected n : ℕ) : Type 0 where
   pub self : typeOf value ≡ typeOf expected → n ≡ 1
   pub classes : (c d : ℕ) → typeOf value ≡ Object c → typeOf expected ≡ Object d → (n ≡ 0) ↔ ((Ancestor t c d → ⊥) × Whole t c)
   pub array-class : (u : ArgType) (c : ℕ) → typeOf value ≡ Array u → typeOf expected ≡ Object c
-      → (n ≡ 1) ↔ (IsObject t c ⊎ ((indexOf cloneableName (t .names) ≡ some c) ⊎ (indexOf serializableName (t .names) ≡ some c)))
+      → (n ≡ 1) ↔ (IsObject t c ⊎ ((placeOf cloneableName (t .names) ≡ some c) ⊎ (placeOf serializableName (t .names) ≡ some c)))
   pub arrays : (u v : ArgType) → typeOf value ≡ Array u → typeOf expected ≡ Array v → isPrimitive u ≡ false → isPrimitive v ≡ false
       → (n ≡ 1) ↔ (isAssignable (rowsWorld t) u v ≡ true)
 

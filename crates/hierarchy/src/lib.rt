@@ -13,6 +13,9 @@ ghost use Rattle.view.specs.View.{insertAll, withParents, reached, reach, ances
 ghost use Rattle.tables.specs.Table.{namesRoom, marksRoom, mark, viewOf};
 ghost use Rattle.hierarchy.specs.Walked.{castMarked, Walked};
 
+// usize::MAX / 4, the distance of an Object that is not reached.
+const FAR: u64 = 4611686018427387903;
+
 // The set with p, where p is a class.
 fn with_class(s: Set, names: u64, p: u64) -> Set
     ensures { λ r. ⌜ r .words ≡ cond (ltb p names) (insert (s .words) p) (s .words) ⌝ }
@@ -45,7 +48,7 @@ fn expand(pairs: &[u64], marks: &[u64], t: Tables, s: Set, front: Set) -> Set
     let mut all = s;
     let mut left = front;
     let mut c = left.lowest();
-    while c < 1024 {
+    while c < NAMES {
         all = with_parents(pairs, marks, t, c, all);
         left = left.without(c);
         c = left.lowest();
@@ -78,7 +81,7 @@ fn walk_to(pairs: &[u64], marks: &[u64], t: Tables, x: u64, y: u64) -> Walk
         }
         let next = expand(pairs, marks, t, seen, front);
         front = next.difference(seen);
-        if front.lowest() == 1024 {
+        if front.lowest() == NAMES {
             return Walk {
                 found: false,
                 level: k,
@@ -100,7 +103,7 @@ fn walk_to(pairs: &[u64], marks: &[u64], t: Tables, x: u64, y: u64) -> Walk
 pub fn reached(pairs: &[u64], marks: &[u64], t: Tables, x: u64) -> Set
     ensures { λ r. ⌜ r .words ≡ reached (viewOf (now (pairs .entry)) (now (marks .entry)) t) x ⌝ }
 {
-    let w = walk_to(pairs, marks, t, x, 1024);
+    let w = walk_to(pairs, marks, t, x, NAMES);
     w.seen
 }
 
@@ -129,9 +132,9 @@ pub fn distance(pairs: &[u64], marks: &[u64], t: Tables, value: u64, expected: u
         return w.level;
     }
     if expected == t.object {
-        return 4611686018427387903;
+        return FAR;
     }
-    18446744073709551615
+    u64::MAX
 }
 
 // The distance; far where there is none.
@@ -143,7 +146,7 @@ pub fn distance_or_far(pairs: &[u64], marks: &[u64], t: Tables, x: u64, y: u64) 
     if w.found {
         return w.level;
     }
-    4611686018427387903
+    FAR
 }
 
 // Whether `expected` is an ancestor: recorded_ancestor.
@@ -165,7 +168,7 @@ fn is_marked(marks: &[u64], k: u64, c: u64) -> bool
     requires { ⌜ (length (now marks) ≡ marksRoom) × (k < 4) ⌝ }
     ensures { λ r. ⌜ r ≡ member (mark (now (marks .entry)) k) c ⌝ }
 {
-    if c < 1024 {
+    if c < NAMES {
         let i = (16 * k + c / 64) as usize;
         let w = marks[i];
         return (w >> (c % 64)) % 2 == 1;
@@ -208,7 +211,7 @@ pub fn subtype_relation(
     }
     let seen = w.seen;
     let unrecorded = seen.difference(recorded(marks));
-    if unrecorded.lowest() == 1024 {
+    if unrecorded.lowest() == NAMES {
         return Relation::No;
     }
     Relation::Unknown

@@ -5,8 +5,7 @@ use mathlib.Core.Bool.{Bool, true, false, _&&_}
 use mathlib.Core.List.{List, [], _∷_}
 use Prim.Native.Nat.{ℕ, _+_, _*_, _/_, _%_, _^_, _≤_, _<_}
 use lib.ListN.{length, getD}
-use Rattle.order.specs.declared.Order.the-variants.{Less}
-use Rattle.ty.specs.Types.{ArgType, compare, isKnown, isArray}
+use Rattle.ty.specs.Types.{isKnown, isArray}
 use Rattle.ty.specs.Words.{legalWord, typeOf}
 use Rattle.tables.specs.declared.Tables.{Tables}
 use Rattle.tables.specs.Table.{namesRoom}
@@ -41,12 +40,3 @@ bothArrays left right = isArray (typeOf left) && isArray (typeOf right)
 -- every word of a list is a type over the names
 abbrev pub AllLegal : Tables → List ℕ → Type 0
 AllLegal t words = (i : ℕ) → i < length words → legalWord (t .names) (getD words i 0) ≡ true
-
--- types in their order, none twice: after t, and from the first on
-abbrev pub AscendFrom : ArgType → List ArgType → Type 0
-AscendFrom t [] = Unit {0}
-AscendFrom t (u ∷ us) = (compare t u ≡ Less) × AscendFrom u us
-
-abbrev pub Ascend : List ArgType → Type 0
-Ascend [] = Unit {0}
-Ascend (t ∷ ts) = AscendFrom t ts

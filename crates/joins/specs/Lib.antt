@@ -3,4 +3,3 @@ pub mod Joins
 pub mod Lists
 pub mod Cases
 pub mod Fold
-pub mod Sort

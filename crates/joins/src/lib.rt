@@ -18,7 +18,8 @@ ghost use Rattle.lattice.specs.JoinTable.{cell};
 ghost use Rattle.lattice.specs.JoinCases.{joinArrayOther};
 ghost use Rattle.lattice.specs.Unions.{kept};
 ghost use Rattle.lattice.specs.World.{worldOf};
-ghost use Rattle.joins.specs.Joins.{withFirst, Fits, Joinable, Apart, Known, Base, bothArrays, AllLegal, Ascend};
+ghost use Rattle.lattice.specs.JoinAll.{Ascend};
+ghost use Rattle.joins.specs.Joins.{withFirst, Fits, Joinable, Apart, Known, Base, bothArrays, AllLegal};
 
 // The joins of primitives, rows by the left category. Two equal ones join to themselves.
 const JOINS: [[u64; 11]; 11] = [

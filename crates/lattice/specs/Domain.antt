@@ -10,7 +10,7 @@ use borrow.Author.Tests.{eq-eqb}
 use Rattle.order.specs.Lists.{elem}
 use Rattle.ty.specs.Types.{ArgType, Primitive, Object, Array, Unknown, isPrimitive, isReference}
 use Rattle.lattice.specs.Lattice.{sameType, hasAll, unknownAccepts, sameRegisterCategory, observedAccepts, anyAccepts, domainAccepts}
-use Rattle.lattice.specs.References.{same-self}
+use Rattle.lattice.specs.Same.{same-refl}
 
 -- ---- one of a list
 
@@ -65,9 +65,9 @@ hasAll-self (c ∷ cs) = rw (eq-eqb c c refl, hasAll-more c cs cs (hasAll-self c
 -- every type accepts itself
 pub observed-self : (t : ArgType) → observedAccepts t t ≡ true
 unfolding observedAccepts unknownAccepts
-observed-self (Primitive k) = rw (same-self (Primitive k))
-observed-self (Object c) = rw (same-self (Object c))
-observed-self (Array t) = rw (same-self (Array t))
+observed-self (Primitive k) = rw (same-refl (Primitive k))
+observed-self (Object c) = rw (same-refl (Object c))
+observed-self (Array t) = rw (same-refl (Array t))
 observed-self (Unknown cs) = hasAll-self cs
 
 -- a reference every reference

@@ -1,4 +1,4 @@
--- RESULTS ARE LEGAL: what a join, a hint and the most specific upper bound give of legal types over a good view is a legal type,
+-- RESULTS ARE LEGAL: what a join, a hint and the most specific upper bound give of legal types over a lawful world is a legal type,
 -- with no more dimensions than the deepest of them. Cycles and parents of Object included.
 use mathlib.Core.Path.{_≡_, refl, sym, ap, _∙_, subst}
 use mathlib.Core.Bool.{Bool, true, false, cond, _||_, true≢false}

@@ -1,5 +1,5 @@
 -- WHAT ASSIGNABILITY SAYS of two references, and compatibility of any two types: classes by the relation, of which only No refuses;
--- arrays by their elements; an array to Object, Cloneable and Serializable alone. Assumes nothing of the view.
+-- arrays by their elements; an array to Object, Cloneable and Serializable alone. Assumes nothing but, where it says so, a lawful world.
 use mathlib.Core.Path.{_≡_, refl, sym, ap, ap₂, _∙_}
 use mathlib.Core.Bool.{Bool, true, false, _&&_, _||_, true≢false, false≢true, or-true}
 use mathlib.Core.Logic.{_⊎_, inl, inr, _↔_}
@@ -17,21 +17,12 @@ use Rattle.view.specs.declared.Relation.{Relation}
 use Rattle.view.specs.declared.Relation.the-variants.{Yes, No, Unknown as Incomplete}
 use Rattle.view.specs.Ancestors.{ancestor-self}
 use Rattle.lattice.specs.Lattice.{World, Lawful, sameType, isNumber, notNo, elementsAssignable, arrayParent, assignableApart, isAssignable, producerBoundCompatible}
+use Rattle.lattice.specs.Same.{same-refl, same-equal}
 
 -- ---- equality of types
 
-equal-only : (o : Order) → isEqual o ≡ true → o ≡ Equal
-equal-only Less h = absurd (false≢true h)
-equal-only Equal h = refl
-equal-only Greater h = absurd (false≢true h)
-
-pub same-self : (t : ArgType) → sameType t t ≡ true
-unfolding sameType
-same-self t = ap isEqual (compare-same t)
-
 pub same-exactly : (t u : ArgType) → (sameType t u ≡ true) ↔ (t ≡ u)
-unfolding sameType
-same-exactly t u = (λ h. compare-equal t u (equal-only (compare t u) h), λ e. ap (sameType t) (sym e) ∙ same-self t)
+same-exactly t u = (same-equal t u, λ e. ap (sameType t) (sym e) ∙ same-refl t)
 
 same-arrays : (t u : ArgType) → sameType (Array t) (Array u) ≡ sameType t u
 unfolding sameType compare
@@ -65,7 +56,7 @@ module _ (w : World) where
   -- REFLEXIVE
   pub assignable-self : (t : ArgType) → isAssignable w t t ≡ true
   unfolding isAssignable
-  assignable-self t = ap (λ (b : Bool). b || assignableApart w t t) (same-self t)
+  assignable-self t = ap (λ (b : Bool). b || assignableApart w t t) (same-refl t)
 
   -- ---- two classes: by the relation
 

@@ -21,7 +21,7 @@ use Rattle.columns.specs.Columns.{inside, placedName, nameRows, placedRecord, r
 use Rattle.columns.specs.Examples.{bytes}
 use Rattle.columns.specs.Given as columns
 use Rattle.columns.specs.Given.{Given, given, evenLengths, even}
-use Rattle.tableview.specs.TableRows.{isRecorded, parentsOf, setOf, lastDeclared, indexOf, rowsView, rowsWorld, namesOf, recordsOf, rowsIn}
+use Rattle.tableview.specs.TableRows.{isRecorded, listedParents, setOf, lastDeclared, placeOf, rowsView, rowsWorld, namesOf, recordsOf, rowsIn}
 use Rattle.questions.specs.declared.Question.{Question}
 use Rattle.questions.specs.declared.Question.the-variants.{Relation, Distance, Supertype, Cast, Join, Assignable}
 use Rattle.questions.specs.declared.Answer.{Answer}
@@ -104,5 +104,5 @@ examples =
 
 -- EVERY EXAMPLE HOLDS
 pub all-hold : All holds examples
-unfolding answerOf answered refusalOf tableChecks goodNumbers valueOf columns.table evenLengths even rowsView rowsWorld rowsIn namesOf recordsOf isRecorded parentsOf setOf lastDeclared indexOf allLegal legalWord legalBase goodUnknown goodDigits unpack typeOf arrays baseOf listOf wordOf pack compare categories sameType hasAll unknownAccepts inEither unknownUnion primitiveAssignable assignableApart isAssignable narrow underDouble joinPrimitive joinKnown joinApart join arrayParent joinArrayClass firstRefusal inside placedName nameRows placedRecord recordRows tableOf ascii objectName cloneableName serializableName noTables noted withName nameRow goodFlags allBelow putAll marked recordMarks recordChecks recordRefusal withRecord recordRow nameChecks checkName compareLists compareNumbers table within matches firstMatch sequence scan validPrefix wellFormed insert remove clear elem insertSorted put bit at member members sets.first insertAll withParents grow level reached reach steps distance numberOf ancestor allRecorded complete relation relationNumber castByFacts cast common below anyBelow lowest nearer nearest numbers candidates supertype
+unfolding answerOf answered refusalOf tableChecks goodNumbers valueOf columns.table evenLengths even rowsView rowsWorld rowsIn namesOf recordsOf isRecorded listedParents setOf lastDeclared placeOf allLegal legalWord legalBase goodUnknown goodDigits unpack typeOf arrays baseOf listOf wordOf pack compare categories sameType hasAll unknownAccepts inEither unknownUnion primitiveAssignable assignableApart isAssignable narrow underDouble joinPrimitive joinKnown joinApart join arrayParent joinArrayClass firstRefusal inside placedName nameRows placedRecord recordRows tableOf ascii objectName cloneableName serializableName noTables noted withName nameRow goodFlags allBelow putAll marked recordMarks recordChecks recordRefusal withRecord recordRow nameChecks checkName compareLists compareNumbers table within matches firstMatch sequence scan validPrefix wellFormed insert remove clear elem insertSorted put bit at member members sets.first insertAll withParents grow level reached reach steps distance numberOf ancestor allRecorded complete relation relationNumber castByFacts cast common below anyBelow lowest nearer nearest numbers candidates supertype
 all-hold = (refl, (refl, (refl, (refl, (refl, (refl, (refl, (refl, (refl, (refl, (refl, (refl, (refl, (refl, (refl, (refl, (refl, (refl, (refl, (refl, tt))))))))))))))))))))

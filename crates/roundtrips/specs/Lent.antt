@@ -18,7 +18,7 @@ use Rattle.ty.specs.Round.{legal-primitive, legal-object, legal-unknown, legal-
 use Rattle.checks.specs.Checks.{Check, check, firstRefusal}
 use Rattle.names.specs.Names.{nameAt, checkNames}
 use Rattle.names.specs.Table.{Checked, checked, accepted, sum, below}
-use Rattle.writer.specs.Print.{print, printAll, printWord, printWords, printMethodWords}
+use Rattle.writer.specs.Print.{print, printAll, printWord, printWords, printMethodWords, TypeWrote, MethodWrote}
 use Rattle.writer.specs.Print.{checkedTypeRefusal, typeRefusal, checkedMethodRefusal, methodRefusal, answer, output, Wrote}
 use Rattle.writer.specs.Steps.{printBase, classBytes, print-word, print-class, print-method, legal-inside, type-named, method-named}
 use Rattle.writer.specs.declared.Written.{Written}
@@ -50,14 +50,6 @@ Lent names ks w = tagOf w ≡ 1 → loadOf w < names → elem (loadOf w) ks ≡ 
 -- the same of each word
 abbrev pub AllLent : ℕ → List ℕ → List ℕ → Type 0
 AllLent names ks ws = (i : ℕ) → i < length ws → Lent names ks (getD ws i 0)
-
--- what `write_type` and `write_method` promise of their result and of the output
-abbrev pub TypeWrote : List ℕ → List ℕ → List ℕ → ℕ → List ℕ → List ℕ → Written → Type 0
-TypeWrote bytes ats lens w out out′ r = Wrote (typeRefusal bytes ats lens w (length out)) (printWord bytes ats lens w) out out′ r
-
-abbrev pub MethodWrote : List ℕ → List ℕ → List ℕ → List ℕ → ℕ → List ℕ → List ℕ → Written → Type 0
-MethodWrote bytes ats lens params result out out′ r =
-    Wrote (methodRefusal bytes ats lens params result (length out)) (printMethodWords bytes ats lens params result) out out′ r
 
 -- rising or not; a class by its place; a primitive, and a class without a name, as they are
 pub renumberings : (ascending 0 3 (0 ∷ 2 ∷ []) ≡ true)

@@ -36,7 +36,7 @@ use Rattle.columns.specs.Laws.{names-good}
 use Rattle.columns.specs.Names.{names-checked, names-counted, notedIn, names-noted, noted-none, noted-one}
 use Rattle.columns.specs.Given.{Given, even, noMarks, table}
 use Rattle.columns.specs.GivenLaws.{even-is, good-in}
-use Rattle.tableview.specs.TableRows.{Record, isRecorded, parentsOf, setOf, lastDeclared, factFrom, anyFlags, interfaceFlag, finalFlag, indexOf, rowsView, rowsWorld, namesOf, recordsOf, rowsIn}
+use Rattle.tableview.specs.TableRows.{Record, isRecorded, listedParents, setOf, lastDeclared, factFrom, anyFlags, interfaceFlag, finalFlag, placeOf, rowsView, rowsWorld, namesOf, recordsOf, rowsIn}
 use Rattle.tableview.specs.Inner.{viewIn, worldIn}
 use Rattle.tableview.specs.Taken.{After, records-after}
 
@@ -49,41 +49,41 @@ names-length bytes (at ∷ ats) [] e = absurd (omega arith)
 names-length bytes (at ∷ ats) (len ∷ lens) e = ap suc (names-length bytes ats lens (omega arith))
 
 -- the place of a wanted name: its bytes stand there; none: nowhere
-Placed : List ℕ → List ℕ → List ℕ → List ℕ → Option ℕ → Type 0
-Placed wanted bytes ats lens none = (i : ℕ) → i < length ats → nameAt bytes ats lens i ≡ wanted → ⊥
-Placed wanted bytes ats lens (some i) = (i < length ats) × (nameAt bytes ats lens i ≡ wanted)
+StandsAt : List ℕ → List ℕ → List ℕ → List ℕ → Option ℕ → Type 0
+StandsAt wanted bytes ats lens none = (i : ℕ) → i < length ats → nameAt bytes ats lens i ≡ wanted → ⊥
+StandsAt wanted bytes ats lens (some i) = (i < length ats) × (nameAt bytes ats lens i ≡ wanted)
 
 placed-next : (wanted bytes : List ℕ) (at len : ℕ) (ats lens : List ℕ) (o : Option ℕ) → (nameOf bytes at len ≡ wanted → ⊥)
-    → Placed wanted bytes ats lens o → Placed wanted bytes (at ∷ ats) (len ∷ lens) (next o)
-unfolding Placed
+    → StandsAt wanted bytes ats lens o → StandsAt wanted bytes (at ∷ ats) (len ∷ lens) (next o)
+unfolding StandsAt
 placed-next wanted bytes at len ats lens none n p = elim [ zero ↦ λ h e. n e | suc i ↦ λ h e. p i (omega arith) e ]
 placed-next wanted bytes at len ats lens (some i) n p = (omega (arith, p .0), p .1)
 
-index-placed : (wanted bytes ats lens : List ℕ) → length ats ≡ length lens → Placed wanted bytes ats lens (indexOf wanted (namesOf bytes ats lens))
-unfolding namesOf indexOf Placed
+index-placed : (wanted bytes ats lens : List ℕ) → length ats ≡ length lens → StandsAt wanted bytes ats lens (placeOf wanted (namesOf bytes ats lens))
+unfolding namesOf placeOf StandsAt
 index-placed wanted bytes [] lens e = λ i h. absurd (omega arith)
 index-placed wanted bytes (at ∷ ats) [] e = absurd (omega arith)
 index-placed wanted bytes (at ∷ ats) (len ∷ lens) e = go (compareLists (nameOf bytes at len) wanted) refl (index-placed wanted bytes ats lens (omega arith))
   where
-    go : (o : Order) → compareLists (nameOf bytes at len) wanted ≡ o → Placed wanted bytes ats lens (indexOf wanted (namesOf bytes ats lens))
-        → Placed wanted bytes (at ∷ ats) (len ∷ lens) (cond (isEqual o) (some 0) (next (indexOf wanted (namesOf bytes ats lens))))
+    go : (o : Order) → compareLists (nameOf bytes at len) wanted ≡ o → StandsAt wanted bytes ats lens (placeOf wanted (namesOf bytes ats lens))
+        → StandsAt wanted bytes (at ∷ ats) (len ∷ lens) (cond (isEqual o) (some 0) (next (placeOf wanted (namesOf bytes ats lens))))
     go Equal q p = (omega arith, lists-equal (nameOf bytes at len) wanted q)
-    go Less q p = placed-next wanted bytes at len ats lens (indexOf wanted (namesOf bytes ats lens)) (λ s. differ (sym q ∙ ap (λ (n : List ℕ). compareLists n wanted) s ∙ lists-same wanted)) p
+    go Less q p = placed-next wanted bytes at len ats lens (placeOf wanted (namesOf bytes ats lens)) (λ s. differ (sym q ∙ ap (λ (n : List ℕ). compareLists n wanted) s ∙ lists-same wanted)) p
       where
         differ : Less ≡ Equal → ⊥
         differ d = let z : _≡_ {A = ℕ} 0 1 = cc in omega arith
-    go Greater q p = placed-next wanted bytes at len ats lens (indexOf wanted (namesOf bytes ats lens)) (λ s. differ (sym q ∙ ap (λ (n : List ℕ). compareLists n wanted) s ∙ lists-same wanted)) p
+    go Greater q p = placed-next wanted bytes at len ats lens (placeOf wanted (namesOf bytes ats lens)) (λ s. differ (sym q ∙ ap (λ (n : List ℕ). compareLists n wanted) s ∙ lists-same wanted)) p
       where
         differ : Greater ≡ Equal → ⊥
         differ d = let z : _≡_ {A = ℕ} 0 1 = cc in omega arith
 
 module _ (wanted bytes ats lens : List ℕ) (e : length ats ≡ length lens) (z : nameRows bytes ats lens [] noTables .refusal ≡ 0) where
   -- what is noted of a wanted name is its place among the names
-  noted-index : notedIn wanted bytes ats lens 0 (2 ^ 64 - 1) ≡ numberOf (indexOf wanted (namesOf bytes ats lens))
-  unfolding numberOf Placed
-  noted-index = go (indexOf wanted (namesOf bytes ats lens)) (index-placed wanted bytes ats lens e)
+  noted-index : notedIn wanted bytes ats lens 0 (2 ^ 64 - 1) ≡ numberOf (placeOf wanted (namesOf bytes ats lens))
+  unfolding numberOf StandsAt
+  noted-index = go (placeOf wanted (namesOf bytes ats lens)) (index-placed wanted bytes ats lens e)
     where
-      go : (o : Option ℕ) → Placed wanted bytes ats lens o → notedIn wanted bytes ats lens 0 (2 ^ 64 - 1) ≡ numberOf o
+      go : (o : Option ℕ) → StandsAt wanted bytes ats lens o → notedIn wanted bytes ats lens 0 (2 ^ 64 - 1) ≡ numberOf o
       go none p = noted-none wanted bytes ats lens 0 (2 ^ 64 - 1) p
       go (some i) p =
           noted-one wanted bytes ats lens 0 (2 ^ 64 - 1) i e (p .0) (p .1)
@@ -251,19 +251,19 @@ module _ (g : Given) (e : even g ≡ true) (z : table g .refusal ≡ 0) where
       after .numbers .names ∙ names-counted (g .names) (g .«name_at») (g .«name_len») [] noTables columns-even (both-taken .0)
       ∙ (let k : 0 + length (g .«name_at») ≡ length (g .«name_at») = omega arith in k) ∙ sym (names-length (g .names) (g .«name_at») (g .«name_len») columns-even)
 
-  object-is : s .tables .object ≡ numberOf (indexOf objectName (namesOf (g .names) (g .«name_at») (g .«name_len»)))
+  object-is : s .tables .object ≡ numberOf (placeOf objectName (namesOf (g .names) (g .«name_at») (g .«name_len»)))
   unfolding s first named noTables
   object-is =
       after .numbers .object ∙ names-noted (g .names) (g .«name_at») (g .«name_len») [] noTables (both-taken .0) .0
       ∙ noted-index objectName (g .names) (g .«name_at») (g .«name_len») columns-even (both-taken .0)
 
-  pub cloneable-is : table g .state .tables .cloneable ≡ numberOf (indexOf cloneableName (namesOf (g .names) (g .«name_at») (g .«name_len»)))
+  pub cloneable-is : table g .state .tables .cloneable ≡ numberOf (placeOf cloneableName (namesOf (g .names) (g .«name_at») (g .«name_len»)))
   unfolding first named noTables
   cloneable-is =
       after .numbers .cloneable ∙ names-noted (g .names) (g .«name_at») (g .«name_len») [] noTables (both-taken .0) .1
       ∙ noted-index cloneableName (g .names) (g .«name_at») (g .«name_len») columns-even (both-taken .0)
 
-  pub serializable-is : table g .state .tables .serializable ≡ numberOf (indexOf serializableName (namesOf (g .names) (g .«name_at») (g .«name_len»)))
+  pub serializable-is : table g .state .tables .serializable ≡ numberOf (placeOf serializableName (namesOf (g .names) (g .«name_at») (g .«name_len»)))
   unfolding first named noTables
   serializable-is =
       after .numbers .serializable ∙ names-noted (g .names) (g .«name_at») (g .«name_len») [] noTables (both-taken .0) .2
@@ -305,35 +305,35 @@ module _ (g : Given) (e : even g ≡ true) (z : table g .refusal ≡ 0) where
   unfolding keys s
   keys-are = take-all (table g .state .tables .pairs) (table g .state .keys) (let n = good-in g .counted in omega arith)
 
-  parents-are : (c p : ℕ) → List·Memᴰ p (keyParents (s .tables .names) keys c) ↔ List·Memᴰ p (parentsOf c rs)
+  parents-are : (c p : ℕ) → List·Memᴰ p (keyParents (s .tables .names) keys c) ↔ List·Memᴰ p (listedParents c rs)
   unfolding s first named elem
   parents-are c p =
       rw keys-are (
         λ m. let b = parents-below (table g .state .tables .names) p (table g .state .keys) c m in
             let k = entry (b .1) .0 m in
-            elem-member p (parentsOf c rs) (sym (or-false (elem p (parentsOf c rs))) ∙ sym (after-pairs (b .1)) ∙ k),
-        λ m. let h = member-elem p (parentsOf c rs) m in
+            elem-member p (listedParents c rs) (sym (or-false (elem p (listedParents c rs))) ∙ sym (after-pairs (b .1)) ∙ k),
+        λ m. let h = member-elem p (listedParents c rs) m in
             let b = small h in
-            entry b .1 (after-pairs b ∙ or-false (elem p (parentsOf c rs)) ∙ h),
+            entry b .1 (after-pairs b ∙ or-false (elem p (listedParents c rs)) ∙ h),
       )
     where
       entry : p < 1024 → List·Memᴰ p (keyParents (table g .state .tables .names) (table g .state .keys) c) ↔ (elem (c * 1024 + p) (table g .state .keys) ≡ true)
       entry h = parents-entry (table g .state .tables .names) p (table g .state .keys) c (good-in g .ordered) h (λ y m. good-in g .classes y m .1)
 
-      after-pairs : p < 1024 → elem (key c p) (table g .state .keys) ≡ (elem p (parentsOf c rs) || false)
+      after-pairs : p < 1024 → elem (key c p) (table g .state .keys) ≡ (elem p (listedParents c rs) || false)
       after-pairs h = after .pairs c p h
 
-      small : elem p (parentsOf c rs) ≡ true → p < 1024
+      small : elem p (listedParents c rs) ≡ true → p < 1024
       small h = let x = after .parent-in c p h .1 in let y = good-first .few in omega arith
 
-  parents-set : (c : ℕ) → keyParents (s .tables .names) keys c ≡ setOf (parentsOf c rs)
+  parents-set : (c : ℕ) → keyParents (s .tables .names) keys c ≡ setOf (listedParents c rs)
   unfolding s keys
   parents-set c =
-      same-members (keyParents (table g .state .tables .names) keys c) (setOf (parentsOf c rs))
-      (parents-sorted (table g .state .tables .names) c keys (subst Sorted (sym keys-are) (good-in g .ordered))) (set-sorted (parentsOf c rs))
-      (λ z. implied-both (elem z (keyParents (table g .state .tables .names) keys c)) (elem z (setOf (parentsOf c rs)))
-      (λ h. elem-set z (parentsOf c rs) ∙ member-elem z (parentsOf c rs) (parents-are c z .0 (elem-member z (keyParents (table g .state .tables .names) keys c) h)))
-      (λ h. member-elem z (keyParents (table g .state .tables .names) keys c) (parents-are c z .1 (elem-member z (parentsOf c rs) (sym (elem-set z (parentsOf c rs)) ∙ h)))))
+      same-members (keyParents (table g .state .tables .names) keys c) (setOf (listedParents c rs))
+      (parents-sorted (table g .state .tables .names) c keys (subst Sorted (sym keys-are) (good-in g .ordered))) (set-sorted (listedParents c rs))
+      (λ z. implied-both (elem z (keyParents (table g .state .tables .names) keys c)) (elem z (setOf (listedParents c rs)))
+      (λ h. elem-set z (listedParents c rs) ∙ member-elem z (listedParents c rs) (parents-are c z .0 (elem-member z (keyParents (table g .state .tables .names) keys c) h)))
+      (λ h. member-elem z (keyParents (table g .state .tables .names) keys c) (parents-are c z .1 (elem-member z (listedParents c rs) (sym (elem-set z (listedParents c rs)) ∙ h)))))
 
   -- THE VIEW IN THE WORDS OF THE ROWS, of every table that is taken
   pub view-rows : viewIn g ≡ rowsView (rowsIn g)
@@ -349,7 +349,7 @@ module _ (g : Given) (e : even g ≡ true) (z : table g .refusal ≡ 0) where
   }
 
   -- and member by member, with the parents as the rows list them: y is a parent of c exactly if some row of c lists it
-  pub parents-listed : (c y : ℕ) → List·Memᴰ y (viewIn g .parents c) ↔ List·Memᴰ y (parentsOf c (rowsIn g .records))
+  pub parents-listed : (c y : ℕ) → List·Memᴰ y (viewIn g .parents c) ↔ List·Memᴰ y (listedParents c (rowsIn g .records))
   unfolding viewIn rowsIn s rs keys
   parents-listed c y = parents-are c y
 
@@ -360,10 +360,10 @@ module _ (g : Given) (e : even g ≡ true) (z : table g .refusal ≡ 0) where
       let k = good-first .few in
       omega arith
 
-  placed-small : (wanted : List ℕ) (i : ℕ) → indexOf wanted (namesOf (g .names) (g .«name_at») (g .«name_len»)) ≡ some i → i < 2 ^ 64 - 1
-  unfolding Placed
+  placed-small : (wanted : List ℕ) (i : ℕ) → placeOf wanted (namesOf (g .names) (g .«name_at») (g .«name_len»)) ≡ some i → i < 2 ^ 64 - 1
+  unfolding StandsAt
   placed-small wanted i q =
-      let p = subst (Placed wanted (g .names) (g .«name_at») (g .«name_len»)) q (index-placed wanted (g .names) (g .«name_at») (g .«name_len») columns-even) .0 in
+      let p = subst (StandsAt wanted (g .names) (g .«name_at») (g .«name_len»)) q (index-placed wanted (g .names) (g .«name_at») (g .«name_len») columns-even) .0 in
       let k = few-names in
       omega arith
 
@@ -371,6 +371,6 @@ module _ (g : Given) (e : even g ≡ true) (z : table g .refusal ≡ 0) where
   pub world-rows : worldIn g ≡ rowsWorld (rowsIn g)
   unfolding worldIn rowsWorld rowsIn viewIn
   world-rows =
-      let a = ap present cloneable-is ∙ present-number (indexOf cloneableName (namesOf (g .names) (g .«name_at») (g .«name_len»))) (placed-small cloneableName) in
-      let b = ap present serializable-is ∙ present-number (indexOf serializableName (namesOf (g .names) (g .«name_at») (g .«name_len»))) (placed-small serializableName) in
+      let a = ap present cloneable-is ∙ present-number (placeOf cloneableName (namesOf (g .names) (g .«name_at») (g .«name_len»))) (placed-small cloneableName) in
+      let b = ap present serializable-is ∙ present-number (placeOf serializableName (namesOf (g .names) (g .«name_at») (g .«name_len»))) (placed-small serializableName) in
       λ i. worldWith (view-rows i) (a i) (b i)

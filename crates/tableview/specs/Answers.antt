@@ -29,7 +29,7 @@ use Rattle.lattice.specs.References.{same-exactly, refused-exactly, array-class
 use Rattle.lattice.specs.Legality.{legal-base, join-legal}
 use Rattle.lattice.specs.Above.{join-above}
 use Rattle.rows.specs.Rows.{cloneableName, serializableName}
-use Rattle.tableview.specs.TableRows.{Record, Rows, isRecorded, lastDeclared, declares, later, factFrom, anyFlags, interfaceFlag, finalFlag, indexOf, rowsView, rowsWorld}
+use Rattle.tableview.specs.TableRows.{Record, Rows, isRecorded, lastDeclared, declares, later, factFrom, anyFlags, interfaceFlag, finalFlag, placeOf, rowsView, rowsWorld}
 use Rattle.tableview.specs.Paths.{Way, stay, IsObject, object-exactly, reached-exactly}
 
 -- ---- words
@@ -373,7 +373,7 @@ module _ (t : Rows) (g : Good (rowsView t)) where
   -- THE WORLD OF A GOOD TABLE KEEPS THE FOUR LAWS that all of the types' laws ask
   pub rows-lawful : Lawful (rowsWorld t)
   unfolding rowsWorld
-  rows-lawful = with-lawful (rowsView t) (indexOf cloneableName (t .names)) (indexOf serializableName (t .names)) g
+  rows-lawful = with-lawful (rowsView t) (placeOf cloneableName (t .names)) (placeOf serializableName (t .names)) g
 
   names-are : rowsWorld t .names ≡ length (t .names)
   unfolding rowsWorld rowsView
@@ -412,20 +412,20 @@ module _ (t : Rows) (g : Good (rowsView t)) where
 
   -- an array is assignable to a class exactly if the class is Object, Cloneable or Serializable
   pub assignable-rows-array : (u : ArgType) (c : ℕ)
-      → (isAssignable (rowsWorld t) (Array u) (Object c) ≡ true) ↔ (IsObject t c ⊎ ((indexOf cloneableName (t .names) ≡ some c) ⊎ (indexOf serializableName (t .names) ≡ some c)))
+      → (isAssignable (rowsWorld t) (Array u) (Object c) ≡ true) ↔ (IsObject t c ⊎ ((placeOf cloneableName (t .names) ≡ some c) ⊎ (placeOf serializableName (t .names) ≡ some c)))
   unfolding rowsWorld arrayParent
   assignable-rows-array u c = (
-    λ e. to (eqb c (rowsView t .object)) refl (isNumber c (indexOf cloneableName (t .names))) refl (isNumber c (indexOf serializableName (t .names))) refl (sym (array-class (rowsWorld t) u c) ∙ e),
+    λ e. to (eqb c (rowsView t .object)) refl (isNumber c (placeOf cloneableName (t .names))) refl (isNumber c (placeOf serializableName (t .names))) refl (sym (array-class (rowsWorld t) u c) ∙ e),
     λ w. array-class (rowsWorld t) u c
         ∙ ⊎-elim (λ o. rw (eq-eqb c (rowsView t .object) (object-exactly t g c .1 o)))
         (λ y.
-        ⊎-elim (λ k. rw (number-is c (indexOf cloneableName (t .names)) .1 k, or-true (eqb c (rowsView t .object))))
-        (λ k. rw (number-is c (indexOf serializableName (t .names)) .1 k, or-true (isNumber c (indexOf cloneableName (t .names))), or-true (eqb c (rowsView t .object)))) y) w,
+        ⊎-elim (λ k. rw (number-is c (placeOf cloneableName (t .names)) .1 k, or-true (eqb c (rowsView t .object))))
+        (λ k. rw (number-is c (placeOf serializableName (t .names)) .1 k, or-true (isNumber c (placeOf cloneableName (t .names))), or-true (eqb c (rowsView t .object)))) y) w,
   )
     where
-      to : (a : Bool) → eqb c (rowsView t .object) ≡ a → (b : Bool) → isNumber c (indexOf cloneableName (t .names)) ≡ b → (d : Bool) → isNumber c (indexOf serializableName (t .names)) ≡ d
-          → (a || (b || d)) ≡ true → IsObject t c ⊎ ((indexOf cloneableName (t .names) ≡ some c) ⊎ (indexOf serializableName (t .names) ≡ some c))
+      to : (a : Bool) → eqb c (rowsView t .object) ≡ a → (b : Bool) → isNumber c (placeOf cloneableName (t .names)) ≡ b → (d : Bool) → isNumber c (placeOf serializableName (t .names)) ≡ d
+          → (a || (b || d)) ≡ true → IsObject t c ⊎ ((placeOf cloneableName (t .names) ≡ some c) ⊎ (placeOf serializableName (t .names) ≡ some c))
       to true p b q d r e = inl (object-exactly t g c .0 (eqb-true c (rowsView t .object) p))
-      to false p true q d r e = inr (inl (number-is c (indexOf cloneableName (t .names)) .0 q))
-      to false p false q true r e = inr (inr (number-is c (indexOf serializableName (t .names)) .0 r))
+      to false p true q d r e = inr (inl (number-is c (placeOf cloneableName (t .names)) .0 q))
+      to false p false q true r e = inr (inr (number-is c (placeOf serializableName (t .names)) .0 r))
       to false p false q false r e = absurd (false≢true e)

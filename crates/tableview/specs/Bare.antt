@@ -11,16 +11,16 @@ use Rattle.view.specs.Reach.{Good}
 use Rattle.view.specs.Loops.{subtypeRelation}
 use Rattle.view.specs.Search.{computed-relation, computed-relation-ends}
 use Rattle.view.specs.declared.Relation.{Relation}
-use Rattle.tableview.specs.TableRows.{Record, Rows, isRecorded, parentsOf, setOf, rowsView}
+use Rattle.tableview.specs.TableRows.{Record, Rows, isRecorded, listedParents, setOf, rowsView}
 
 -- no row of it lists a parent where none is of it
-parents-none : (c : ℕ) (rs : List Record) → isRecorded c rs ≡ false → parentsOf c rs ≡ []
-unfolding isRecorded parentsOf
+parents-none : (c : ℕ) (rs : List Record) → isRecorded c rs ≡ false → listedParents c rs ≡ []
+unfolding isRecorded listedParents
 parents-none c [] h = refl
 parents-none c (r ∷ rs) h = go (eqb (r .class) c) h (parents-none c rs)
   where
-    go : (b : Bool) → (b || isRecorded c rs) ≡ false → (isRecorded c rs ≡ false → parentsOf c rs ≡ [])
-        → cond b (r .parents ++ parentsOf c rs) (parentsOf c rs) ≡ []
+    go : (b : Bool) → (b || isRecorded c rs) ≡ false → (isRecorded c rs ≡ false → listedParents c rs ≡ [])
+        → cond b (r .parents ++ listedParents c rs) (listedParents c rs) ≡ []
     go true e ih = absurd (true≢false e)
     go false e ih = ih e
 

@@ -36,7 +36,7 @@ use Rattle.columns.specs.Laws.{inside-is, record-inside, record-outside, names-
 use Rattle.columns.specs.Names.{inside-length, names-agree, names-checked, names-counted}
 use Rattle.columns.specs.Given.{Given, even, evenLengths, noMarks, table}
 use Rattle.columns.specs.GivenLaws.{even-is}
-use Rattle.tableview.specs.TableRows.{Record, Rows, setOf, indexOf, rowsView, namesOf, recordsOf, rowsIn}
+use Rattle.tableview.specs.TableRows.{Record, Rows, setOf, placeOf, rowsView, namesOf, recordsOf, rowsIn}
 use Rattle.tableview.specs.Taken.{elem-below, placed-taken}
 use Rattle.tableview.specs.Agrees.{names-length, member-elem, elem-set, set-sorted}
 use Rattle.tableview.specs.Canonical.{joined}
@@ -560,21 +560,21 @@ module _ (g : Given) (aligned : Aligned g) where
 
 -- ---- Object
 
-index-next : (wanted : List ℕ) (ns : List (List ℕ)) (i : ℕ) → next (indexOf wanted ns) ≡ some i → (j : ℕ) × (indexOf wanted ns ≡ some j) × (i ≡ suc j)
-index-next wanted ns i e = go (indexOf wanted ns) refl e
+index-next : (wanted : List ℕ) (ns : List (List ℕ)) (i : ℕ) → next (placeOf wanted ns) ≡ some i → (j : ℕ) × (placeOf wanted ns ≡ some j) × (i ≡ suc j)
+index-next wanted ns i e = go (placeOf wanted ns) refl e
   where
-    go : (o : Option ℕ) → indexOf wanted ns ≡ o → next o ≡ some i → (j : ℕ) × (indexOf wanted ns ≡ some j) × (i ≡ suc j)
+    go : (o : Option ℕ) → placeOf wanted ns ≡ o → next o ≡ some i → (j : ℕ) × (placeOf wanted ns ≡ some j) × (i ≡ suc j)
     go none q f = absurd (let z : _≡_ {A = ℕ} 0 1 = cc in omega arith)
     go (some j) q f = (j, q, let k : i ≡ suc j = cc in k)
 
 -- the name at its place is the wanted one
-pub index-name : (wanted : List ℕ) (ns : List (List ℕ)) (i : ℕ) → indexOf wanted ns ≡ some i → (i < length ns) × (getD ns i [] ≡ wanted)
-unfolding indexOf
+pub index-name : (wanted : List ℕ) (ns : List (List ℕ)) (i : ℕ) → placeOf wanted ns ≡ some i → (i < length ns) × (getD ns i [] ≡ wanted)
+unfolding placeOf
 index-name wanted [] i e = absurd (let z : _≡_ {A = ℕ} 0 1 = cc in omega arith)
 index-name wanted (n ∷ ns) i e = go (compareLists n wanted) refl e (index-name wanted ns)
   where
-    go : (o : Order) → compareLists n wanted ≡ o → cond (isEqual o) (some 0) (next (indexOf wanted ns)) ≡ some i
-        → ((j : ℕ) → indexOf wanted ns ≡ some j → (j < length ns) × (getD ns j [] ≡ wanted)) → (i < suc (length ns)) × (getD (n ∷ ns) i [] ≡ wanted)
+    go : (o : Order) → compareLists n wanted ≡ o → cond (isEqual o) (some 0) (next (placeOf wanted ns)) ≡ some i
+        → ((j : ℕ) → placeOf wanted ns ≡ some j → (j < length ns) × (getD ns j [] ≡ wanted)) → (i < suc (length ns)) × (getD (n ∷ ns) i [] ≡ wanted)
     go Equal q f ih = let z : 0 ≡ i = cc in subst (λ (k : ℕ). (k < suc (length ns)) × (getD (n ∷ ns) k [] ≡ wanted)) z (omega arith, lists-equal n wanted q)
     go Less q f ih = let w = index-next wanted ns i f in subst (λ (k : ℕ). (k < suc (length ns)) × (getD (n ∷ ns) k [] ≡ wanted)) (sym (w .2)) (let r = ih (w .0) (w .1) in (omega (arith, r .0), r .1))
     go Greater q f ih = let w = index-next wanted ns i f in subst (λ (k : ℕ). (k < suc (length ns)) × (getD (n ∷ ns) k [] ≡ wanted)) (sym (w .2)) (let r = ih (w .0) (w .1) in (omega (arith, r .0), r .1))
@@ -584,23 +584,23 @@ get-member [] i h = absurd (omega arith)
 get-member (n ∷ ns) zero h = List·Memᴰ·head refl
 get-member (n ∷ ns) (suc i) h = List·Memᴰ·tail (get-member ns i (omega arith))
 
-index-has : (wanted : List ℕ) (ns : List (List ℕ)) → List·Memᴰ wanted ns → (i : ℕ) × (indexOf wanted ns ≡ some i)
-unfolding indexOf
+index-has : (wanted : List ℕ) (ns : List (List ℕ)) → List·Memᴰ wanted ns → (i : ℕ) × (placeOf wanted ns ≡ some i)
+unfolding placeOf
 index-has wanted [] m = absurd (List·Memᴰ·not-nil m)
 index-has wanted (n ∷ ns) m = go (compareLists n wanted) refl (List·Memᴰ·cases-cons m) (index-has wanted ns)
   where
-    later : (wanted ≡ n) ⊎ List·Memᴰ wanted ns → (compareLists n wanted ≡ Equal → ⊥) → (List·Memᴰ wanted ns → (i : ℕ) × (indexOf wanted ns ≡ some i)) → (i : ℕ) × (next (indexOf wanted ns) ≡ some i)
+    later : (wanted ≡ n) ⊎ List·Memᴰ wanted ns → (compareLists n wanted ≡ Equal → ⊥) → (List·Memᴰ wanted ns → (i : ℕ) × (placeOf wanted ns ≡ some i)) → (i : ℕ) × (next (placeOf wanted ns) ≡ some i)
     later (inl e) d ih = absurd (d (ap (compareLists n) e ∙ lists-same n))
     later (inr k) d ih = let w = ih k in (suc (w .0), ap next (w .1))
 
-    go : (o : Order) → compareLists n wanted ≡ o → (wanted ≡ n) ⊎ List·Memᴰ wanted ns → (List·Memᴰ wanted ns → (i : ℕ) × (indexOf wanted ns ≡ some i))
-        → (i : ℕ) × (cond (isEqual o) (some 0) (next (indexOf wanted ns)) ≡ some i)
+    go : (o : Order) → compareLists n wanted ≡ o → (wanted ≡ n) ⊎ List·Memᴰ wanted ns → (List·Memᴰ wanted ns → (i : ℕ) × (placeOf wanted ns ≡ some i))
+        → (i : ℕ) × (cond (isEqual o) (some 0) (next (placeOf wanted ns)) ≡ some i)
     go Equal q w ih = (0, refl)
     go Less q w ih = later w (λ e. let f : Less ≡ Equal = sym q ∙ e in let z : _≡_ {A = ℕ} 0 1 = cc in omega arith) ih
     go Greater q w ih = later w (λ e. let f : Greater ≡ Equal = sym q ∙ e in let z : _≡_ {A = ℕ} 0 1 = cc in omega arith) ih
 
 -- A NAME IS FOUND EXACTLY IF IT IS THERE
-pub index-exactly : (wanted : List ℕ) (ns : List (List ℕ)) → List·Memᴰ wanted ns ↔ ((i : ℕ) × (indexOf wanted ns ≡ some i))
+pub index-exactly : (wanted : List ℕ) (ns : List (List ℕ)) → List·Memᴰ wanted ns ↔ ((i : ℕ) × (placeOf wanted ns ≡ some i))
 index-exactly wanted ns =
     (index-has wanted ns, λ w. let r = index-name wanted ns (w .0) (w .1) in subst (λ (n : List ℕ). List·Memᴰ n ns) (r .1) (get-member ns (w .0) (r .0)))
 
@@ -626,7 +626,7 @@ module _ (t : Rows) (l : InLimits t) where
       go (no n) (no m) = omega arith
 
   -- THE NUMBER OF A NAME IS THE PLACE WHERE IT STANDS
-  pub name-exactly : (wanted : List ℕ) (i : ℕ) → (indexOf wanted (t .names) ≡ some i) ↔ ((i < length (t .names)) × (getD (t .names) i [] ≡ wanted))
+  pub name-exactly : (wanted : List ℕ) (i : ℕ) → (placeOf wanted (t .names) ≡ some i) ↔ ((i < length (t .names)) × (getD (t .names) i [] ≡ wanted))
   name-exactly wanted i = (
     index-name wanted (t .names) i,
     λ w. let j = index-has wanted (t .names) (subst (λ (n : List ℕ). List·Memᴰ n (t .names)) (w .1) (get-member (t .names) i (w .0))) in
@@ -643,21 +643,21 @@ domain-good t d = record {
   parents-in = λ c p h m. let w = parents-exactly t c p .0 m in d .limits .rows-good (w .0) (w .1) .parents-in p (w .3);
 }
   where
-    bound : (i : ℕ) → numberOf (indexOf objectName (t .names)) ≡ numberOf (some i) → i < length (t .names) → numberOf (indexOf objectName (t .names)) < length (t .names)
+    bound : (i : ℕ) → numberOf (placeOf objectName (t .names)) ≡ numberOf (some i) → i < length (t .names) → numberOf (placeOf objectName (t .names)) < length (t .names)
     bound i e l = omega arith
 
 -- OBJECT'S NUMBER IS NOT ALL ONES EXACTLY IF ITS NAME IS THERE
 pub object-there : (t : Rows) → length (t .names) ≤ 1024 → (rowsView t .object ≡ 2 ^ 64 - 1 → ⊥) ↔ List·Memᴰ objectName (t .names)
 unfolding rowsView numberOf
-object-there t few = (λ n. to (indexOf objectName (t .names)) refl n, from)
+object-there t few = (λ n. to (placeOf objectName (t .names)) refl n, from)
   where
-    to : (o : Option ℕ) → indexOf objectName (t .names) ≡ o → (numberOf (indexOf objectName (t .names)) ≡ 2 ^ 64 - 1 → ⊥) → List·Memᴰ objectName (t .names)
+    to : (o : Option ℕ) → placeOf objectName (t .names) ≡ o → (numberOf (placeOf objectName (t .names)) ≡ 2 ^ 64 - 1 → ⊥) → List·Memᴰ objectName (t .names)
     to none q n = absurd (n (ap numberOf q))
     to (some i) q n = index-exactly objectName (t .names) .1 (i, q)
 
-    from : List·Memᴰ objectName (t .names) → numberOf (indexOf objectName (t .names)) ≡ 2 ^ 64 - 1 → ⊥
+    from : List·Memᴰ objectName (t .names) → numberOf (placeOf objectName (t .names)) ≡ 2 ^ 64 - 1 → ⊥
     from m f =
         let w = index-exactly objectName (t .names) .0 m in
         let r = index-name objectName (t .names) (w .0) (w .1) .0 in
-        let k : numberOf (indexOf objectName (t .names)) ≡ w .0 = ap numberOf (w .1) in
+        let k : numberOf (placeOf objectName (t .names)) ≡ w .0 = ap numberOf (w .1) in
         omega arith

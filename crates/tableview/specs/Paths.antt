@@ -15,7 +15,7 @@ use Rattle.view.specs.View.{numberOf, reach, steps, far, distance}
 use Rattle.view.specs.Reach.{Good, Path, here, there, reach-exactly, steps-path, steps-least, steps-exactly, steps-below}
 use Rattle.view.specs.Ancestors.{distance-reached, distance-object}
 use Rattle.rows.specs.Rows.{objectName}
-use Rattle.tableview.specs.TableRows.{Record, Rows, parentsOf, setOf, indexOf, rowsView}
+use Rattle.tableview.specs.TableRows.{Record, Rows, listedParents, setOf, placeOf, rowsView}
 use Rattle.tableview.specs.Agrees.{elem-member, member-elem, elem-set}
 
 -- ---- a step
@@ -42,20 +42,20 @@ pub record Shortest (t : Rows) (n x y : ℕ) : Type 0 where
 
 -- ---- the parents of the view are those that rows list
 
-listed-has : (c y : ℕ) (rs : List Record) → (r : Record) × List·Memᴰ r rs × (r .class ≡ c) × List·Memᴰ y (r .parents) → List·Memᴰ y (parentsOf c rs)
-unfolding parentsOf
+listed-has : (c y : ℕ) (rs : List Record) → (r : Record) × List·Memᴰ r rs × (r .class ≡ c) × List·Memᴰ y (r .parents) → List·Memᴰ y (listedParents c rs)
+unfolding listedParents
 listed-has c y [] w = absurd (List·Memᴰ·not-nil (w .1))
 listed-has c y (s ∷ rs) w = go (eqb (s .class) c) refl (List·Memᴰ·cases-cons (w .1)) (λ m. listed-has c y rs (w .0, m, w .2, w .3))
   where
-    go : (b : Bool) → eqb (s .class) c ≡ b → (w .0 ≡ s) ⊎ List·Memᴰ (w .0) rs → (List·Memᴰ (w .0) rs → List·Memᴰ y (parentsOf c rs))
-        → List·Memᴰ y (cond b (s .parents ++ parentsOf c rs) (parentsOf c rs))
-    go true e (inl q) ih = Memᴰ·append-left (parentsOf c rs) (subst (λ (r : Record). List·Memᴰ y (r .parents)) q (w .3))
+    go : (b : Bool) → eqb (s .class) c ≡ b → (w .0 ≡ s) ⊎ List·Memᴰ (w .0) rs → (List·Memᴰ (w .0) rs → List·Memᴰ y (listedParents c rs))
+        → List·Memᴰ y (cond b (s .parents ++ listedParents c rs) (listedParents c rs))
+    go true e (inl q) ih = Memᴰ·append-left (listedParents c rs) (subst (λ (r : Record). List·Memᴰ y (r .parents)) q (w .3))
     go true e (inr m) ih = Memᴰ·append-right (s .parents) (ih m)
     go false e (inl q) ih = absurd (eqb-false (s .class) c e (sym (ap (λ (r : Record). r .class) q) ∙ w .2))
     go false e (inr m) ih = ih m
 
-listed-only : (c y : ℕ) (rs : List Record) → List·Memᴰ y (parentsOf c rs) → (r : Record) × List·Memᴰ r rs × (r .class ≡ c) × List·Memᴰ y (r .parents)
-unfolding parentsOf
+listed-only : (c y : ℕ) (rs : List Record) → List·Memᴰ y (listedParents c rs) → (r : Record) × List·Memᴰ r rs × (r .class ≡ c) × List·Memᴰ y (r .parents)
+unfolding listedParents
 listed-only c y [] m = absurd (List·Memᴰ·not-nil m)
 listed-only c y (s ∷ rs) m = go (eqb (s .class) c) refl m (listed-only c y rs)
   where
@@ -65,8 +65,8 @@ listed-only c y (s ∷ rs) m = go (eqb (s .class) c) refl m (listed-only c y rs)
     further : (r : Record) × List·Memᴰ r rs × (r .class ≡ c) × List·Memᴰ y (r .parents) → Told
     further w = (w .0, List·Memᴰ·tail (w .1), w .2, w .3)
 
-    go : (b : Bool) → eqb (s .class) c ≡ b → List·Memᴰ y (cond b (s .parents ++ parentsOf c rs) (parentsOf c rs))
-        → (List·Memᴰ y (parentsOf c rs) → (r : Record) × List·Memᴰ r rs × (r .class ≡ c) × List·Memᴰ y (r .parents)) → Told
+    go : (b : Bool) → eqb (s .class) c ≡ b → List·Memᴰ y (cond b (s .parents ++ listedParents c rs) (listedParents c rs))
+        → (List·Memᴰ y (listedParents c rs) → (r : Record) × List·Memᴰ r rs × (r .class ≡ c) × List·Memᴰ y (r .parents)) → Told
     go true e k ih = ⊎-elim (λ p. (s, List·Memᴰ·head refl, eqb-true (s .class) c e, p)) (λ p. further (ih p)) (List·Memᴰ·append-cases (s .parents) k)
     go false e k ih = further (ih k)
 
@@ -75,8 +75,8 @@ module _ (t : Rows) where
   pub parents-exactly : (x y : ℕ) → List·Memᴰ y (rowsView t .parents x) ↔ Lists t x y
   unfolding rowsView
   parents-exactly x y = (
-    λ m. listed-only x y (t .records) (elem-member y (parentsOf x (t .records)) (sym (elem-set y (parentsOf x (t .records))) ∙ member-elem y (setOf (parentsOf x (t .records))) m)),
-    λ w. elem-member y (setOf (parentsOf x (t .records))) (elem-set y (parentsOf x (t .records)) ∙ member-elem y (parentsOf x (t .records)) (listed-has x y (t .records) w)),
+    λ m. listed-only x y (t .records) (elem-member y (listedParents x (t .records)) (sym (elem-set y (listedParents x (t .records))) ∙ member-elem y (setOf (listedParents x (t .records))) m)),
+    λ w. elem-member y (setOf (listedParents x (t .records))) (elem-set y (listedParents x (t .records)) ∙ member-elem y (listedParents x (t .records)) (listed-has x y (t .records) w)),
   )
 
   pub way-path : {n x y : ℕ} → Way t n x y → Path (rowsView t) x y n
@@ -91,14 +91,14 @@ module _ (t : Rows) where
 
 -- y is the place of the name java/lang/Object
 abbrev pub IsObject : Rows → ℕ → Type 0
-IsObject t y = indexOf objectName (t .names) ≡ some y
+IsObject t y = placeOf objectName (t .names) ≡ some y
 
 module _ (t : Rows) (g : Good (rowsView t)) where
   pub object-exactly : (y : ℕ) → (y ≡ rowsView t .object) ↔ IsObject t y
   unfolding rowsView numberOf
-  object-exactly y = (λ e. go (indexOf objectName (t .names)) refl e (g .few) (g .object-in), λ e. sym (ap numberOf e))
+  object-exactly y = (λ e. go (placeOf objectName (t .names)) refl e (g .few) (g .object-in), λ e. sym (ap numberOf e))
     where
-      go : (o : Option ℕ) → indexOf objectName (t .names) ≡ o → y ≡ numberOf o → length (t .names) ≤ 1024 → numberOf (indexOf objectName (t .names)) < length (t .names) → indexOf objectName (t .names) ≡ some y
+      go : (o : Option ℕ) → placeOf objectName (t .names) ≡ o → y ≡ numberOf o → length (t .names) ≤ 1024 → numberOf (placeOf objectName (t .names)) < length (t .names) → placeOf objectName (t .names) ≡ some y
       go none e q few l = absurd (let k = ap numberOf e in omega arith)
       go (some i) e q few l = e ∙ ap some (sym q)
 

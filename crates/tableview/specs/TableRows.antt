@@ -32,9 +32,9 @@ isRecorded c [] = false
 isRecorded c (r ∷ rs) = eqb (r .class) c || isRecorded c rs
 
 -- what its rows list
-unfoldable pub parentsOf : ℕ → List Record → List ℕ
-parentsOf c [] = []
-parentsOf c (r ∷ rs) = cond (eqb (r .class) c) (r .parents ++ parentsOf c rs) (parentsOf c rs)
+unfoldable pub listedParents : ℕ → List Record → List ℕ
+listedParents c [] = []
+listedParents c (r ∷ rs) = cond (eqb (r .class) c) (r .parents ++ listedParents c rs) (listedParents c rs)
 
 -- the same as a set: ascending, each once
 unfoldable pub setOf : List ℕ → List ℕ
@@ -71,25 +71,25 @@ finalFlag flags = eqb (flags / 4) 1
 -- ---- of a name
 
 -- the place of the first that has these bytes
-unfoldable pub indexOf : List ℕ → List (List ℕ) → Option ℕ
-indexOf wanted [] = none
-indexOf wanted (n ∷ ns) = cond (isEqual (compareLists n wanted)) (some 0) (next (indexOf wanted ns))
+unfoldable pub placeOf : List ℕ → List (List ℕ) → Option ℕ
+placeOf wanted [] = none
+placeOf wanted (n ∷ ns) = cond (isEqual (compareLists n wanted)) (some 0) (next (placeOf wanted ns))
 
 -- ---- THE VIEW AND THE WORLD OF A TABLE
 
 unfoldable pub rowsView : Rows → View
 rowsView t = record {
   names = length (t .names);
-  object = numberOf (indexOf objectName (t .names));
+  object = numberOf (placeOf objectName (t .names));
   recorded = λ c. isRecorded c (t .records);
-  parents = λ c. setOf (parentsOf c (t .records));
+  parents = λ c. setOf (listedParents c (t .records));
   declared = λ c. factFrom anyFlags (lastDeclared c (t .records)) false;
   interface = λ c. factFrom interfaceFlag (lastDeclared c (t .records)) false;
   final = λ c. factFrom finalFlag (lastDeclared c (t .records)) false;
 }
 
 unfoldable pub rowsWorld : Rows → World
-rowsWorld t = worldWith (rowsView t) (indexOf cloneableName (t .names)) (indexOf serializableName (t .names))
+rowsWorld t = worldWith (rowsView t) (placeOf cloneableName (t .names)) (placeOf serializableName (t .names))
 
 -- ---- the rows that columns give
 

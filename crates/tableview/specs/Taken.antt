@@ -18,7 +18,7 @@ use Rattle.rows.specs.Marks.{others-stay, undeclared-keeps, recorded-now, decla
 use Rattle.rows.specs.Laws.{Sound, GoodRecord, record-good, record-taken, good-record}
 use Rattle.columns.specs.Columns.{inside, placedRecord, recordRows}
 use Rattle.columns.specs.Laws.{record-inside, record-outside}
-use Rattle.tableview.specs.TableRows.{Record, isRecorded, parentsOf, declares, later, lastDeclared, factFrom, anyFlags, interfaceFlag, finalFlag, recordsOf}
+use Rattle.tableview.specs.TableRows.{Record, isRecorded, listedParents, declares, later, lastDeclared, factFrom, anyFlags, interfaceFlag, finalFlag, recordsOf}
 
 -- the numbers of a table are those of another, but for its pairs
 pub record SameNumbers (t u : Tables) : Type 0 where
@@ -31,14 +31,14 @@ pub record SameNumbers (t u : Tables) : Type 0 where
 -- what rows rs make of a state s
 pub record After (s : State) (rs : List Record) (u : State) : Type 0 where
   pub numbers : SameNumbers (u .tables) (s .tables)
-  pub pairs : (c p : ℕ) → p < 1024 → elem (key c p) (u .keys) ≡ (elem p (parentsOf c rs) || elem (key c p) (s .keys))
+  pub pairs : (c p : ℕ) → p < 1024 → elem (key c p) (u .keys) ≡ (elem p (listedParents c rs) || elem (key c p) (s .keys))
   pub recorded : (c : ℕ) → c < 1024 → isMarked 0 c (u .marks) ≡ (isRecorded c rs || isMarked 0 c (s .marks))
   pub declared : (c : ℕ) → c < 1024 → isMarked 1 c (u .marks) ≡ factFrom anyFlags (lastDeclared c rs) (isMarked 1 c (s .marks))
   pub interface : (c : ℕ) → c < 1024 → isMarked 2 c (u .marks) ≡ factFrom interfaceFlag (lastDeclared c rs) (isMarked 2 c (s .marks))
   pub final : (c : ℕ) → c < 1024 → isMarked 3 c (u .marks) ≡ factFrom finalFlag (lastDeclared c rs) (isMarked 3 c (s .marks))
   -- every row is of classes of the table
   pub class-in : (c : ℕ) → isRecorded c rs ≡ true → c < s .tables .names
-  pub parent-in : (c p : ℕ) → elem p (parentsOf c rs) ≡ true → (c < s .tables .names) × (p < s .tables .names)
+  pub parent-in : (c p : ℕ) → elem p (listedParents c rs) ≡ true → (c < s .tables .names) × (p < s .tables .names)
 
 -- ---- one record
 
@@ -127,12 +127,12 @@ module _ (s : State) (g : Sound s) (flags class : ℕ) (parents : List ℕ) (z :
   row : Record
   row = record { flags = flags; class = class; parents = parents }
 
-  parents-step : (c p : ℕ) → (t : Bool) → eqb class c ≡ t → elem p (cond t (parents ++ parentsOf c rs) (parentsOf c rs)) ≡ ((t && elem p parents) || elem p (parentsOf c rs))
-  parents-step c p true e = elem-append p parents (parentsOf c rs)
+  parents-step : (c p : ℕ) → (t : Bool) → eqb class c ≡ t → elem p (cond t (parents ++ listedParents c rs) (listedParents c rs)) ≡ ((t && elem p parents) || elem p (listedParents c rs))
+  parents-step c p true e = elem-append p parents (listedParents c rs)
   parents-step c p false e = refl
 
   after-one : After s (row ∷ rs) u
-  unfolding withRecord parentsOf isRecorded lastDeclared row
+  unfolding withRecord listedParents isRecorded lastDeclared row
   after-one = record {
     numbers = record {
       names = a .numbers .names;
@@ -143,10 +143,10 @@ module _ (s : State) (g : Sound s) (flags class : ℕ) (parents : List ℕ) (z :
     };
     pairs = λ c p h.
         a .pairs c p h
-        ∙ ap (λ (t : Bool). elem p (parentsOf c rs) || t) (all-has class (key c p) parents (s .keys))
-        ∙ ap (λ (t : Bool). elem p (parentsOf c rs) || (t || elem (key c p) (s .keys)))
+        ∙ ap (λ (t : Bool). elem p (listedParents c rs) || t) (all-has class (key c p) parents (s .keys))
+        ∙ ap (λ (t : Bool). elem p (listedParents c rs) || (t || elem (key c p) (s .keys)))
         (keys-of class c p parents h (λ i k. let x = good .parents-in i k in let y = g .few in omega arith))
-        ∙ or-assoc (elem p (parentsOf c rs)) (eqb class c && elem p parents) (elem (key c p) (s .keys))
+        ∙ or-assoc (elem p (listedParents c rs)) (eqb class c && elem p parents) (elem (key c p) (s .keys))
         ∙ ap (λ (t : Bool). t || elem (key c p) (s .keys)) (sym (parents-step c p (eqb class c) refl));
     recorded = λ c h.
         a .recorded c h
@@ -172,7 +172,7 @@ module _ (s : State) (g : Sound s) (flags class : ℕ) (parents : List ℕ) (z :
       class-go c true e h = let x = eqb-true class c e in let y = good .class-in in omega arith
       class-go c false e h = a .class-in c h
 
-      parent-go : (c p : ℕ) (t : Bool) → eqb class c ≡ t → (b : Bool) → elem p parents ≡ b → ((t && b) || elem p (parentsOf c rs)) ≡ true
+      parent-go : (c p : ℕ) (t : Bool) → eqb class c ≡ t → (b : Bool) → elem p parents ≡ b → ((t && b) || elem p (listedParents c rs)) ≡ true
           → (c < s .tables .names) × (p < s .tables .names)
       parent-go c p true e true m h = (let x = eqb-true class c e in let y = good .class-in in omega arith, elem-below (s .tables .names) p parents (good .parents-in) m)
       parent-go c p true e false m h = a .parent-in c p h
@@ -181,7 +181,7 @@ module _ (s : State) (g : Sound s) (flags class : ℕ) (parents : List ℕ) (z :
 -- ---- all records
 
 after-none : (s : State) → After s [] s
-unfolding parentsOf isRecorded lastDeclared elem
+unfolding listedParents isRecorded lastDeclared elem
 after-none s = record {
   numbers = record { names = refl; bytes = refl; object = refl; cloneable = refl; serializable = refl };
   pairs = λ c p h. refl;

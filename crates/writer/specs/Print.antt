@@ -93,3 +93,16 @@ output (suc k) printed out = out
 pub record Wrote (refusal : ℕ) (printed out out′ : List ℕ) (r : Written) : Type 0 where
   pub result : r ≡ answer refusal printed
   pub memory : out′ ≡ output refusal printed out
+
+-- what `write_type` and `write_method` promise of their result and of the output
+abbrev pub TypeWrote : List ℕ → List ℕ → List ℕ → ℕ → List ℕ → List ℕ → Written → Type 0
+TypeWrote bytes ats lens w out out′ r = Wrote (typeRefusal bytes ats lens w (length out)) (printWord bytes ats lens w) out out′ r
+
+abbrev pub MethodWrote : List ℕ → List ℕ → List ℕ → List ℕ → ℕ → List ℕ → List ℕ → Written → Type 0
+MethodWrote bytes ats lens params result out out′ r =
+    Wrote (methodRefusal bytes ats lens params result (length out)) (printMethodWords bytes ats lens params result) out out′ r
+
+-- and `write_method` once its names are checked
+abbrev pub CheckedMethodWrote : List ℕ → List ℕ → List ℕ → List ℕ → ℕ → List ℕ → List ℕ → Written → Type 0
+CheckedMethodWrote bytes ats lens params result out out′ r =
+    Wrote (checkedMethodRefusal bytes ats lens params result (length out)) (printMethodWords bytes ats lens params result) out out′ r

@@ -13,7 +13,7 @@ ghost use lib.Seq.{sets};
 ghost use Rattle.text.specs.Text.{byte};
 ghost use Rattle.ty.specs.Words.{legalBase, legalWord, allLegal};
 ghost use Rattle.names.specs.Table.{Checked};
-ghost use Rattle.writer.specs.Print.{letterByte, printWord, printWords, printMethodWords, Wrote, checkedTypeRefusal, typeRefusal, checkedMethodRefusal, methodRefusal};
+ghost use Rattle.writer.specs.Print.{letterByte, printWord, printWords, printMethodWords, Wrote, checkedTypeRefusal, typeRefusal, checkedMethodRefusal, methodRefusal, MethodWrote, CheckedMethodWrote};
 ghost use Rattle.writer.specs.Store.{Put};
 ghost use Rattle.writer.specs.Steps.{Short, classBytes, printBase, wordSize, wordsSize, methodSize};
 
@@ -228,7 +228,7 @@ fn write_checked_method(
     out: &mut [u8],
 ) -> Written
     requires { ⌜ Checked (now names) (now ats) (now lens) ⌝ }
-    ensures { λ r. ⌜ Wrote (checkedMethodRefusal (now (names .entry)) (now (ats .entry)) (now (lens .entry)) (now (params .entry)) result (length (now (out .entry)))) (printMethodWords (now (names .entry)) (now (ats .entry)) (now (lens .entry)) (now (params .entry)) result) (now (out .entry)) (now (out .exit)) r ⌝ }
+    ensures { λ r. ⌜ CheckedMethodWrote (now (names .entry)) (now (ats .entry)) (now (lens .entry)) (now (params .entry)) result (now (out .entry)) (now (out .exit)) r ⌝ }
 {
     if PARAMETERS < params.len() {
         return refused(ROOM);
@@ -272,7 +272,7 @@ pub fn write_method(
     result: u64,
     out: &mut [u8],
 ) -> Written
-    ensures { λ r. ⌜ Wrote (methodRefusal (now (names .entry)) (now (ats .entry)) (now (lens .entry)) (now (params .entry)) result (length (now (out .entry)))) (printMethodWords (now (names .entry)) (now (ats .entry)) (now (lens .entry)) (now (params .entry)) result) (now (out .entry)) (now (out .exit)) r ⌝ }
+    ensures { λ r. ⌜ MethodWrote (now (names .entry)) (now (ats .entry)) (now (lens .entry)) (now (params .entry)) result (now (out .entry)) (now (out .exit)) r ⌝ }
 {
     let refusal = check_names(names, ats, lens);
     if refusal != 0 {
