@@ -27,8 +27,9 @@ use Rattle.methods.specs.Answers.{foundMethod, refusedMethod, methodAnswer, met
 use Rattle.writer.specs.Print.{printWord, printMethodWords}
 use Rattle.rows.specs.Rows.{allBelow}
 use Rattle.columns.specs.Given.{Given, even, table}
-use Rattle.tableview.specs.TableRows.{rowsView, rowsIn}
-use Rattle.tableview.specs.Domain.{InDomain, Aligned, Placed, even-exactly, table-exactly, object-there}
+use Rattle.tableview.specs.TableRows.{Rows, rowsView, rowsIn}
+use Rattle.tableview.specs.Canonical.{columnsOf, rows-back}
+use Rattle.tableview.specs.Domain.{InDomain, Aligned, Placed, even-exactly, table-exactly, object-there, rows-aligned, rows-placed}
 use Rattle.questions.specs.Questions.{goodNumbers, tableChecks, refusalOf}
 use Rattle.questions.specs.Laws.{once, are-classes, are-types}
 use Rattle.questionlaws.specs.Accepted.{NumbersIn}
@@ -122,6 +123,17 @@ question-exactly g types a b room = (
           rows = record { limits = t .1; object-named = object-there (rowsIn g) (t .1 .few-names) .0 (eqb-false (rowsView (rowsIn g) .object) (2 ^ 64 - 1) eo) };
           numbers = numbers-good types (length (rowsIn g .names)) a b .0 ed;
         }
+
+-- so over any rows in the domain, written as columns, every question about classes and types of theirs is answered
+pub rows-asked : (t : Rows) → InDomain t → (types : Bool) (a b room : ℕ) → 8192 ≤ room → NumbersIn types (length (t .names)) a b → refusalOf (columnsOf t) types (a ∷ b ∷ []) room ≡ 0
+rows-asked t d types a b room h w =
+    question-exactly (columnsOf t) types a b room .1 (record {
+      room-there = h;
+      aligned = rows-aligned t;
+      placed = rows-placed t;
+      rows = subst InDomain (sym (rows-back t)) d;
+      numbers = subst (λ (u : Rows). NumbersIn types (length (u .names)) a b) (sym (rows-back t)) w;
+    })
 
 -- the ancestors of a class as a class against itself
 one-as-two : (g : Given) (c room : ℕ) → refusalOf g false (c ∷ []) room ≡ refusalOf g false (c ∷ c ∷ []) room

@@ -39,7 +39,7 @@ use Rattle.columns.specs.GivenLaws.{even-is}
 use Rattle.tableview.specs.TableRows.{Record, Rows, setOf, placeOf, rowsView, namesOf, recordsOf, rowsIn}
 use Rattle.tableview.specs.Taken.{elem-below, placed-taken}
 use Rattle.tableview.specs.Agrees.{names-length, member-elem, elem-set, set-sorted}
-use Rattle.tableview.specs.Canonical.{joined}
+use Rattle.tableview.specs.Canonical.{joined, placesFrom, sizesOf, parentLists, columnsOf, columns-even, rows-back}
 use Rattle.tableview.specs.Paths.{parents-exactly}
 
 -- ---- THE DOMAIN
@@ -661,3 +661,26 @@ object-there t few = (λ n. to (placeOf objectName (t .names)) refl n, from)
         let r = index-name objectName (t .names) (w .0) (w .1) .0 in
         let k : numberOf (placeOf objectName (t .names)) ≡ w .0 = ap numberOf (w .1) in
         omega arith
+
+-- ---- plain rows as columns
+
+places-in : (n : ℕ) (xs : List (List ℕ)) (i : ℕ) → i < length (placesFrom n xs) → getD (placesFrom n xs) i 0 + getD (sizesOf xs) i 0 ≤ n + length (joined xs)
+unfolding placesFrom sizesOf joined
+places-in n [] i h = absurd (omega arith)
+places-in n (x ∷ xs) zero h = let a = length-append x (joined xs) in omega arith
+places-in n (x ∷ xs) (suc i) h = let a = length-append x (joined xs) in let k = places-in (n + length x) xs i (omega arith) in omega arith
+
+module _ (t : Rows) where
+  pub rows-aligned : Aligned (columnsOf t)
+  rows-aligned = even-exactly (columnsOf t) .0 (columns-even t)
+
+  pub rows-placed : Placed (columnsOf t)
+  unfolding columnsOf
+  rows-placed = record {
+    names-in = λ i h. let k = places-in 0 (t .names) i h in omega arith;
+    parents-in = λ i h. let e = rows-aligned .starts-as in let k = places-in 0 (parentLists (t .records)) i (omega arith) in omega arith;
+  }
+
+  -- EVERY TABLE WITHIN THE LIMITS, WRITTEN AS COLUMNS, IS TAKEN
+  pub rows-taken : InLimits t → table (columnsOf t) .refusal ≡ 0
+  rows-taken l = table-exactly (columnsOf t) rows-aligned .1 (rows-placed, subst InLimits (sym (rows-back t)) l)
