@@ -25,6 +25,7 @@ use Rattle.lattice.specs.Lattice.{sameType, hasAll, unknownAccepts, inEither, u
 use Rattle.rows.specs.Rows.{objectName, cloneableName, serializableName}
 use Rattle.tableview.specs.TableRows.{Record, Rows, isRecorded, parentsOf, setOf, lastDeclared, rowsView, rowsWorld}
 use Rattle.tableview.specs.TableRows as rows
+use Rattle.questionlaws.specs.Examples.{All}
 
 -- ---- the paper's table: lines 1 to 8 of its frames
 
@@ -63,10 +64,6 @@ Holds (Common t left right c) = supertype (rowsView t) left right ≡ some c
 Holds (Joins t left right u) = join (rowsWorld t) left right ≡ u
 Holds (JoinsAll t list u) = joinAll (rowsWorld t) list ≡ some u
 Holds (Assigns t value expected b) = isAssignable (rowsWorld t) value expected ≡ b
-
-abbrev pub All : {A : Type 0} → (A → Type 0) → List A → Type 0
-All P [] = Unit {0}
-All P (x ∷ xs) = P x × All P xs
 
 -- ---- the list
 

@@ -69,7 +69,8 @@ refused g q a b room k = record { table = g; asked = q; a = a; b = b; room = roo
 abbrev pub holds : Example → Type 0
 holds e = answerOf (e .table) (e .asked) (e .a) (e .b) (e .room) ≡ e .answer
 
-abbrev pub All : (Example → Type 0) → List Example → Type 0
+-- each of a list
+abbrev pub All : {A : Type 0} → (A → Type 0) → List A → Type 0
 All P [] = Unit {0}
 All P (e ∷ es) = P e × All P es
 

@@ -13,12 +13,17 @@ use Rattle.tables.specs.Table.{marksRoom, viewOf}
 use Rattle.lattice.specs.World.{worldOf}
 use Rattle.joins.specs.Joins.{Fits}
 use Rattle.rows.specs.declared.Outcome.{Outcome}
-use Rattle.columns.specs.Given.{Given}
+use Rattle.rows.specs.Rows.{Fills}
+use Rattle.columns.specs.Given.{Given, checkedTable}
 use Rattle.tableview.specs.TableRows.{rowsView, rowsWorld, rowsIn}
 use Rattle.questions.specs.declared.Question.{Question}
 use Rattle.questions.specs.declared.Answer.{Answer}
 use Rattle.questions.specs.declared.Ancestors.{Ancestors}
 use Rattle.questions.specs.Questions.{ofTypes, goodNumbers, tableChecks, valueOf, answered, gathered}
+
+-- what the table of the columns leaves in two slices
+abbrev pub Builds : Given → List ℕ → List ℕ → List ℕ → Outcome → Type 0
+Builds g pairs pairs′ marks′ r = Fills (checkedTable g) pairs pairs′ marks′ r
 
 -- the checks after the rows: their own, the numbers', that of Object
 unfoldable pub ranChecks : ℕ → Tables → Bool → List ℕ → List Check

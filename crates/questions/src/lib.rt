@@ -18,10 +18,10 @@ ghost use Rattle.view.specs.View.{relationNumber};
 ghost use Rattle.tables.specs.Table.{pairsRoom, marksRoom, viewOf};
 ghost use Rattle.lattice.specs.World.{worldOf};
 ghost use Rattle.joins.specs.Joins.{Fits};
-ghost use Rattle.rows.specs.Rows.{noTables, allBelow, Fills};
-ghost use Rattle.columns.specs.Given.{given, evenLengths, noMarks, checkedTable};
+ghost use Rattle.rows.specs.Rows.{noTables, allBelow};
+ghost use Rattle.columns.specs.Given.{given, evenLengths, noMarks};
 ghost use Rattle.questions.specs.Questions.{ofTypes, goodNumbers, valueOf, gathered, Asked, Gathers};
-ghost use Rattle.questions.specs.Inside.{ranChecks, tableAnswer, tableAncestors, noAncestors, Opens};
+ghost use Rattle.questions.specs.Inside.{Builds, ranChecks, tableAnswer, tableAncestors, noAncestors, Opens};
 
 // The least length of the work.
 const ROOM: usize = 8192;
@@ -107,7 +107,7 @@ fn build_table(
     marks: &mut [u64],
 ) -> Outcome
     requires { ⌜ (length (now pairs) ≡ pairsRoom) × (now marks ≡ noMarks) ⌝ }
-    ensures { λ r. ⌜ Fills (checkedTable (given (now (names .entry)) (now («name_at» .entry)) (now («name_len» .entry)) (now («rec_flags» .entry)) (now («rec_class» .entry)) (now («rec_at» .entry)) (now («rec_len» .entry)) (now (parents .entry)))) (now (pairs .entry)) (now (pairs .exit)) (now (marks .exit)) r ⌝ }
+    ensures { λ r. ⌜ Builds (given (now (names .entry)) (now («name_at» .entry)) (now («name_len» .entry)) (now («rec_flags» .entry)) (now («rec_class» .entry)) (now («rec_at» .entry)) (now («rec_len» .entry)) (now (parents .entry))) (now (pairs .entry)) (now (pairs .exit)) (now (marks .exit)) r ⌝ }
 {
     if is_even(
         name_at.len(),

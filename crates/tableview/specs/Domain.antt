@@ -7,13 +7,14 @@ use mathlib.Core.Logic.{_⊎_, inl, inr, ⊎-elim, _↔_}
 use mathlib.Core.Option.{Option, some, none}
 use Prim.Native.Nat.{ℕ, zero, suc, _+_, _-_, _%_, _^_, _≤_, _<_}
 use native.Mathlib.Omega.{arith}
-use native.Mathlib.Decide.{ℕ-discrete}
+use native.Mathlib.Nat.{eq-or-lt-of-le}
+use native.Mathlib.Decide.{ℕ-discrete, decLt}
 use lib.Dec.{eqb, leb, ltb}
 use lib.ListN.{length, take, drop, getD, length-append}
 use borrow.Author.Tests.{eq-eqb, ne-eqb, lt-ltb, le-ltb, le-leb, eqb-true, eqb-false, ltb-true, leb-true}
 use Rattle.order.specs.Truth.{both, and-both}
 use Rattle.order.specs.Lists.{elem}
-use Rattle.order.specs.Laws.{lists-same, lists-equal}
+use Rattle.order.specs.Laws.{lists-same, lists-equal, lists-trans}
 use Rattle.order.specs.Compare.{compareLists, isEqual}
 use Rattle.order.specs.declared.Order.{Order}
 use Rattle.order.specs.declared.Order.the-variants.{Less, Equal, Greater}
@@ -602,6 +603,36 @@ index-has wanted (n ∷ ns) m = go (compareLists n wanted) refl (List·Memᴰ·c
 pub index-exactly : (wanted : List ℕ) (ns : List (List ℕ)) → List·Memᴰ wanted ns ↔ ((i : ℕ) × (indexOf wanted ns ≡ some i))
 index-exactly wanted ns =
     (index-has wanted ns, λ w. let r = index-name wanted ns (w .0) (w .1) in subst (λ (n : List ℕ). List·Memᴰ n ns) (r .1) (get-member ns (w .0) (r .0)))
+
+-- within the limits no two names are the same, so a name's number is the one place where its bytes stand
+module _ (t : Rows) (l : InLimits t) where
+  names-below : (i j : ℕ) → i < j → j < length (t .names) → compareLists (getD (t .names) i []) (getD (t .names) j []) ≡ Less
+  names-below i zero h k = absurd (omega arith)
+  names-below i (suc j) h k =
+      ⊎-elim
+      (λ e. ap (λ (m : ℕ). compareLists (getD (t .names) m []) (getD (t .names) (suc j) [])) e ∙ l .rising j k)
+      (λ m. lists-trans (getD (t .names) i []) (getD (t .names) j []) (getD (t .names) (suc j) []) (names-below i j m (omega arith)) (l .rising j k))
+      (eq-or-lt-of-le (let m : i ≤ j = omega arith in m))
+
+  place-only : (i j : ℕ) → i < length (t .names) → j < length (t .names) → getD (t .names) i [] ≡ getD (t .names) j [] → i ≡ j
+  place-only i j h k e = go (decLt i j) (decLt j i)
+    where
+      differ : (n : List ℕ) → compareLists n n ≡ Less → ⊥
+      differ n q = let f : Equal ≡ Less = sym (lists-same n) ∙ q in let z : _≡_ {A = ℕ} 0 1 = cc in omega arith
+
+      go : Dec (i < j) → Dec (j < i) → i ≡ j
+      go (yes m) o = absurd (differ (getD (t .names) i []) (ap (compareLists (getD (t .names) i [])) e ∙ names-below i j m k))
+      go (no n) (yes m) = absurd (differ (getD (t .names) j []) (ap (compareLists (getD (t .names) j [])) (sym e) ∙ names-below j i m h))
+      go (no n) (no m) = omega arith
+
+  -- THE NUMBER OF A NAME IS THE PLACE WHERE IT STANDS
+  pub name-exactly : (wanted : List ℕ) (i : ℕ) → (indexOf wanted (t .names) ≡ some i) ↔ ((i < length (t .names)) × (getD (t .names) i [] ≡ wanted))
+  name-exactly wanted i = (
+    index-name wanted (t .names) i,
+    λ w. let j = index-has wanted (t .names) (subst (λ (n : List ℕ). List·Memᴰ n (t .names)) (w .1) (get-member (t .names) i (w .0))) in
+        let r = index-name wanted (t .names) (j .0) (j .1) in
+        j .1 ∙ ap some (place-only (j .0) i (r .0) (w .0) (r .1 ∙ sym (w .1))),
+  )
 
 -- ROWS IN THE DOMAIN HAVE A GOOD VIEW: what all laws of classes and types ask
 pub domain-good : (t : Rows) → InDomain t → Good (rowsView t)

@@ -1,11 +1,10 @@
 -- CASTS a second time, from the `match` of `is_cast_convertible`: its answer for each of the sixteen ways in which two classes can be
 -- declared, as a rule, as a table, and through a view. Assumes nothing.
 use mathlib.Core.Path.{_≡_, refl, ap, _∙_}
-use mathlib.Core.Bool.{Bool, true, false, not, _&&_, _||_}
-use mathlib.Core.List.{List, [], _∷_, map}
+use mathlib.Core.Bool.{Bool, true, false, cond, not, _&&_, _||_}
+use mathlib.Core.List.{List, [], _∷_}
 use Prim.Native.Nat.{ℕ}
-use lib.Dec.{eqb, ltb}
-use Rattle.order.specs.Lists.{elem}
+use lib.Dec.{eqb}
 use Rattle.sets.specs.Sets.{bit, at, member, insert, members}
 use Rattle.view.specs.View.{View, insertAll, withParents, grow, level, reached, reach, ancestor, castByFacts, cast}
 
@@ -55,29 +54,27 @@ module _ (v : View) (s t : ℕ) (apart : (ancestor v s t || ancestor v t s) ≡ 
   unfolding cast
   cast-rule = rw (apart, both) (facts-rule (v .interface s) (v .final s) (v .interface t) (v .final t))
 
--- 0 and 1 are classes, 2 and 3 final classes, 4 and 5 interfaces, 6 and 7 final interfaces, all without parents; 8 is Object; 9 is
--- recorded and not declared
-abbrev kinds : View
-kinds = record {
-  names = 10;
-  object = 8;
-  recorded = λ c. ltb c 10;
+-- the source 0 and the target 1, both without parents, as they are declared, and Object 2; the target need not be declared
+abbrev two : Bool → Bool → Bool → Bool → Bool → View
+two sourceInterface sourceFinal targetDeclared targetInterface targetFinal = record {
+  names = 3;
+  object = 2;
+  recorded = λ c. true;
   parents = λ c. [];
-  declared = λ c. not (eqb c 9);
-  interface = λ c. elem c (4 ∷ 5 ∷ 6 ∷ 7 ∷ []);
-  final = λ c. elem c (2 ∷ 3 ∷ 6 ∷ 7 ∷ []);
+  declared = λ c. eqb c 0 || targetDeclared;
+  interface = λ c. cond (eqb c 0) sourceInterface targetInterface;
+  final = λ c. cond (eqb c 0) sourceFinal targetFinal;
 }
 
--- the answers of one source for a list of targets
-abbrev answers : ℕ → List ℕ → List Bool
-answers s ts = map (cast kinds s) ts
-
-pub cast-table :
-    -- to a class, a final class, an interface, a final interface, one that is not declared
-    (answers 0 (1 ∷ 3 ∷ 5 ∷ 7 ∷ 9 ∷ []) ≡ false ∷ false ∷ true ∷ true ∷ false ∷ [])
-    × (answers 2 (1 ∷ 3 ∷ 5 ∷ 7 ∷ 9 ∷ []) ≡ false ∷ false ∷ false ∷ false ∷ false ∷ [])
-    × (answers 4 (1 ∷ 3 ∷ 5 ∷ 7 ∷ 9 ∷ []) ≡ true ∷ false ∷ true ∷ true ∷ false ∷ [])
-    × (answers 6 (1 ∷ 3 ∷ 5 ∷ 7 ∷ 9 ∷ []) ≡ true ∷ false ∷ true ∷ true ∷ false ∷ [])
-    × (answers 9 (1 ∷ 3 ∷ 5 ∷ 7 ∷ 9 ∷ []) ≡ false ∷ false ∷ false ∷ false ∷ true ∷ [])
-unfolding elem bit at member insert members insertAll withParents grow level reached reach ancestor castByFacts cast
-cast-table = (refl, refl, refl, refl, refl)
+pub cast-examples :
+    -- a class to an interface; a final class to it
+    (cast (two false false true true false) 0 1 ≡ true)
+    × (cast (two false true true true false) 0 1 ≡ false)
+    -- an interface to a class; to a final class
+    × (cast (two true false true false false) 0 1 ≡ true)
+    × (cast (two true false true false true) 0 1 ≡ false)
+    -- two interfaces; the same where the target is not declared
+    × (cast (two true true true true true) 0 1 ≡ true)
+    × (cast (two true true false true true) 0 1 ≡ false)
+unfolding bit at member insert members insertAll withParents grow level reached reach ancestor castByFacts cast
+cast-examples = (refl, refl, refl, refl, refl, refl)
