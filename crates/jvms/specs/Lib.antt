@@ -8,6 +8,7 @@ pub mod Ends
 pub mod Listing
 pub mod Signatures
 pub mod JvmsTheorem
+pub mod Same
 pub mod Errors
 pub mod Refused
 pub mod ReadExamples
