@@ -7,7 +7,8 @@ use mathlib.Core.Option.{Option, some, none}
 use Prim.Native.Nat.{ℕ, zero, suc}
 use native.Mathlib.Omega.{arith}
 use lib.Dec.{ltb}
-use lib.ListN.{length}
+use lib.ListN.{length, replicate}
+use borrow.Author.Tests.{ne-eqb}
 use Rattle.text.specs.Text.{ascii}
 use Rattle.utf8.specs.Utf8.{table, within, matches, firstMatch, sequence, scan, validPrefix}
 use Rattle.names.specs.Names.{refusedOr, found, checkNames, lookup, lookUp}
@@ -22,7 +23,8 @@ use Rattle.bracepuffin.specs.declared.BpType.{BpType}
 use Rattle.bracepuffin.specs.declared.BpMethod.{BpMethod}
 use Rattle.bracepuffin.specs.declared.BpWritten.{BpWritten}
 use Rattle.bracepuffin.specs.declared.BpFound.{BpFound}
-use Rattle.bracepuffin.specs.Boundary.{typeAnswer, methodResult, writtenAnswer, foundAnswer}
+use Rattle.questions.specs.Questions.{answered, gathered}
+use Rattle.bracepuffin.specs.Boundary.{typeAnswer, methodResult, writtenAnswer, foundAnswer, relationAnswer, numberAnswer, setAnswer}
 use Rattle.demands.specs.Refusals.{TypeCode, MethodCode, ordinary-type-code, strict-type-code, ordinary-method-code, strict-method-code}
 
 -- ---- types
@@ -107,3 +109,17 @@ pub fields : (typeAnswer (readWhole (ascii "[La/b;")) ≡ record { refusal = 0; 
     × (methodResult (readMethod (ascii "(I?)V")) ≡ record { refusal = 12; offset = 2; byte = 63; count = 0; «return_at» = 0; dims = 0; tag = 0; category = 0; «name_at» = 0; «name_len» = 0 })
 unfolding ascii letterOf indexOf nameRead readName readType finish readWhole readParams returns afterParams readMethod methodAnswer table within matches firstMatch sequence scan validPrefix
 fields = (refl, refl, refl, refl, refl, refl)
+
+-- ---- what is asked
+
+-- A REFUSED QUESTION HAS THE VALUE 0: relation, distance, supertype, cast, join, assignability, whatever the value would have been
+pub answered-zeros : (refusal value : ℕ) → (refusal ≡ 0 → ⊥)
+    → (relationAnswer (answered refusal value) ≡ record { refusal = refusal; relation = 0 }) × (numberAnswer (answered refusal value) ≡ record { refusal = refusal; value = 0 })
+unfolding answered
+answered-zeros refusal value r = (rw (ne-eqb refusal 0 r), rw (ne-eqb refusal 0 r))
+
+-- A REFUSED SET HAS NO MEMBER, COUNT 0 AND LEAST 0
+pub gathered-zeros : (refusal : ℕ) (words : List ℕ) → (refusal ≡ 0 → ⊥)
+    → setAnswer (gathered refusal words) ≡ record { refusal = refusal; count = 0; lowest = 0; words = replicate 16 0 }
+unfolding gathered
+gathered-zeros refusal words r = rw (ne-eqb refusal 0 r)

@@ -1,6 +1,6 @@
 -- THE TABLE OF COLUMNS HAS THE VIEW AND THE WORLD OF ITS ROWS, wherever it is taken. Assumes nothing.
 use mathlib.Core.Path.{_≡_, refl, sym, ap, _∙_, subst}
-use mathlib.Core.Bool.{Bool, true, false, cond, _||_, true≢false, false≢true}
+use mathlib.Core.Bool.{Bool, true, false, cond, _||_, true≢false, false≢true, or-false}
 use mathlib.Core.List.{List, [], _∷_, List·Memᴰ, List·Memᴰ·head, List·Memᴰ·tail, List·Memᴰ·not-nil, List·Memᴰ·cases-cons}
 use mathlib.Core.Logic.{_↔_, ⊎-elim}
 use mathlib.Core.Option.{Option, some, none}
@@ -109,10 +109,6 @@ member-elem p (x ∷ xs) m = go (eqb x p) refl (member-elem p xs)
     go : (b : Bool) → eqb x p ≡ b → (List·Memᴰ p xs → elem p xs ≡ true) → (b || elem p xs) ≡ true
     go true e ih = refl
     go false e ih = ⊎-elim (λ k. absurd (eqb-false x p e (sym k))) ih (List·Memᴰ·cases-cons m)
-
-or-false : (b : Bool) → (b || false) ≡ b
-or-false true = refl
-or-false false = refl
 
 -- of a class past the sets nothing is marked
 marks-past : (marks : List ℕ) (k c : ℕ) → length marks ≡ 64 → k < 4 → (c < 1024 → ⊥) → member (mark marks k) c ≡ false

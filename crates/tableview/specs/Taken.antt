@@ -1,7 +1,7 @@
 -- What records that are taken leave, in the words of the rows: the pairs are those that rows list, the marks those that rows tell.
 -- Assumes nothing.
 use mathlib.Core.Path.{_≡_, refl, sym, ap, _∙_, subst}
-use mathlib.Core.Bool.{Bool, true, false, cond, _&&_, _||_, false≢true}
+use mathlib.Core.Bool.{Bool, true, false, cond, _&&_, _||_, false≢true, or-false}
 use mathlib.Core.List.{List, [], _∷_, _++_, map}
 use mathlib.Core.Option.{Option, some, none}
 use Prim.Native.Nat.{ℕ, suc, _%_, _≤_, _<_}
@@ -47,10 +47,6 @@ or-assoc true true c = refl
 or-assoc true false c = refl
 or-assoc false true c = refl
 or-assoc false false c = refl
-
-or-false : (b : Bool) → (b || false) ≡ b
-or-false true = refl
-or-false false = refl
 
 elem-append : (z : ℕ) (xs ys : List ℕ) → elem z (xs ++ ys) ≡ (elem z xs || elem z ys)
 unfolding elem
