@@ -103,19 +103,19 @@ fn check_row(names: &[u8], last: u64, span: u64, at: u64, len: u64, count: u64, 
 }
 
 // The refusal of a table of names; 0 where there is none.
-pub fn check_names(names: &[u8], ats: &[u64], lens: &[u64]) -> u64
-    ensures { λ r. ⌜ r ≡ checkNames (now (names .entry)) (now (ats .entry)) (now (lens .entry)) ⌝ }
+pub fn check_names(names: &[u8], name_at: &[u64], name_len: &[u64]) -> u64
+    ensures { λ r. ⌜ r ≡ checkNames (now (names .entry)) (now («name_at» .entry)) (now («name_len» .entry)) ⌝ }
 {
-    if ats.len() != lens.len() {
+    if name_at.len() != name_len.len() {
         return LENGTH;
     }
     let mut last: u64 = 0;
     let mut span: u64 = 0;
     let mut total: u64 = 0;
     let mut i: usize = 0;
-    while i < ats.len() {
-        let at = ats[i];
-        let len = lens[i];
+    while i < name_at.len() {
+        let at = name_at[i];
+        let len = name_len[i];
         let refusal = check_row(names, last, span, at, len, i as u64, total);
         if refusal != 0 {
             return refusal;
@@ -139,15 +139,15 @@ fn compare_at(names: &[u8], at: u64, len: u64, key: &[u8]) -> Order
 }
 
 // The number of the key among checked names, by halving.
-fn search(names: &[u8], ats: &[u64], lens: &[u64], key: &[u8]) -> LookedUp
-    requires { ⌜ checkNames (now names) (now ats) (now lens) ≡ 0 ⌝ }
-    ensures { λ r. ⌜ r ≡ found (lookup (now (names .entry)) (now (ats .entry)) (now (lens .entry)) (now (key .entry))) ⌝ }
+fn search(names: &[u8], name_at: &[u64], name_len: &[u64], key: &[u8]) -> LookedUp
+    requires { ⌜ checkNames (now names) (now «name_at») (now «name_len») ≡ 0 ⌝ }
+    ensures { λ r. ⌜ r ≡ found (lookup (now (names .entry)) (now («name_at» .entry)) (now («name_len» .entry)) (now (key .entry))) ⌝ }
 {
     let mut low: usize = 0;
-    let mut high = ats.len();
+    let mut high = name_at.len();
     while low < high {
         let middle = low + (high - low) / 2;
-        let order = compare_at(names, ats[middle], lens[middle], key);
+        let order = compare_at(names, name_at[middle], name_len[middle], key);
         match order {
             Order::Less => {
                 low = middle + 1;
@@ -170,15 +170,15 @@ fn search(names: &[u8], ats: &[u64], lens: &[u64], key: &[u8]) -> LookedUp
 }
 
 // The number of the key among names that are checked first.
-pub fn look_up(names: &[u8], ats: &[u64], lens: &[u64], key: &[u8]) -> LookedUp
-    ensures { λ r. ⌜ r ≡ lookUp (now (names .entry)) (now (ats .entry)) (now (lens .entry)) (now (key .entry)) ⌝ }
+pub fn look_up(names: &[u8], name_at: &[u64], name_len: &[u64], key: &[u8]) -> LookedUp
+    ensures { λ r. ⌜ r ≡ lookUp (now (names .entry)) (now («name_at» .entry)) (now («name_len» .entry)) (now (key .entry)) ⌝ }
 {
-    let refusal = check_names(names, ats, lens);
+    let refusal = check_names(names, name_at, name_len);
     if refusal != 0 {
         return LookedUp {
             refusal: refusal,
             class_no: 0,
         };
     }
-    search(names, ats, lens, key)
+    search(names, name_at, name_len, key)
 }

@@ -33,38 +33,38 @@ pub struct Written {
 
 // ---- lengths
 
-fn type_length(lens: &[u64], word: u64) -> u64
-    requires { ⌜ Short (now lens) × (legalWord (length (now lens)) word ≡ true) ⌝ }
-    ensures { λ r. ⌜ (r ≡ wordSize (now (lens .entry)) word) × (r ≤ 512) ⌝ }
+fn type_length(name_len: &[u64], word: u64) -> u64
+    requires { ⌜ Short (now «name_len») × (legalWord (length (now «name_len»)) word ≡ true) ⌝ }
+    ensures { λ r. ⌜ (r ≡ wordSize (now («name_len» .entry)) word) × (r ≤ 512) ⌝ }
 {
     let dims = word / DIMENSION;
     let tag = word / TAG % 256;
     if tag == 1 {
         let class = (word % TAG) as usize;
-        return dims + (lens[class] + 2);
+        return dims + (name_len[class] + 2);
     }
     dims + 1
 }
 
-fn types_length(lens: &[u64], words: &[u64]) -> u64
-    requires { ⌜ Short (now lens) × (allLegal (length (now lens)) (now words) ≡ true) × (length (now words) ≤ 255) ⌝ }
-    ensures { λ r. ⌜ (r ≡ wordsSize (now (lens .entry)) (now (words .entry))) × (r ≤ 130560) ⌝ }
+fn types_length(name_len: &[u64], words: &[u64]) -> u64
+    requires { ⌜ Short (now «name_len») × (allLegal (length (now «name_len»)) (now words) ≡ true) × (length (now words) ≤ 255) ⌝ }
+    ensures { λ r. ⌜ (r ≡ wordsSize (now («name_len» .entry)) (now (words .entry))) × (r ≤ 130560) ⌝ }
 {
     let mut n: u64 = 0;
     let mut i: usize = 0;
     while i < words.len() {
-        n += type_length(lens, words[i]);
+        n += type_length(name_len, words[i]);
         i += 1;
     }
     n
 }
 
 // With the brackets around the parameters.
-fn method_length(lens: &[u64], params: &[u64], result: u64) -> u64
-    requires { ⌜ Short (now lens) × (allLegal (length (now lens)) (now params) ≡ true) × (length (now params) ≤ 255) × (legalWord (length (now lens)) result ≡ true) ⌝ }
-    ensures { λ r. ⌜ r ≡ methodSize (now (lens .entry)) (now (params .entry)) result ⌝ }
+fn method_length(name_len: &[u64], params: &[u64], result: u64) -> u64
+    requires { ⌜ Short (now «name_len») × (allLegal (length (now «name_len»)) (now params) ≡ true) × (length (now params) ≤ 255) × (legalWord (length (now «name_len»)) result ≡ true) ⌝ }
+    ensures { λ r. ⌜ r ≡ methodSize (now («name_len» .entry)) (now (params .entry)) result ⌝ }
 {
-    types_length(lens, params) + type_length(lens, result) + 2
+    types_length(name_len, params) + type_length(name_len, result) + 2
 }
 
 // ---- bytes
@@ -116,15 +116,15 @@ fn put_class(bytes: &[u8], from: usize, n: usize, out: &mut [u8], at: usize) -> 
 // What stands after the dimensions.
 fn put_base(
     names: &[u8],
-    ats: &[u64],
-    lens: &[u64],
+    name_at: &[u64],
+    name_len: &[u64],
     tag: u64,
     load: u64,
     out: &mut [u8],
     at: usize,
 ) -> usize
-    requires { ⌜ Checked (now names) (now ats) (now lens) × (legalBase (length (now ats)) tag load ≡ true) × (at + length (printBase (now names) (now ats) (now lens) tag load) ≤ length (now out)) ⌝ }
-    ensures { λ r. ⌜ Put (printBase (now (names .entry)) (now (ats .entry)) (now (lens .entry)) tag load) (now (out .entry)) (now (out .exit)) at r ⌝ }
+    requires { ⌜ Checked (now names) (now «name_at») (now «name_len») × (legalBase (length (now «name_at»)) tag load ≡ true) × (at + length (printBase (now names) (now «name_at») (now «name_len») tag load) ≤ length (now out)) ⌝ }
+    ensures { λ r. ⌜ Put (printBase (now (names .entry)) (now («name_at» .entry)) (now («name_len» .entry)) tag load) (now (out .entry)) (now (out .exit)) at r ⌝ }
 {
     if tag == 0 {
         out[at] = letter(load);
@@ -132,8 +132,8 @@ fn put_base(
     }
     if tag == 1 {
         let class = load as usize;
-        let from = ats[class] as usize;
-        let n = lens[class] as usize;
+        let from = name_at[class] as usize;
+        let n = name_len[class] as usize;
         return put_class(names, from, n, out, at);
     }
     out[at] = b'?';
@@ -141,33 +141,40 @@ fn put_base(
 }
 
 // The descriptor of a word's type.
-fn put_type(names: &[u8], ats: &[u64], lens: &[u64], word: u64, out: &mut [u8], at: usize) -> usize
-    requires { ⌜ Checked (now names) (now ats) (now lens) × (legalWord (length (now ats)) word ≡ true) × (at + length (printWord (now names) (now ats) (now lens) word) ≤ length (now out)) ⌝ }
-    ensures { λ r. ⌜ Put (printWord (now (names .entry)) (now (ats .entry)) (now (lens .entry)) word) (now (out .entry)) (now (out .exit)) at r ⌝ }
+fn put_type(
+    names: &[u8],
+    name_at: &[u64],
+    name_len: &[u64],
+    word: u64,
+    out: &mut [u8],
+    at: usize,
+) -> usize
+    requires { ⌜ Checked (now names) (now «name_at») (now «name_len») × (legalWord (length (now «name_at»)) word ≡ true) × (at + length (printWord (now names) (now «name_at») (now «name_len») word) ≤ length (now out)) ⌝ }
+    ensures { λ r. ⌜ Put (printWord (now (names .entry)) (now («name_at» .entry)) (now («name_len» .entry)) word) (now (out .entry)) (now (out .exit)) at r ⌝ }
 {
     let dims = (word / DIMENSION) as usize;
     let tag = word / TAG % 256;
     let load = word % TAG;
     put_brackets(out, at, dims);
-    put_base(names, ats, lens, tag, load, out, at + dims)
+    put_base(names, name_at, name_len, tag, load, out, at + dims)
 }
 
 // The descriptors of the words' types, one after the other.
 fn put_types(
     names: &[u8],
-    ats: &[u64],
-    lens: &[u64],
+    name_at: &[u64],
+    name_len: &[u64],
     words: &[u64],
     out: &mut [u8],
     at: usize,
 ) -> usize
-    requires { ⌜ Checked (now names) (now ats) (now lens) × (allLegal (length (now ats)) (now words) ≡ true) × (at + length (printWords (now names) (now ats) (now lens) (now words)) ≤ length (now out)) ⌝ }
-    ensures { λ r. ⌜ Put (printWords (now (names .entry)) (now (ats .entry)) (now (lens .entry)) (now (words .entry))) (now (out .entry)) (now (out .exit)) at r ⌝ }
+    requires { ⌜ Checked (now names) (now «name_at») (now «name_len») × (allLegal (length (now «name_at»)) (now words) ≡ true) × (at + length (printWords (now names) (now «name_at») (now «name_len») (now words)) ≤ length (now out)) ⌝ }
+    ensures { λ r. ⌜ Put (printWords (now (names .entry)) (now («name_at» .entry)) (now («name_len» .entry)) (now (words .entry))) (now (out .entry)) (now (out .exit)) at r ⌝ }
 {
     let mut next = at;
     let mut i: usize = 0;
     while i < words.len() {
-        next = put_type(names, ats, lens, words[i], out, next);
+        next = put_type(names, name_at, name_len, words[i], out, next);
         i += 1;
     }
     next
@@ -176,19 +183,19 @@ fn put_types(
 // The descriptor of a method.
 fn put_method(
     names: &[u8],
-    ats: &[u64],
-    lens: &[u64],
+    name_at: &[u64],
+    name_len: &[u64],
     params: &[u64],
     result: u64,
     out: &mut [u8],
 ) -> usize
-    requires { ⌜ Checked (now names) (now ats) (now lens) × (allLegal (length (now ats)) (now params) ≡ true) × (legalWord (length (now ats)) result ≡ true) × (length (printMethodWords (now names) (now ats) (now lens) (now params) result) ≤ length (now out)) ⌝ }
-    ensures { λ r. ⌜ Put (printMethodWords (now (names .entry)) (now (ats .entry)) (now (lens .entry)) (now (params .entry)) result) (now (out .entry)) (now (out .exit)) 0 r ⌝ }
+    requires { ⌜ Checked (now names) (now «name_at») (now «name_len») × (allLegal (length (now «name_at»)) (now params) ≡ true) × (legalWord (length (now «name_at»)) result ≡ true) × (length (printMethodWords (now names) (now «name_at») (now «name_len») (now params) result) ≤ length (now out)) ⌝ }
+    ensures { λ r. ⌜ Put (printMethodWords (now (names .entry)) (now («name_at» .entry)) (now («name_len» .entry)) (now (params .entry)) result) (now (out .entry)) (now (out .exit)) 0 r ⌝ }
 {
     out[0] = b'(';
-    let close = put_types(names, ats, lens, params, out, 1);
+    let close = put_types(names, name_at, name_len, params, out, 1);
     out[close] = b')';
-    put_type(names, ats, lens, result, out, close + 1)
+    put_type(names, name_at, name_len, result, out, close + 1)
 }
 
 // ---- the writers, over names that were checked
@@ -202,17 +209,23 @@ fn refused(code: u64) -> Written
     }
 }
 
-fn write_checked_type(names: &[u8], ats: &[u64], lens: &[u64], word: u64, out: &mut [u8]) -> Written
-    requires { ⌜ Checked (now names) (now ats) (now lens) ⌝ }
-    ensures { λ r. ⌜ Wrote (checkedTypeRefusal (now (names .entry)) (now (ats .entry)) (now (lens .entry)) word (length (now (out .entry)))) (printWord (now (names .entry)) (now (ats .entry)) (now (lens .entry)) word) (now (out .entry)) (now (out .exit)) r ⌝ }
+fn write_checked_type(
+    names: &[u8],
+    name_at: &[u64],
+    name_len: &[u64],
+    word: u64,
+    out: &mut [u8],
+) -> Written
+    requires { ⌜ Checked (now names) (now «name_at») (now «name_len») ⌝ }
+    ensures { λ r. ⌜ Wrote (checkedTypeRefusal (now (names .entry)) (now («name_at» .entry)) (now («name_len» .entry)) word (length (now (out .entry)))) (printWord (now (names .entry)) (now («name_at» .entry)) (now («name_len» .entry)) word) (now (out .entry)) (now (out .exit)) r ⌝ }
 {
-    if !is_legal(word, ats.len() as u64) {
+    if !is_legal(word, name_at.len() as u64) {
         return refused(NO_TYPE);
     }
-    if (out.len() as u64) < type_length(lens, word) {
+    if (out.len() as u64) < type_length(name_len, word) {
         return refused(SHORT);
     }
-    let end = put_type(names, ats, lens, word, out, 0);
+    let end = put_type(names, name_at, name_len, word, out, 0);
     Written {
         refusal: 0,
         length: end as u64,
@@ -221,29 +234,29 @@ fn write_checked_type(names: &[u8], ats: &[u64], lens: &[u64], word: u64, out: &
 
 fn write_checked_method(
     names: &[u8],
-    ats: &[u64],
-    lens: &[u64],
+    name_at: &[u64],
+    name_len: &[u64],
     params: &[u64],
     result: u64,
     out: &mut [u8],
 ) -> Written
-    requires { ⌜ Checked (now names) (now ats) (now lens) ⌝ }
-    ensures { λ r. ⌜ CheckedMethodWrote (now (names .entry)) (now (ats .entry)) (now (lens .entry)) (now (params .entry)) result (now (out .entry)) (now (out .exit)) r ⌝ }
+    requires { ⌜ Checked (now names) (now «name_at») (now «name_len») ⌝ }
+    ensures { λ r. ⌜ CheckedMethodWrote (now (names .entry)) (now («name_at» .entry)) (now («name_len» .entry)) (now (params .entry)) result (now (out .entry)) (now (out .exit)) r ⌝ }
 {
     if PARAMETERS < params.len() {
         return refused(ROOM);
     }
-    let n = ats.len() as u64;
+    let n = name_at.len() as u64;
     if !are_legal(params, n) {
         return refused(NO_TYPE);
     }
     if !is_legal(result, n) {
         return refused(NO_TYPE);
     }
-    if (out.len() as u64) < method_length(lens, params, result) {
+    if (out.len() as u64) < method_length(name_len, params, result) {
         return refused(SHORT);
     }
-    let end = put_method(names, ats, lens, params, result, out);
+    let end = put_method(names, name_at, name_len, params, result, out);
     Written {
         refusal: 0,
         length: end as u64,
@@ -253,30 +266,36 @@ fn write_checked_method(
 // ---- the writers
 
 // The descriptor of a word's type over a table of names.
-pub fn write_type(names: &[u8], ats: &[u64], lens: &[u64], word: u64, out: &mut [u8]) -> Written
-    ensures { λ r. ⌜ Wrote (typeRefusal (now (names .entry)) (now (ats .entry)) (now (lens .entry)) word (length (now (out .entry)))) (printWord (now (names .entry)) (now (ats .entry)) (now (lens .entry)) word) (now (out .entry)) (now (out .exit)) r ⌝ }
+pub fn write_type(
+    names: &[u8],
+    name_at: &[u64],
+    name_len: &[u64],
+    word: u64,
+    out: &mut [u8],
+) -> Written
+    ensures { λ r. ⌜ Wrote (typeRefusal (now (names .entry)) (now («name_at» .entry)) (now («name_len» .entry)) word (length (now (out .entry)))) (printWord (now (names .entry)) (now («name_at» .entry)) (now («name_len» .entry)) word) (now (out .entry)) (now (out .exit)) r ⌝ }
 {
-    let refusal = check_names(names, ats, lens);
+    let refusal = check_names(names, name_at, name_len);
     if refusal != 0 {
         return refused(refusal);
     }
-    write_checked_type(names, ats, lens, word, out)
+    write_checked_type(names, name_at, name_len, word, out)
 }
 
 // The descriptor of a method, its parameters and its result as words.
 pub fn write_method(
     names: &[u8],
-    ats: &[u64],
-    lens: &[u64],
+    name_at: &[u64],
+    name_len: &[u64],
     params: &[u64],
     result: u64,
     out: &mut [u8],
 ) -> Written
-    ensures { λ r. ⌜ MethodWrote (now (names .entry)) (now (ats .entry)) (now (lens .entry)) (now (params .entry)) result (now (out .entry)) (now (out .exit)) r ⌝ }
+    ensures { λ r. ⌜ MethodWrote (now (names .entry)) (now («name_at» .entry)) (now («name_len» .entry)) (now (params .entry)) result (now (out .entry)) (now (out .exit)) r ⌝ }
 {
-    let refusal = check_names(names, ats, lens);
+    let refusal = check_names(names, name_at, name_len);
     if refusal != 0 {
         return refused(refusal);
     }
-    write_checked_method(names, ats, lens, params, result, out)
+    write_checked_method(names, name_at, name_len, params, result, out)
 }

@@ -50,7 +50,7 @@ abbrev μ-loop : tie.MeasureT-loop
 good : (c : tie.Else2 Inv-loop μ-loop) → let a = c .before .before .before .before .before .before .before .before .before .before .args in
     let l = c .before .before .before .before .before .loop in
     let s = a .names .now in
-    GoodRow s (getD (a .ats .now) (l .i) 0) (getD (a .lens .now) (l .i) 0) (nameOf s (l .last) (l .span)) (l .i) (l .total)
+    GoodRow s (getD (a .name-at .now) (l .i) 0) (getD (a .name-len .now) (l .i) 0) (nameOf s (l .last) (l .span)) (l .i) (l .total)
 good c = row-checked _ _ _ _ _ _ (sym (c .before .check-row .ensures) ∙ c .if2 .left)
 
 returns : tie.Need-returns Inv-loop μ-loop
@@ -82,7 +82,7 @@ returns-2 c =
     let l = c .before .before .before .before .before .loop in
     let s = a .names .now in
     let r = c .before .check-row in
-    sym (l .inv .5 ∙ row-refused s (a .ats .now) (a .lens .now) (nameOf s (l .last) (l .span)) (l .i) (l .total) (r .result) (omega arith) (omega arith) (r .ensures) (c .if2 .taken))
+    sym (l .inv .5 ∙ row-refused s (a .name-at .now) (a .name-len .now) (nameOf s (l .last) (l .span)) (l .i) (l .total) (r .result) (omega arith) (omega arith) (r .ensures) (c .if2 .taken))
 
 add-total : tie.Need-add-total Inv-loop μ-loop
 add-total c = let g = good c in omega arith
@@ -105,7 +105,7 @@ loop-again c =
       g .inside .starts,
       g .inside .ends,
       g .short,
-      l .inv .5 ∙ row-passed s (a .ats .now) (a .lens .now) (nameOf s (l .last) (l .span)) (l .i) (l .total) (r .result) (omega arith) (omega arith) (r .ensures) (c .if2 .left),
+      l .inv .5 ∙ row-passed s (a .name-at .now) (a .name-len .now) (nameOf s (l .last) (l .span)) (l .i) (l .total) (r .result) (omega arith) (omega arith) (r .ensures) (c .if2 .left),
     )
 
 returns-3 : tie.Need-returns-3 Inv-loop μ-loop
@@ -113,7 +113,7 @@ returns-3 c =
     let a = c .before .before .before .before .before .before .args in
     let l = c .before .loop in
     let s = a .names .now in
-    sym (l .inv .5 ∙ rows-end s (a .ats .now) (a .lens .now) (nameOf s (l .last) (l .span)) (l .i) (l .total) (omega arith))
+    sym (l .inv .5 ∙ rows-end s (a .name-at .now) (a .name-len .now) (nameOf s (l .last) (l .span)) (l .i) (l .total) (omega arith))
 
 pub check-names-spec : {M : Type 1} → statement M
 check-names-spec =

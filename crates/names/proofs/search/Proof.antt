@@ -18,8 +18,8 @@ abbrev μ-loop : tie.MeasureT-loop
 loop-holds : tie.Need-loop-holds Inv-loop μ-loop
 loop-holds c =
     let a = c .before .before .before .before .args in
-    bracket-start (a .names .now) (a .ats .now) (a .lens .now) (a .key .now)
-    (checked (a .names .now) (a .ats .now) (a .lens .now) (c .before .before .before .before .pre))
+    bracket-start (a .names .now) (a .name-at .now) (a .name-len .now) (a .key .now)
+    (checked (a .names .now) (a .name-at .now) (a .name-len .now) (c .before .before .before .before .pre))
 
 sub-middle : tie.Need-sub-middle Inv-loop μ-loop
 sub-middle c = search needs

@@ -14,13 +14,13 @@ letter-requires : tie.Need-letter-requires
 letter-requires c κs =
     let a = c .before .before .before .before .before .args in
     let p = c .before .before .before .before .before .pre in
-    category-low (length (a .ats .now)) (a .tag) (a .load) (p .1) (c .if1 .taken)
+    category-low (length (a .name-at .now)) (a .tag) (a .load) (p .1) (c .if1 .taken)
 
 slice-write-out : tie.Need-slice-write-out
 slice-write-out c =
     let a = c .before .before .before .before .before .before .args in
     let p = c .before .before .before .before .before .before .pre in
-    let e = ap length (print-category (a .names .now) (a .ats .now) (a .lens .now) (a .tag) (a .load) (c .before .if1 .taken)) in
+    let e = ap length (print-category (a .names .now) (a .name-at .now) (a .name-len .now) (a .tag) (a .load) (c .before .if1 .taken)) in
     omega arith
 
 add-result : tie.Need-add-result
@@ -33,7 +33,7 @@ returns : tie.Need-returns
 returns c =
     let a = c .before .before .before .before .before .before .args in
     put-as
-    (print-category (a .names .now) (a .ats .now) (a .lens .now) (a .tag) (a .load) (c .before .if1 .taken)
+    (print-category (a .names .now) (a .name-at .now) (a .name-len .now) (a .tag) (a .load) (c .before .if1 .taken)
     ∙ ap (λ (b : ℕ). b ∷ []) (sym (c .letter .ensures)))
     (put-byte (c .letter .result) (a .out .now) (a .at))
 
@@ -41,36 +41,36 @@ mul-from : tie.Need-mul-from
 mul-from c =
     let a = c .before .before .before .before .before .before .args in
     let p = c .before .before .before .before .before .before .pre in
-    let h = class-inside (length (a .ats .now)) (a .tag) (a .load) (p .1) (c .if2 .taken) in
+    let h = class-inside (length (a .name-at .now)) (a .tag) (a .load) (p .1) (c .if2 .taken) in
     search needs
 
 shared-slice-read-from : tie.Need-shared-slice-read-from
 shared-slice-read-from c =
     let a = c .before .before .before .before .before .before .before .args in
     let p = c .before .before .before .before .before .before .before .pre in
-    let h = class-inside (length (a .ats .now)) (a .tag) (a .load) (p .1) (c .before .if2 .taken) in h
+    let h = class-inside (length (a .name-at .now)) (a .tag) (a .load) (p .1) (c .before .if2 .taken) in h
 
 mul-n : tie.Need-mul-n
 mul-n c =
     let a = c .before .before .before .before .before .before .before .args in
     let p = c .before .before .before .before .before .before .before .pre in
-    let h = class-inside (length (a .ats .now)) (a .tag) (a .load) (p .1) (c .before .if2 .taken) in
+    let h = class-inside (length (a .name-at .now)) (a .tag) (a .load) (p .1) (c .before .if2 .taken) in
     search needs
 
 shared-slice-read-n : tie.Need-shared-slice-read-n
 shared-slice-read-n c =
     let a = c .before .before .before .before .before .before .before .before .args in
     let p = c .before .before .before .before .before .before .before .before .pre in
-    let h = class-inside (length (a .ats .now)) (a .tag) (a .load) (p .1) (c .before .before .if2 .taken) in
+    let h = class-inside (length (a .name-at .now)) (a .tag) (a .load) (p .1) (c .before .before .if2 .taken) in
     let e = p .0 .columns in omega arith
 
 put-class-requires : tie.Need-put-class-requires
 put-class-requires c κs =
     let a = c .before .before .before .before .before .before .before .before .before .args in
     let p = c .before .before .before .before .before .before .before .before .before .pre in
-    let h = class-inside (length (a .ats .now)) (a .tag) (a .load) (p .1) (c .before .before .before .if2 .taken) in
+    let h = class-inside (length (a .name-at .now)) (a .tag) (a .load) (p .1) (c .before .before .before .if2 .taken) in
     let i = p .0 .inside (a .load) h in
-    let l = class-length (a .names .now) (a .ats .now) (a .lens .now) (p .0) (a .tag) (a .load) (p .1) (c .before .before .before .if2 .taken) in
+    let l = class-length (a .names .now) (a .name-at .now) (a .name-len .now) (p .0) (a .tag) (a .load) (p .1) (c .before .before .before .if2 .taken) in
     (omega arith, omega arith)
 
 same-length-2 : tie.Need-same-length-2
@@ -79,13 +79,13 @@ same-length-2 c = search needs
 returns-2 : tie.Need-returns-2
 returns-2 c =
     let a = c .before .before .before .before .before .before .before .before .before .before .before .before .args in
-    put-as (print-class (a .names .now) (a .ats .now) (a .lens .now) (a .tag) (a .load) (c .before .before .before .before .before .before .if2 .taken)) (c .before .before .put-class .ensures)
+    put-as (print-class (a .names .now) (a .name-at .now) (a .name-len .now) (a .tag) (a .load) (c .before .before .before .before .before .before .if2 .taken)) (c .before .before .put-class .ensures)
 
 slice-write-out-2 : tie.Need-slice-write-out-2
 slice-write-out-2 c =
     let a = c .before .before .before .before .before .before .args in
     let p = c .before .before .before .before .before .before .pre in
-    let e = ap length (print-unknown (a .names .now) (a .ats .now) (a .lens .now) (a .tag) (a .load) (c .before .if1 .left) (c .if2 .left)) in
+    let e = ap length (print-unknown (a .names .now) (a .name-at .now) (a .name-len .now) (a .tag) (a .load) (c .before .if1 .left) (c .if2 .left)) in
     omega arith
 
 add-result-2 : tie.Need-add-result-2
@@ -97,7 +97,7 @@ same-length-3 c = search needs
 returns-3 : tie.Need-returns-3
 returns-3 c =
     let a = c .before .before .before .before .before .before .args in
-    put-as (print-unknown (a .names .now) (a .ats .now) (a .lens .now) (a .tag) (a .load) (c .before .if1 .left) (c .if2 .left)) (put-byte 63 (a .out .now) (a .at))
+    put-as (print-unknown (a .names .now) (a .name-at .now) (a .name-len .now) (a .tag) (a .load) (c .before .if1 .left) (c .if2 .left)) (put-byte 63 (a .out .now) (a .at))
 
 pub put-base-spec : {M : Type 1} → statement M
 put-base-spec =

@@ -13,7 +13,7 @@ put-brackets-requires : tie.Need-put-brackets-requires
 put-brackets-requires c κs =
     let a = c .before .before .before .before .before .args in
     let p = c .before .before .before .before .before .pre in
-    let e = word-parts (a .names .now) (a .ats .now) (a .lens .now) (a .word) in
+    let e = word-parts (a .names .now) (a .name-at .now) (a .name-len .now) (a .word) in
     omega arith
 
 add-put-base : tie.Need-add-put-base
@@ -25,7 +25,7 @@ put-base-requires c κs =
     let a = c .before .before .before .before .before .before .before .before .before .args in
     let p = c .before .before .before .before .before .before .before .before .before .pre in
     let k = c .before .before .before .put-brackets .kept .0 in
-    let e = word-parts (a .names .now) (a .ats .now) (a .lens .now) (a .word) in
+    let e = word-parts (a .names .now) (a .name-at .now) (a .name-len .now) (a .word) in
     (p .0, p .1, omega arith)
 
 same-length : tie.Need-same-length
@@ -34,7 +34,7 @@ same-length c = search needs
 returns : tie.Need-returns
 returns c =
     let a = c .before .before .before .before .before .before .before .before .before .before .before .before .args in
-    put-as (print-word (a .names .now) (a .ats .now) (a .lens .now) (a .word))
+    put-as (print-word (a .names .now) (a .name-at .now) (a .name-len .now) (a .word))
     (put-append {xs = replicate (dimsOf (a .word)) 91} (put-of (length-replicate {A = ℕ} (dimsOf (a .word)) 91) (c .before .before .before .before .before .before .put-brackets .ensures))
     (c .before .before .put-base .ensures))
 

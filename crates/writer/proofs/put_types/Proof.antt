@@ -38,9 +38,9 @@ put-type-requires c κs =
     let a = c .before .before .before .before .before .before .before .before .before .args in
     let p = c .before .before .before .before .before .before .before .before .before .pre in
     let l = c .before .before .before .loop in
-    let e = ap length (words-next (a .names .now) (a .ats .now) (a .lens .now) (a .words .now) (l .i) (omega arith)) in
-    let n = length-append (printWord (a .names .now) (a .ats .now) (a .lens .now) (getD (a .words .now) (l .i) 0)) (printWords (a .names .now) (a .ats .now) (a .lens .now) (drop (l .i + 1) (a .words .now))) in
-    (p .0, legal-front (length (a .ats .now)) (a .words .now) (l .i) (omega arith) (l .inv .2) .0, omega arith)
+    let e = ap length (words-next (a .names .now) (a .name-at .now) (a .name-len .now) (a .words .now) (l .i) (omega arith)) in
+    let n = length-append (printWord (a .names .now) (a .name-at .now) (a .name-len .now) (getD (a .words .now) (l .i) 0)) (printWords (a .names .now) (a .name-at .now) (a .name-len .now) (drop (l .i + 1) (a .words .now))) in
+    (p .0, legal-front (length (a .name-at .now)) (a .words .now) (l .i) (omega arith) (l .inv .2) .0, omega arith)
 
 add-i : tie.Need-add-i Inv-loop μ-loop
 add-i c = search needs
@@ -53,14 +53,14 @@ loop-again c =
     let a = c .before .before .before .before .before .before .before .before .before .before .before .before .args in
     let l = c .before .before .before .before .before .before .loop in
     let put = c .before .before .put-type .ensures in
-    let w = words-next (a .names .now) (a .ats .now) (a .lens .now) (a .words .now) (l .i) (omega arith) in
-    let rest = printWords (a .names .now) (a .ats .now) (a .lens .now) (drop (l .i + 1) (a .words .now)) in
+    let w = words-next (a .names .now) (a .name-at .now) (a .name-len .now) (a .words .now) (l .i) (omega arith) in
+    let rest = printWords (a .names .now) (a .name-at .now) (a .name-len .now) (drop (l .i + 1) (a .words .now)) in
     let e = ap length w in
-    let n = length-append (printWord (a .names .now) (a .ats .now) (a .lens .now) (getD (a .words .now) (l .i) 0)) rest in
+    let n = length-append (printWord (a .names .now) (a .name-at .now) (a .name-len .now) (getD (a .words .now) (l .i) 0)) rest in
     let q = put .next in (
       omega arith,
       put-length put ∙ l .inv .1,
-      legal-front (length (a .ats .now)) (a .words .now) (l .i) (omega arith) (l .inv .2) .1,
+      legal-front (length (a .name-at .now)) (a .words .now) (l .i) (omega arith) (l .inv .2) .1,
       omega arith,
       l .inv .4 ∙ ap (λ (xs : List ℕ). sets (l .out) (l .next) xs) w ∙ put-before put rest,
     )
@@ -72,7 +72,7 @@ returns : tie.Need-returns Inv-loop μ-loop
 returns c =
     let a = c .before .before .before .before .before .before .before .args in
     let l = c .before .loop in
-    let w = words-none (a .names .now) (a .ats .now) (a .lens .now) (a .words .now) (l .i) (omega arith) in
+    let w = words-none (a .names .now) (a .name-at .now) (a .name-len .now) (a .words .now) (l .i) (omega arith) in
     let e = ap length w in
     record { next = let q = l .inv .3 in omega arith; stored = sym (l .inv .4 ∙ ap (λ (xs : List ℕ). sets (l .out) (l .next) xs) w) }
 

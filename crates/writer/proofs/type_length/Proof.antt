@@ -14,28 +14,28 @@ shared-slice-read-result : tie.Need-shared-slice-read-result
 shared-slice-read-result c =
     let A = c .before .before .args in
     let B = c .before .before .pre in
-    let h = legal-inside (length (A .lens .now)) (A .word) (B .1) (c .before .if1 .taken) in h
+    let h = legal-inside (length (A .name-len .now)) (A .word) (B .1) (c .before .if1 .taken) in h
 
 add-result : tie.Need-add-result
 add-result c =
     let A = c .before .before .args in
     let B = c .before .before .pre in
-    let h = legal-inside (length (A .lens .now)) (A .word) (B .1) (c .before .if1 .taken) in
+    let h = legal-inside (length (A .name-len .now)) (A .word) (B .1) (c .before .if1 .taken) in
     let f = B .0 .few (loadOf (A .word)) h in omega arith
 
 add-result-2 : tie.Need-add-result-2
 add-result-2 c =
     let A = c .before .before .args in
     let B = c .before .before .pre in
-    let h = legal-inside (length (A .lens .now)) (A .word) (B .1) (c .before .if1 .taken) in
+    let h = legal-inside (length (A .name-len .now)) (A .word) (B .1) (c .before .if1 .taken) in
     let f = B .0 .few (loadOf (A .word)) h in omega arith
 
 returns : tie.Need-returns
 returns c =
     let A = c .before .before .args in
     let B = c .before .before .pre in
-    let h = legal-inside (length (A .lens .now)) (A .word) (B .1) (c .before .if1 .taken) in
-    let f = B .0 .few (loadOf (A .word)) h in (class-size (A .lens .now) (A .word) (c .before .if1 .taken), omega arith)
+    let h = legal-inside (length (A .name-len .now)) (A .word) (B .1) (c .before .if1 .taken) in
+    let f = B .0 .few (loadOf (A .word)) h in (class-size (A .name-len .now) (A .word) (c .before .if1 .taken), omega arith)
 
 add-result-3 : tie.Need-add-result-3
 add-result-3 c = search needs
@@ -43,7 +43,7 @@ add-result-3 c = search needs
 returns-2 : tie.Need-returns-2
 returns-2 c =
     let A = c .before .args in
-    (plain-size (A .lens .now) (A .word) (c .if1 .left), omega arith)
+    (plain-size (A .name-len .now) (A .word) (c .if1 .left), omega arith)
 
 pub type-length-spec : {M : Type 1} → statement M
 type-length-spec =

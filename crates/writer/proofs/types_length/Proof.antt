@@ -32,7 +32,7 @@ type-length-requires : tie.Need-type-length-requires Inv-loop μ-loop
 type-length-requires c κs =
     let a = c .before .before .before .before .before .args in
     let l = c .before .before .loop in
-    (c .before .before .before .before .before .pre .0, legal-front (length (a .lens .now)) (a .words .now) (l .i) (omega arith) (l .inv .3) .0)
+    (c .before .before .before .before .before .pre .0, legal-front (length (a .name-len .now)) (a .words .now) (l .i) (omega arith) (l .inv .3) .0)
 
 add-n : tie.Need-add-n Inv-loop μ-loop
 add-n c = search needs
@@ -47,15 +47,15 @@ loop-again : tie.Need-loop-again Inv-loop μ-loop
 loop-again c =
     let a = c .before .before .before .before .before .before .args in
     let l = c .before .before .before .loop in
-    let e = size-next (a .lens .now) (a .words .now) (l .i) (omega arith) in
+    let e = size-next (a .name-len .now) (a .words .now) (l .i) (omega arith) in
     let r = c .type-length .ensures in
-    (omega arith, omega arith, omega arith, legal-front (length (a .lens .now)) (a .words .now) (l .i) (omega arith) (l .inv .3) .1)
+    (omega arith, omega arith, omega arith, legal-front (length (a .name-len .now)) (a .words .now) (l .i) (omega arith) (l .inv .3) .1)
 
 returns : tie.Need-returns Inv-loop μ-loop
 returns c =
     let a = c .before .before .before .before .args in
     let l = c .before .loop in
-    let e = size-none (a .lens .now) (a .words .now) (l .i) (omega arith) in
+    let e = size-none (a .name-len .now) (a .words .now) (l .i) (omega arith) in
     (omega arith, omega arith)
 
 pub types-length-spec : {M : Type 1} → statement M

@@ -16,7 +16,7 @@ refused-requires c κs = search needs
 returns : tie.Need-returns
 returns c =
     let a = c .before .before .before .before .before .before .before .args in
-    wrote-none 8 (method-many (a .names .now) (a .ats .now) (a .lens .now) (a .params .now) (a .result) (length (a .out .now)) (omega arith)) (λ z. omega arith) (c .refused .ensures)
+    wrote-none 8 (method-many (a .names .now) (a .name-at .now) (a .name-len .now) (a .params .now) (a .result) (length (a .out .now)) (omega arith)) (λ z. omega arith) (c .refused .ensures)
 
 are-legal-requires : tie.Need-are-legal-requires
 are-legal-requires c κs = search needs
@@ -28,7 +28,7 @@ returns-2 : tie.Need-returns-2
 returns-2 c =
     let a = c .before .before .before .before .before .before .before .before .before .args in
     let h = fails (c .before .before .are-legal .ensures) (c .before .if2 .taken) in
-    wrote-none 7 (method-illegal (a .names .now) (a .ats .now) (a .lens .now) (a .params .now) (a .result) (length (a .out .now)) (omega arith) (ap (λ (t : Bool). t && legalWord (length (a .ats .now)) (a .result)) h))
+    wrote-none 7 (method-illegal (a .names .now) (a .name-at .now) (a .name-len .now) (a .params .now) (a .result) (length (a .out .now)) (omega arith) (ap (λ (t : Bool). t && legalWord (length (a .name-at .now)) (a .result)) h))
     (λ z. omega arith) (c .refused2 .ensures)
 
 is-legal-requires : tie.Need-is-legal-requires
@@ -42,7 +42,7 @@ returns-3 c =
     let a = c .before .before .before .before .before .before .before .before .before .before .before .args in
     let h = holds (c .before .before .before .before .are-legal .ensures) (c .before .before .before .if2 .left) in
     let g = fails (c .before .before .is-legal .ensures) (c .before .if3 .taken) in
-    wrote-none 7 (method-illegal (a .names .now) (a .ats .now) (a .lens .now) (a .params .now) (a .result) (length (a .out .now)) (omega arith) (ap₂ (λ (t u : Bool). t && u) h g))
+    wrote-none 7 (method-illegal (a .names .now) (a .name-at .now) (a .name-len .now) (a .params .now) (a .result) (length (a .out .now)) (omega arith) (ap₂ (λ (t u : Bool). t && u) h g))
     (λ z. omega arith) (c .refused3 .ensures)
 
 method-length-requires : tie.Need-method-length-requires
@@ -66,9 +66,9 @@ returns-4 c =
     let p = c .before .before .before .before .before .before .before .before .before .before .before .before .before .pre in
     let h = holds (c .before .before .before .before .before .before .are-legal .ensures) (c .before .before .before .before .before .if2 .left) in
     let g = holds (c .before .before .before .before .is-legal .ensures) (c .before .before .before .if3 .left) in
-    let s = method-size (a .names .now) (a .ats .now) (a .lens .now) p (a .params .now) (a .result) h g in
+    let s = method-size (a .names .now) (a .name-at .now) (a .name-len .now) p (a .params .now) (a .result) h g in
     let r = c .before .before .method-length .ensures in
-    wrote-none 22 (method-long (a .names .now) (a .ats .now) (a .lens .now) (a .params .now) (a .result) (length (a .out .now)) (omega arith) h g (omega arith)) (λ z. omega arith) (c .refused4 .ensures)
+    wrote-none 22 (method-long (a .names .now) (a .name-at .now) (a .name-len .now) (a .params .now) (a .result) (length (a .out .now)) (omega arith) h g (omega arith)) (λ z. omega arith) (c .refused4 .ensures)
 
 put-method-requires : tie.Need-put-method-requires
 put-method-requires c κs =
@@ -76,7 +76,7 @@ put-method-requires c κs =
     let p = c .before .before .before .before .before .before .before .before .before .before .before .before .before .pre in
     let h = holds (c .before .before .before .before .before .before .are-legal .ensures) (c .before .before .before .before .before .if2 .left) in
     let g = holds (c .before .before .before .before .is-legal .ensures) (c .before .before .before .if3 .left) in
-    let s = method-size (a .names .now) (a .ats .now) (a .lens .now) p (a .params .now) (a .result) h g in
+    let s = method-size (a .names .now) (a .name-at .now) (a .name-len .now) p (a .params .now) (a .result) h g in
     let r = c .before .before .method-length .ensures in
     (p, h, g, omega arith)
 
@@ -89,9 +89,9 @@ returns-5 c =
     let p = c .before .before .before .before .before .before .before .before .before .before .before .before .before .before .before .before .pre in
     let h = holds (c .before .before .before .before .before .before .before .before .before .are-legal .ensures) (c .before .before .before .before .before .before .before .before .if2 .left) in
     let g = holds (c .before .before .before .before .before .before .before .is-legal .ensures) (c .before .before .before .before .before .before .if3 .left) in
-    let s = method-size (a .names .now) (a .ats .now) (a .lens .now) p (a .params .now) (a .result) h g in
+    let s = method-size (a .names .now) (a .name-at .now) (a .name-len .now) p (a .params .now) (a .result) h g in
     let r = c .before .before .before .before .before .method-length .ensures in
-    wrote-all (method-fits (a .names .now) (a .ats .now) (a .lens .now) (a .params .now) (a .result) (length (a .out .now)) (omega arith) h g (omega arith)) (c .before .before .put-method .ensures) (omega arith)
+    wrote-all (method-fits (a .names .now) (a .name-at .now) (a .name-len .now) (a .params .now) (a .result) (length (a .out .now)) (omega arith) h g (omega arith)) (c .before .before .put-method .ensures) (omega arith)
 
 pub write-checked-method-spec : {M : Type 1} → statement M
 write-checked-method-spec =

@@ -18,7 +18,7 @@ refused-requires c κs = search needs
 returns : tie.Need-returns
 returns c =
     let a = c .before .before .before .before .before .before .before .args in
-    wrote-none 7 (type-illegal (a .names .now) (a .ats .now) (a .lens .now) (a .word) (length (a .out .now)) (fails (c .before .before .is-legal .ensures) (c .before .if1 .taken)))
+    wrote-none 7 (type-illegal (a .names .now) (a .name-at .now) (a .name-len .now) (a .word) (length (a .out .now)) (fails (c .before .before .is-legal .ensures) (c .before .if1 .taken)))
     (λ z. omega arith) (c .refused .ensures)
 
 type-length-requires : tie.Need-type-length-requires
@@ -35,16 +35,16 @@ returns-2 c =
     let a = c .before .before .before .before .before .before .before .before .before .args in
     let p = c .before .before .before .before .before .before .before .before .before .pre in
     let h = holds (c .before .before .before .before .is-legal .ensures) (c .before .before .before .if1 .left) in
-    let s = word-size (a .names .now) (a .ats .now) (a .lens .now) p (a .word) h in
+    let s = word-size (a .names .now) (a .name-at .now) (a .name-len .now) p (a .word) h in
     let r = c .before .before .type-length .ensures in
-    wrote-none 22 (type-long (a .names .now) (a .ats .now) (a .lens .now) (a .word) (length (a .out .now)) h (omega arith)) (λ z. omega arith) (c .refused2 .ensures)
+    wrote-none 22 (type-long (a .names .now) (a .name-at .now) (a .name-len .now) (a .word) (length (a .out .now)) h (omega arith)) (λ z. omega arith) (c .refused2 .ensures)
 
 put-type-requires : tie.Need-put-type-requires
 put-type-requires c κs =
     let a = c .before .before .before .before .before .before .before .before .before .args in
     let p = c .before .before .before .before .before .before .before .before .before .pre in
     let h = holds (c .before .before .before .before .is-legal .ensures) (c .before .before .before .if1 .left) in
-    let s = word-size (a .names .now) (a .ats .now) (a .lens .now) p (a .word) h in
+    let s = word-size (a .names .now) (a .name-at .now) (a .name-len .now) p (a .word) h in
     let r = c .before .before .type-length .ensures in
     (p, h, omega arith)
 
@@ -56,9 +56,9 @@ returns-3 c =
     let a = c .before .before .before .before .before .before .before .before .before .before .before .before .args in
     let p = c .before .before .before .before .before .before .before .before .before .before .before .before .pre in
     let h = holds (c .before .before .before .before .before .before .before .is-legal .ensures) (c .before .before .before .before .before .before .if1 .left) in
-    let s = word-size (a .names .now) (a .ats .now) (a .lens .now) p (a .word) h in
+    let s = word-size (a .names .now) (a .name-at .now) (a .name-len .now) p (a .word) h in
     let r = c .before .before .before .before .before .type-length .ensures in
-    wrote-all (type-fits (a .names .now) (a .ats .now) (a .lens .now) (a .word) (length (a .out .now)) h (omega arith)) (c .before .before .put-type .ensures) (omega arith)
+    wrote-all (type-fits (a .names .now) (a .name-at .now) (a .name-len .now) (a .word) (length (a .out .now)) h (omega arith)) (c .before .before .put-type .ensures) (omega arith)
 
 pub write-checked-type-spec : {M : Type 1} → statement M
 write-checked-type-spec =

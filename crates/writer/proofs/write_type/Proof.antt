@@ -17,13 +17,13 @@ returns : tie.Need-returns
 returns c =
     let a = c .before .before .before .before .before .before .before .args in
     let k = c .before .before .check-names in
-    wrote-none (k .result) (type-unnamed (a .names .now) (a .ats .now) (a .lens .now) (k .result) (k .ensures) (a .word) (length (a .out .now)) (c .before .if1 .taken))
+    wrote-none (k .result) (type-unnamed (a .names .now) (a .name-at .now) (a .name-len .now) (k .result) (k .ensures) (a .word) (length (a .out .now)) (c .before .if1 .taken))
     (c .before .if1 .taken) (c .refused .ensures)
 
 write-checked-type-requires : tie.Need-write-checked-type-requires
 write-checked-type-requires c κs =
     let a = c .before .before .before .before .before .before .before .args in
-    checked (a .names .now) (a .ats .now) (a .lens .now) (sym (c .before .before .check-names .ensures) ∙ c .before .if1 .left)
+    checked (a .names .now) (a .name-at .now) (a .name-len .now) (sym (c .before .before .check-names .ensures) ∙ c .before .if1 .left)
 
 same-length : tie.Need-same-length
 same-length c = search needs
@@ -32,7 +32,7 @@ returns-2 : tie.Need-returns-2
 returns-2 c =
     let a = c .before .before .before .before .before .before .before .before .before .before .args in
     let k = c .before .before .before .before .before .check-names in
-    wrote-as (type-named (a .names .now) (a .ats .now) (a .lens .now) (k .result) (k .ensures) (a .word) (length (a .out .now)) (c .before .before .before .before .if1 .left))
+    wrote-as (type-named (a .names .now) (a .name-at .now) (a .name-len .now) (k .result) (k .ensures) (a .word) (length (a .out .now)) (c .before .before .before .before .if1 .left))
     (c .before .before .write-checked-type .ensures)
 
 pub write-type-spec : {M : Type 1} → statement M
