@@ -78,6 +78,10 @@ pigeon (suc n) l d b =
 
 -- ---- a queue
 
+pub below-more : (n m : ℕ) (l : List ℕ) → n ≤ m → Below n l → Below m l
+below-more n m [] h b = tt
+below-more n m (x ∷ l) h b = (let k = b .0 in omega arith, below-more n m l h (b .1))
+
 -- who is no member
 elem-not-in : (c : ℕ) (q : List ℕ) → elem c q ≡ false → NotIn c q
 unfolding elem

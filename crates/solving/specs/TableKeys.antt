@@ -139,7 +139,8 @@ module _ (a : List ℕ) (n : ℕ) (b : Bound) (t : Table) (y : Holds a n t) (k :
   held-elem : elem (keyOf b) (take n a) ≡ present compareBounds b t
   held-elem = ap (elem (keyOf b)) (y .keys) ∙ sym (keys-present b k t g)
 
-  held-answer : putAnswer a n (keyOf b) ≡ cond (present compareBounds b t) Old (cond (leb room (length t)) Full Added)
+  -- what a put answers
+  pub held-answer : putAnswer a n (keyOf b) ≡ cond (present compareBounds b t) Old (cond (leb room (length t)) Full Added)
   held-answer =
       put-answer a n (keyOf b) held-sorted
       ∙ ap₂ (λ (x : Bool) (z : Bool). cond x Old (cond z Full Added)) held-elem (ap₂ leb (y .size) (y .count))

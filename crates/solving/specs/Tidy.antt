@@ -10,16 +10,17 @@ use Prim.Native.Nat.{ℕ, _+_, _≤_, _<_}
 use native.Mathlib.Omega.{arith}
 use lib.Dec.{eqb}
 use lib.ListN.{length}
-use borrow.Author.Tests.{eqb-true}
+use borrow.Author.Tests.{eqb-true, ltb-true, lt-ltb}
 use Rattle.ty.specs.Types.{ArgType, Primitive, Object, Array, Unknown, element, isConcrete}
 use Rattle.ty.specs.Words.{legalAtBase, legalType}
+use Rattle.ty.specs.Round.{legal-type-more}
 use Rattle.view.specs.View.{numbers}
 use Rattle.lattice.specs.Lattice.{World, Lawful, mostSpecificUpper}
 use Rattle.lattice.specs.Legality.{legal-base, legal-both, joinAll-legal, specific-legal}
 use Rattle.solving.specs.Ordered.{insert, Ascending}
 use Rattle.solving.specs.OrderedLaws.{insert-only, insert-length, insert-ascending}
 use Rattle.solving.specs.Orders.{bounds-total}
-use Rattle.solving.specs.Queue.{Distinct, Below, pigeon, enqueue-distinct, enqueue-below}
+use Rattle.solving.specs.Queue.{Distinct, Below, pigeon, below-more, enqueue-distinct, enqueue-below}
 use Rattle.solving.specs.Inserts.{New, all-keeps-of, run-keeps}
 use Rattle.solving.specs.Chains.{types-only}
 use Rattle.solving.specs.Solving.{Domain, Fallback, Upper, Lower, Exact, Bound, bound, Table, compareBounds, typesOf, TypeState, stateOf, evidence, producedType, orElse, onlyConcrete, elementOf, listOf, arrayElement, arrayOf, producedArray, Pair, Links, partners, Addition, toOne, toEach, arrayRules, additions, room, enqueue, Going, turn, Ended, propagate}
@@ -53,6 +54,49 @@ pub record Among (n : ℕ) (l : Links) : Type 0 where
 -- SO THE QUEUE IS NO LONGER THAN THE COMPONENTS
 pub queue-room : (names n : ℕ) (t : Table) (q : List ℕ) → Tidy names n t q → length q ≤ n
 queue-room names n t q y = pigeon n q (y .distinct) (y .below)
+
+-- ---- kept by what a run does
+
+module _ (names n : ℕ) where
+  -- ONE INSERTION KEEPS IT
+  pub insert-tidy : (b : Bound) (t : Table) (q : List ℕ) → Given names n b → New b t → Tidy names n t q
+      → Tidy names n (insert compareBounds b t) (enqueue (b .component) q)
+  insert-tidy b t q g new y = record {
+    ascends = insert-ascending compareBounds bounds-total b t (y .ascends);
+    fits = omega (arith, insert-length compareBounds b t (new .absent), new .fits);
+    legal = λ x m. ⊎-elim (λ e. subst (LegalBound names n) (sym e) own) (y .legal x) (insert-only compareBounds b x t m);
+    distinct = enqueue-distinct (b .component) q (y .distinct);
+    below = enqueue-below n (b .component) q (g .component) (y .below);
+  }
+    where
+      own : LegalBound names n b
+      own = record { component = g .component; kind = g .kind; type = legal-both names (b .type) (new .flat) (g .base) }
+
+  -- TAKING THE FRONT KEEPS IT
+  pub front-tidy : (root : ℕ) (t : Table) (q : List ℕ) → Tidy names n t (root ∷ q) → Tidy names n t q
+  front-tidy root t q y = record { ascends = y .ascends; fits = y .fits; legal = y .legal; distinct = y .distinct .1; below = y .below .1 }
+
+-- ---- over more names and components: code counts on the limits alone, `Tidy 1024 512`
+
+base-more : (names more : ℕ) (t : ArgType) → names ≤ more → legalAtBase names t ≡ true → legalAtBase more t ≡ true
+unfolding legalAtBase
+base-more names more (Primitive k) m h = h
+base-more names more (Object c) m h = let b = ltb-true c names h in lt-ltb c more (omega arith)
+base-more names more (Array t) m h = base-more names more t m h
+base-more names more (Unknown cs) m h = h
+
+module _ (names more n m : ℕ) (few : names ≤ more) (within : n ≤ m) where
+  pub given-more : (b : Bound) → Given names n b → Given more m b
+  given-more b g = let c = g .component in record { component = omega arith; kind = g .kind; base = base-more names more (b .type) few (g .base) }
+
+  pub tidy-more : (t : Table) (q : List ℕ) → Tidy names n t q → Tidy more m t q
+  tidy-more t q y = record {
+    ascends = y .ascends;
+    fits = y .fits;
+    legal = λ b i. let g = y .legal b i in let c = g .component in record { component = omega arith; kind = g .kind; type = legal-type-more names more (b .type) few (g .type) };
+    distinct = y .distinct;
+    below = below-more n m q within (y .below);
+  }
 
 -- ---- what the rules give, by cases
 
@@ -204,34 +248,16 @@ module _ (w : World) (good : Lawful w) where
         types : (k : ℕ) → AllLegal (typesOf c k t)
         types k u m = y .legal (bound c k u) (types-only c k u t m) .type
 
-    -- ONE INSERTION KEEPS IT
-    pub insert-tidy : (b : Bound) (t : Table) (q : List ℕ) → Given (w .names) n b → New b t → Tidy (w .names) n t q
-        → Tidy (w .names) n (insert compareBounds b t) (enqueue (b .component) q)
-    insert-tidy b t q g new y = record {
-      ascends = insert-ascending compareBounds bounds-total b t (y .ascends);
-      fits = omega (arith, insert-length compareBounds b t (new .absent), new .fits);
-      legal = λ x m. ⊎-elim (λ e. subst (LegalBound (w .names) n) (sym e) own) (y .legal x) (insert-only compareBounds b x t m);
-      distinct = enqueue-distinct (b .component) q (y .distinct);
-      below = enqueue-below n (b .component) q (g .component) (y .below);
-    }
-      where
-        own : LegalBound (w .names) n b
-        own = record { component = g .component; kind = g .kind; type = legal-both (w .names) (b .type) (new .flat) (g .base) }
-
-    -- TAKING THE FRONT KEEPS IT
-    pub front-tidy : (root : ℕ) (t : Table) (q : List ℕ) → Tidy (w .names) n t (root ∷ q) → Tidy (w .names) n t q
-    front-tidy root t q y = record { ascends = y .ascends; fits = y .fits; legal = y .legal; distinct = y .distinct .1; below = y .below .1 }
-
     module _ (l : Links) (among : Among n l) where
       -- SO DOES A TURN
       pub turn-tidy : (root : ℕ) (t : Table) (q : List ℕ) (t′ : Table) (q′ : List ℕ) → turn w l root t q ≡ Going t′ q′ → Tidy (w .names) n t q → Tidy (w .names) n t′ q′
       unfolding turn
       turn-tidy root t q t′ q′ h y =
-          all-keeps-of (Given (w .names) n) (Tidy (w .names) n) insert-tidy (additions w l root (stateOf t root))
+          all-keeps-of (Given (w .names) n) (Tidy (w .names) n) (insert-tidy (w .names) n) (additions w l root (stateOf t root))
           (additions-given (stateOf t root) (tidy-state t q y root) n l among root) t q t′ q′ h y
 
       -- AND A RUN
       pub propagate-tidy : (t t′ : Table) (q′ : List ℕ) (m : ℕ) → propagate w l n t ≡ Ended t′ q′ m → Tidy (w .names) n t (numbers 0 n) → Tidy (w .names) n t′ q′
       unfolding propagate
       propagate-tidy t t′ q′ m h =
-          run-keeps w l (λ k u r. Tidy (w .names) n u r) (λ k root u r u′ r′ e y. turn-tidy root u r u′ r′ e (front-tidy root u r y)) (n + room) 0 t (numbers 0 n) t′ q′ m h
+          run-keeps w l (λ k u r. Tidy (w .names) n u r) (λ k root u r u′ r′ e y. turn-tidy root u r u′ r′ e (front-tidy (w .names) n root u r y)) (n + room) 0 t (numbers 0 n) t′ q′ m h
