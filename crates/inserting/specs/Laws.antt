@@ -1,30 +1,30 @@
 -- WHAT THE SLICES SHOW AFTER AN INSERTION IS WHAT insertBound MAKES OF IT, and so with insertions in a row: a refusal, or the table and the
 -- queue with it. Assumes nothing.
-use mathlib.Core.Path.{_≡_, refl, sym, ap, ap₂, _∙_, subst}
+use mathlib.Core.Path.{_≡_, refl, sym, ap, _∙_, subst}
 use mathlib.Core.Bool.{Bool, true, false, cond}
 use mathlib.Core.List.{List, [], _∷_, _++_, List·Memᴰ, List·Memᴰ·head, List·Memᴰ·tail, List·Memᴰ·not-nil, List·Memᴰ·cases-cons}
 use mathlib.Core.Logic.{⊎-elim}
-use Prim.Native.Nat.{ℕ, zero, suc, _+_, _*_, _^_, _≤_, _<_}
+use Prim.Native.Nat.{ℕ, _+_, _*_, _^_, _≤_, _<_}
 use native.Mathlib.Omega.{arith}
 use lib.Dec.{eqb, leb, ltb}
 use lib.ListN.{length, take, drop}
-use borrow.Author.Tests.{eq-eqb, ne-eqb, eqb-false, ltb-true, ltb-false, leb-false, lt-ltb, le-ltb}
+use borrow.Author.Tests.{eq-eqb, ne-eqb, eqb-false, ltb-false, leb-false, lt-ltb, le-ltb}
 use Rattle.sorted.specs.declared.Put.{Put}
 use Rattle.sorted.specs.declared.Put.the-variants.{Old, New as Added, Full}
 use Rattle.sorted.specs.Sorted.{has, putAnswer, putList, insertIn, grown}
 use Rattle.order.specs.Lists.{elem}
 use Rattle.ty.specs.Types.{ArgType, depth, arrays}
-use Rattle.ty.specs.Words.{legalAtBase, legalType}
+use Rattle.ty.specs.Words.{legalAtBase}
 use Rattle.keys.specs.Rank.{rank, unrank, key}
 use Rattle.keys.specs.Laws.{LegalType, rank-lt, unrank-rank, legal-unrank}
 use Rattle.lattice.specs.Legality.{legal-base, legal-depth, legal-both}
 use Rattle.queue.specs.Laws.{offer-shows, room-for}
 use Rattle.solving.specs.Ordered.{present, insert}
-use Rattle.solving.specs.Inserts.{New, insert-deep, all-refused}
-use Rattle.solving.specs.Tidy.{Given, Tidy, insert-tidy}
+use Rattle.solving.specs.Inserts.{New, all-refused}
+use Rattle.solving.specs.Tidy.{Given, insert-tidy}
 use Rattle.solving.specs.TableKeys.{keyOf, Keyed, tableBy, tidy-keyed, held-answer, put-holds, Holds}
 use Rattle.solving.specs.Solving.{Bound, bound, Table, compareBounds, Addition, toOne, Outcome, Refused, Going, room, enqueue, insertBound, insertAll}
-use Rattle.inserting.specs.Store.{Store, store, refuse, grow, byAnswer, putBound, putAll, deepest, sentTypes, Ranked, Sendable, Good, Ready, Shown}
+use Rattle.inserting.specs.Store.{Store, refuse, grow, byAnswer, putBound, putAll, deepest, sentTypes, Ranked, Sendable, Good, Ready, Shown}
 use Rattle.inserting.specs.declared.Sent.{Sent}
 use Rattle.inserting.specs.declared.Sent.the-variants.{Nothing, Rank, Deep}
 
@@ -182,7 +182,7 @@ module _ (r : ℕ) (k : Ranked r) where
     pub rank-given : c < 512 → kind < 5 → Given 1024 512 (bound c kind (unrank r))
     rank-given l m = record { component = l; kind = m; base = legal-base 1024 (unrank r) (k .legal) }
 
-deepest-depth : 255 < depth deepest
+pub deepest-depth : 255 < depth deepest
 unfolding deepest depth arrays
 deepest-depth = omega arith
 

@@ -1,10 +1,9 @@
 -- One insertion as the code meets it: by the answer of the put, with what the callees leave. Assumes nothing.
-use mathlib.Core.Path.{_≡_, refl, sym, ap, ap₂, _∙_, subst}
-use mathlib.Core.List.{List, [], _∷_}
-use Prim.Native.Nat.{ℕ, _+_, _*_, _^_, _≤_, _<_}
+use mathlib.Core.Path.{_≡_, sym, ap, ap₂, _∙_, subst}
+use mathlib.Core.List.{List}
+use Prim.Native.Nat.{ℕ, _+_, _*_, _^_, _<_}
 use native.Mathlib.Omega.{arith}
 use mathlib.Core.Bool.{false}
-use Rattle.order.specs.Lists.{elem}
 use Rattle.sets.specs.Sets.{member}
 use Rattle.sorted.specs.declared.Put.{Put}
 use Rattle.sorted.specs.declared.Put.the-variants.{Old, New as Added, Full}
@@ -15,7 +14,7 @@ use Rattle.queue.specs.Ring.{offered, ringOffered}
 use Rattle.queue.specs.Laws.{shown-length}
 use Rattle.solving.specs.TableKeys.{keyOf}
 use Rattle.solving.specs.Solving.{Bound, bound, toOne}
-use Rattle.inserting.specs.Store.{Store, store, refusedBy, byAnswer, putBound, putAll, sentTypes, Ranked, Sendable, Ready}
+use Rattle.inserting.specs.Store.{store, refusedBy, byAnswer, putBound, putAll, sentTypes, Ranked, Sendable, Ready}
 use Rattle.inserting.specs.Laws.{put-flat, put-kept, old-new, full-new, rank-flat, key-made, rank-given, queue-fits, none-put, one-put, deep-put}
 use Rattle.inserting.specs.declared.State.{State}
 use Rattle.inserting.specs.declared.Sent.{Sent}

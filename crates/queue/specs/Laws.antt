@@ -8,17 +8,17 @@ use native.Mathlib.Nat.{add-zero, zero-add}
 use native.Mathlib.Numerals.{add-one}
 use native.Mathlib.Omega.{arith}
 use lib.Dec.{eqb}
-use lib.ListN.{length, take, drop, getD, set, length-append, length-set, length-drop, length-replicate}
+use lib.ListN.{length, take, drop, getD, set, length-append, length-set, length-drop}
 use lib.Seq.{getD-set-same, getD-set-other, drop-cons, take-at}
 use borrow.Author.Tests.{eqb-true, eqb-false, eq-eqb, ne-eqb}
 use Rattle.order.specs.Lists.{elem}
-use Rattle.sets.specs.Sets.{member, insert, remove}
+use Rattle.sets.specs.Sets.{member, insert}
 use Rattle.sets.specs.Laws.{member-empty, member-insert, member-remove, length-insert, length-remove}
 use Rattle.view.specs.View.{numbers}
 use Rattle.solving.specs.Runs.{numbers-length}
 use Rattle.solving.specs.Queue.{NotIn, Distinct, Below, pigeon}
 use Rattle.solving.specs.Solving.{enqueue}
-use Rattle.queue.specs.Ring.{line, around, waiting, firstSet, offered, ringOffered, rested, popped, Shows}
+use Rattle.queue.specs.Ring.{line, around, firstSet, offered, ringOffered, rested, popped, Shows}
 use Rattle.queue.specs.declared.Queue.{Queue}
 use Rattle.queue.specs.declared.Popped.{Popped}
 

@@ -1,6 +1,6 @@
 -- A queue in a ring of 512 words: what the contracts cite, and when a ring shows a list. Assumes nothing.
 use mathlib.Core.Path.{_≡_}
-use mathlib.Core.Bool.{Bool, cond}
+use mathlib.Core.Bool.{cond}
 use mathlib.Core.List.{List, [], _∷_}
 use Prim.Native.Nat.{ℕ, zero, suc, _+_, _-_, _≤_, _<_, _%_}
 use lib.ListN.{length, getD, set, replicate}

@@ -101,14 +101,14 @@ module _ (names more n m : ℕ) (few : names ≤ more) (within : n ≤ m) where
 -- ---- what the rules give, by cases
 
 module _ (P : Addition → Type 0) where
-  one-by : (rule kind : ℕ) (ts : List ArgType) (c : ℕ) → ((u : ArgType) → List·Memᴰ u ts → P (record { rule = rule; adds = bound c kind u }))
+  pub one-by : (rule kind : ℕ) (ts : List ArgType) (c : ℕ) → ((u : ArgType) → List·Memᴰ u ts → P (record { rule = rule; adds = bound c kind u }))
       → (a : Addition) → List·Memᴰ a (toOne rule kind ts c) → P a
   unfolding toOne
   one-by rule kind [] c f a m = absurd (List·Memᴰ·not-nil m)
   one-by rule kind (t ∷ ts) c f a m =
       ⊎-elim (λ e. subst P (sym e) (f t (List·Memᴰ·head refl))) (one-by rule kind ts c (λ u n. f u (List·Memᴰ·tail n)) a) (List·Memᴰ·cases-cons m)
 
-  each-by : (rule kind : ℕ) (ts : List ArgType) (cs : List ℕ) → ((c : ℕ) → List·Memᴰ c cs → (u : ArgType) → List·Memᴰ u ts → P (record { rule = rule; adds = bound c kind u }))
+  pub each-by : (rule kind : ℕ) (ts : List ArgType) (cs : List ℕ) → ((c : ℕ) → List·Memᴰ c cs → (u : ArgType) → List·Memᴰ u ts → P (record { rule = rule; adds = bound c kind u }))
       → (a : Addition) → List·Memᴰ a (toEach rule kind ts cs) → P a
   unfolding toEach
   each-by rule kind ts [] f a m = absurd (List·Memᴰ·not-nil m)
@@ -116,7 +116,7 @@ module _ (P : Addition → Type 0) where
       ⊎-elim (one-by rule kind ts c (f c (List·Memᴰ·head refl)) a) (each-by rule kind ts cs (λ d n. f d (List·Memᴰ·tail n)) a)
       (List·Memᴰ·append-cases (toOne rule kind ts c) m)
 
-  arrays-by : (near kind : ℕ) (elements : List ArgType) (far : ℕ) (arrays : List ArgType) (root : ℕ) (ps : List Pair)
+  pub arrays-by : (near kind : ℕ) (elements : List ArgType) (far : ℕ) (arrays : List ArgType) (root : ℕ) (ps : List Pair)
       → ((p : Pair) → List·Memᴰ p ps → p .0 ≡ root → (u : ArgType) → List·Memᴰ u elements → P (record { rule = near; adds = bound (p .1) kind u }))
       → ((p : Pair) → List·Memᴰ p ps → p .1 ≡ root → (u : ArgType) → List·Memᴰ u arrays → P (record { rule = far; adds = bound (p .0) Lower u }))
       → (a : Addition) → List·Memᴰ a (arrayRules near kind elements far arrays root ps) → P a

@@ -1,6 +1,5 @@
 -- `insert_bound` meets its contract: the three answers of a put, and the offer where the bound is new.
 use borrow.Author.Needs.{needs}
-use mathlib.Core.Path.{sym, _∙_}
 use native.Mathlib.Omega.{arith}
 use Rattle.inserting.specs.Laws.{rank-small}
 use Rattle.inserting.specs.Steps.{room-left, insert-old, insert-new, insert-full}

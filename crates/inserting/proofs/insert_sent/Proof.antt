@@ -1,6 +1,6 @@
 -- `insert_sent` meets its contract: nothing, one bound, or 20.
 use borrow.Author.Needs.{needs}
-use mathlib.Core.Path.{sym, _∙_}
+use mathlib.Core.Path.{_∙_}
 use Rattle.inserting.specs.Steps.{sent-none, sent-rank, sent-deep, sent-ranked}
 use Rattle.inserting.proofs.insert_sent.Statement.{statement}
 use Rattle.inserting.proofs.insert_sent.Tie as tie

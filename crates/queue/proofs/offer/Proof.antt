@@ -1,6 +1,6 @@
 -- `offer` meets its contract: who is queued stays where it is, another goes to the back.
 use borrow.Author.Needs.{needs}
-use mathlib.Core.Path.{_≡_, sym, _∙_}
+use mathlib.Core.Path.{sym, _∙_}
 use Prim.Native.Nat.{_+_}
 use native.Mathlib.Omega.{arith}
 use Rattle.queue.specs.Laws.{offered-old, offered-new, ring-old, ring-new}
