@@ -73,6 +73,11 @@ pub record Ranked (r : ℕ) : Type 0 where
   pub legal : LegalType (unrank r)
   pub back : rank (unrank r) ≡ r
 
+-- each number is such a rank
+abbrev pub AllRanked : List ℕ → Type 0
+AllRanked [] = Unit {0}
+AllRanked (r ∷ rs) = Ranked r × AllRanked rs
+
 abbrev pub Sendable : Sent → Type 0
 Sendable Nothing = Unit {0}
 Sendable (Rank r) = Ranked r

@@ -23,9 +23,9 @@ use Rattle.solving.specs.Tidy.{Given, one-by}
 use Rattle.solving.specs.LinkKeys.{pairOf, partners-run}
 use Rattle.solving.specs.Steps.{arrayRule}
 use Rattle.solving.specs.Solving.{Lower, bound, Pair, partners, Addition, toOne, toEach, arrayRules}
-use Rattle.inserting.specs.Store.{Store, putBound, putAll, Ranked, Ready}
+use Rattle.inserting.specs.Store.{Store, putBound, putAll, Ranked, AllRanked, Ready}
 use Rattle.inserting.specs.Laws.{all-put, put-append, AllGiven, all-ready}
-use Rattle.passing.specs.Passes.{second, seconds, AllRanked}
+use Rattle.passing.specs.Passes.{second, seconds}
 
 -- ---- what is sent may be given
 

@@ -13,8 +13,8 @@ ghost use Rattle.solving.specs.Queue.{Below};
 ghost use Rattle.solving.specs.Solving.{partners, toOne, toEach, arrayRules};
 ghost use Rattle.solving.specs.Steps.{arrayRule};
 ghost use Rattle.solving.specs.LinkKeys.{pairOf};
-ghost use Rattle.inserting.specs.Store.{store, putAll, sentTypes, Sendable, Ready};
-ghost use Rattle.passing.specs.Passes.{seconds, AllRanked};
+ghost use Rattle.inserting.specs.Store.{store, putAll, sentTypes, AllRanked, Sendable, Ready};
+ghost use Rattle.passing.specs.Passes.{seconds};
 
 // What is sent, to the second of each link.
 fn send_each(a: &mut [u64], ring: &mut [u64], s: State, links: &[u64], kind: u64, t: Sent) -> State
