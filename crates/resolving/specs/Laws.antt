@@ -5,7 +5,7 @@ use mathlib.Core.Bool.{Bool, true, false, cond, _&&_}
 use mathlib.Core.List.{List, [], _∷_, map, List·Memᴰ, List·Memᴰ·not-nil, List·Memᴰ·cases-cons}
 use mathlib.Core.Logic.{⊎-elim}
 use mathlib.Core.Option.{Option, some, none}
-use Prim.Native.Nat.{ℕ, zero, suc, _+_, _^_, _≤_, _<_}
+use Prim.Native.Nat.{ℕ, suc, _+_, _^_, _≤_, _<_}
 use native.Mathlib.Omega.{arith}
 use native.Mathlib.Numerals.{add-one}
 use lib.ListN.{length, drop, getD, drop-of-length-le}
@@ -18,17 +18,16 @@ use Rattle.ty.specs.Words.{Legal, typeOf, wordOf, legalWord, legalType}
 use Rattle.ty.specs.Round.{type-of-word, legal-of-type, legal-of-word, word-of-type, legal-more}
 use Rattle.ty.specs.Answers.{word, elementWord, maybeWord, element-type}
 use Rattle.tables.specs.declared.Tables.{Tables}
-use Rattle.tables.specs.Table.{view-good}
+use Rattle.tables.specs.Table.{viewOf, view-good}
 use Rattle.lattice.specs.Lattice.{World, Lawful, producerBoundCompatible, joinAll, mostSpecificUpper}
 use Rattle.lattice.specs.World.{present, worldOf, with-lawful}
-use Rattle.tables.specs.Table.{viewOf}
 use Rattle.lattice.specs.Legality.{joinAll-legal, specific-legal}
 use Rattle.joins.specs.Joins.{Fits, AllLegal}
 use Rattle.candidates.specs.Maybe.{LegalMaybe, maybeType, AllLegal as AllWords}
 use Rattle.candidates.specs.Steps.{typesFrom}
 use Rattle.solving.specs.Solving.{producedType, orElse, onlyConcrete, elementOf, arrayElement, resolveState}
 use Rattle.solving.specs.Resolve.{passing, allProduce, producesAll, resolve, resolve-ways}
-use Rattle.resolving.specs.Bounds.{stateIn, keptIf, upperPasses, castPasses, fallbackPasses, fitting, byUpper, byCast, byFallback, byHint, fromFallback, fromCast, fromUpper}
+use Rattle.resolving.specs.Bounds.{stateIn, keptIf, fitting, byUpper, byCast, byFallback, byHint, fromFallback, fromCast, fromUpper}
 
 -- ---- legal words
 
@@ -80,9 +79,6 @@ module _ (t : Tables) (fits : Fits t) (o : Option ArgType) (h : LegalOption (t .
 -- ---- joins and the most specific upper bound of legal words
 
 module _ (pairs marks : List ℕ) (t : Tables) (fits : Fits t) where
-  w : World
-  w = worldOf pairs marks t
-
   option-by : (o : Option ArgType) → ((u : ArgType) → o ≡ some u → legalType (t .names) u ≡ true) → LegalOption (t .names) o
   option-by none h = tt
   option-by (some u) h = h u refl
@@ -172,14 +168,8 @@ module _ (m : MaybeType) (e : m ≡ Nothing) where
   pub or-none : (o : Option ArgType) → o ≡ orElse (maybeType m) o
   or-none o = ap (λ (x : MaybeType). orElse (maybeType x) o) (sym e)
 
-  pub element-none : Nothing ≡ maybeWord (elementOf (maybeType m))
-  element-none = ap (λ (x : MaybeType). maybeWord (elementOf (maybeType x))) (sym e)
-
   pub pass-none : (test : ArgType → Bool) → Nothing ≡ maybeWord (passing (maybeType m) test)
   pass-none test = ap (λ (x : MaybeType). maybeWord (passing (maybeType x) test)) (sym e)
-
-  pub concrete-none : none ≡ onlyConcrete (maybeType m)
-  concrete-none = ap (λ (x : MaybeType). onlyConcrete (maybeType x)) (sym e)
 
   -- and one that does not
   pub way-none : (o p : Option ArgType) → m ≡ maybeWord o → maybeWord p ≡ maybeWord (orElse o p)

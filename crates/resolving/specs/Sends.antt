@@ -1,15 +1,14 @@
 -- What is sent stands for what the rules give: the cases of the code. Assumes nothing.
 use mathlib.Core.Path.{_≡_, refl, sym, ap, _∙_, subst}
 use mathlib.Core.Bool.{Bool, true, false, cond}
-use mathlib.Core.Option.{Option, some, none}
+use mathlib.Core.Option.{some}
 use Prim.Native.Nat.{ℕ, _+_, _*_, _^_, _≤_, _<_}
 use native.Mathlib.Omega.{arith}
 use lib.Dec.{ltb}
 use borrow.Author.Tests.{ltb-true, ltb-false, lt-ltb, le-ltb}
 use Rattle.ty.specs.declared.TypeWord.{TypeWord}
 use Rattle.ty.specs.declared.MaybeType.{MaybeType}
-use Rattle.ty.specs.declared.MaybeType.the-variants.{Is, Nothing}
-use Rattle.ty.specs.declared.Arrayed.{Arrayed}
+use Rattle.ty.specs.declared.MaybeType.the-variants.{Is}
 use Rattle.ty.specs.declared.Arrayed.the-variants.{Of, Deep as TooDeep}
 use Rattle.ty.specs.Types.{ArgType, Array, depth, isConcrete}
 use Rattle.ty.specs.Words.{Legal, typeOf}
@@ -30,13 +29,6 @@ module _ (m : MaybeType) (u : TypeWord) (e : m ≡ Is u) where
 
   pub array-is : arraySent (some (typeOf (u .word))) ≡ arraySent (maybeType m)
   array-is = ap (λ (x : MaybeType). arraySent (maybeType x)) (sym e)
-
-module _ (m : MaybeType) (e : m ≡ Nothing) where
-  pub sent-none : NotSent ≡ typeSent (maybeType m)
-  sent-none = ap (λ (x : MaybeType). typeSent (maybeType x)) (sym e)
-
-  pub array-none : NotSent ≡ arraySent (maybeType m)
-  array-none = ap (λ (x : MaybeType). arraySent (maybeType x)) (sym e)
 
 pub array-concrete : (t : ArgType) (s : Sent) → isConcrete t ≡ true → s ≡ sentAs (Array t) → s ≡ arraySent (some t)
 array-concrete t s e h = h ∙ ap (λ (b : Bool). cond b (sentAs (Array t)) NotSent) (sym e)
