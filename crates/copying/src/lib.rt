@@ -1,0 +1,58 @@
+// What a turn copies before its first insertion: the types of a component's bounds of one kind, as ranks or as type words, out of the
+// sorted keys of a table into a lent slice.
+use keys::key_type;
+ghost use mathlib.Core.Path.{_≡_};
+ghost use Prim.Native.Nat.{_+_, _≤_, _<_};
+ghost use lib.ListN.{length};
+ghost use lib.Seq.{paste};
+ghost use Rattle.sorted.specs.Sorted.{Sorted};
+ghost use Rattle.copying.specs.Copies.{runIn, ranksIn, wordsIn};
+
+// The ranks of some keys, from `at` on.
+fn ranks_at(keys: &[u64], out: &mut [u64], at: usize)
+    requires { ⌜ at + length (now keys) ≤ length (now out) ⌝ }
+    ensures { λ _. ⌜ now (out .exit) ≡ paste (now (out .entry)) at (ranksIn (now (keys .entry))) (length (now (keys .entry))) ⌝ }
+{
+    let mut i: usize = 0;
+    while i < keys.len() {
+        out[at + i] = keys[i] % 4503599627370496;
+        i += 1;
+    }
+}
+
+// The type words of some keys, from `at` on.
+fn words_at(keys: &[u64], out: &mut [u64], at: usize)
+    requires { ⌜ at + length (now keys) ≤ length (now out) ⌝ }
+    ensures { λ _. ⌜ now (out .exit) ≡ paste (now (out .entry)) at (wordsIn (now (keys .entry))) (length (now (keys .entry))) ⌝ }
+{
+    let mut i: usize = 0;
+    while i < keys.len() {
+        let t = key_type(keys[i]);
+        out[at + i] = t.word;
+        i += 1;
+    }
+}
+
+// The ranks of a component's bounds of one kind, ascending, from `at` on; hands back the place after the last.
+pub fn copy_ranks(keys: &[u64], component: u64, kind: u64, out: &mut [u64], at: usize) -> usize
+    requires { ⌜ Sorted (now keys) × (component < 512) × (kind < 8) × (at + length (runIn component kind (now keys)) ≤ length (now out)) ⌝ }
+    ensures { λ r. ⌜ (r ≡ at + length (runIn component kind (now (keys .entry)))) × (now (out .exit) ≡ paste (now (out .entry)) at (ranksIn (runIn component kind (now (keys .entry)))) (length (runIn component kind (now (keys .entry))))) ⌝ }
+{
+    let of = sorted::run(keys, keys.len(), 4503599627370496, component * 8 + kind);
+    let first = of.first;
+    let past = of.past;
+    ranks_at(&keys[first..past], out, at);
+    at + (past - first)
+}
+
+// The same as type words.
+pub fn copy_words(keys: &[u64], component: u64, kind: u64, out: &mut [u64], at: usize) -> usize
+    requires { ⌜ Sorted (now keys) × (component < 512) × (kind < 8) × (at + length (runIn component kind (now keys)) ≤ length (now out)) ⌝ }
+    ensures { λ r. ⌜ (r ≡ at + length (runIn component kind (now (keys .entry)))) × (now (out .exit) ≡ paste (now (out .entry)) at (wordsIn (runIn component kind (now (keys .entry)))) (length (runIn component kind (now (keys .entry))))) ⌝ }
+{
+    let of = sorted::run(keys, keys.len(), 4503599627370496, component * 8 + kind);
+    let first = of.first;
+    let past = of.past;
+    words_at(&keys[first..past], out, at);
+    at + (past - first)
+}

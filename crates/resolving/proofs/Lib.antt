@@ -1,0 +1,2 @@
+-- What is proved of the contracts beside the functions' own proofs.
+pub mod Unique
