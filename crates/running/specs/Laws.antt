@@ -5,7 +5,8 @@ use mathlib.Core.List.{List, [], _∷_, _++_, map}
 use Prim.Native.Nat.{ℕ, suc, _+_, _-_, _≤_, _<_}
 use native.Mathlib.Omega.{arith}
 use native.Mathlib.Numerals.{add-one}
-use lib.ListN.{length, drop}
+use lib.ListN.{length, length-append, length-drop, length-map, take, drop, getD, set}
+use lib.Seq.{drop-cons, set-at, take-suc, append-snoc, length-take-le, take-append-seam}
 use Rattle.view.specs.View.{numbers}
 use Rattle.lattice.specs.Lattice.{World, Lawful}
 use Rattle.queue.specs.Ring.{Shows}
@@ -13,13 +14,36 @@ use Rattle.queue.specs.Laws.{fill-shows, shown-length, pop-front, pop-shows}
 use Rattle.queue.specs.declared.Popped.{Popped}
 use Rattle.solving.specs.Runs.{turn-room}
 use Rattle.solving.specs.Tidy.{Tidy, Among, tidy-more, front-tidy, turn-tidy}
-use Rattle.solving.specs.TableKeys.{Holds, boundOf, tidy-keyed, table-back}
+use Rattle.solving.specs.TableKeys.{Holds, keyOf, keysOf, boundOf, tidy-keyed, table-back}
 use Rattle.solving.specs.Steps.{rest, after, propagate-rest, rest-end, rest-step}
 use Rattle.solving.specs.Solving.{Table, stateOf, Links, additions, Outcome, Refused, Going, room, turn, Finish, Stopped, Ended, propagate}
 use Rattle.inserting.specs.declared.State.{State}
 use Rattle.inserting.specs.Store.{Store, store, putAll, Good, Ready, Shown}
 use Rattle.rules.specs.Turn.{turn-shown}
-use Rattle.running.specs.Running.{started, without, taken, tableIn, Sound, Running, Fronted}
+use Rattle.running.specs.Running.{started, without, taken, tableIn, Sound, Running, Fronted, Leaves}
+
+-- ---- the given bounds
+
+-- one key more
+pub load-more : (given a : List ℕ) (i : ℕ) → i < length given → length given ≤ length a → set (take i given ++ drop i a) i (getD given i 0) ≡ take (i + 1) given ++ drop (i + 1) a
+load-more given a i h k =
+    let v = getD given i 0 in
+    ap (λ (r : List ℕ). set (take i given ++ r) i v) (drop-cons a i 0 (omega arith))
+    ∙ set-at (take i given) (getD a i 0) (drop (suc i) a) v i (length-take-le i given (omega arith))
+    ∙ sym (append-snoc (take i given) v (drop (suc i) a))
+    ∙ ap (λ (x : List ℕ). x ++ drop (suc i) a) (sym (take-suc given i 0 h))
+    ∙ ap (λ (n : ℕ). take n given ++ drop n a) (sym (add-one i))
+
+-- what was loaded is held
+pub load-holds : (given a : List ℕ) (t : Table) → given ≡ keysOf t → length a ≡ room → length t ≤ room → Holds (given ++ drop (length given) a) (length given) t
+load-holds given a t e h k = record {
+  keys = take-append-seam given (drop (length given) a) ∙ e;
+  count = long;
+  size = length-append given (drop (length given) a) ∙ (let z = length-drop (length given) a in let n = long in omega arith);
+}
+  where
+    long : length given ≡ length t
+    long = ap length e ∙ length-map t keyOf
 
 -- ---- what a sound store has
 
@@ -62,10 +86,10 @@ module _ (w : World) (good : Lawful w) (few : w .names ≤ 1024) (n : ℕ) (with
 
     -- ---- THE END: nobody waits
 
-    pub run-ends : s .state .queue .len ≡ 0 → (whole ≡ Ended (tableIn s) [] k) × Holds (s .cells) (s .state .count) (tableIn s)
+    pub run-ends : s .state .queue .len ≡ 0 → (whole ≡ Ended (tableIn s) [] k) × Leaves whole k s
     run-ends e = (
-      y .left ∙ ap (rest w l k t) nobody ∙ rest-end w l k t ∙ ap (λ (x : Table). Ended x [] k) (sym tableIn-is),
-      subst (Holds (s .cells) (s .state .count)) (sym tableIn-is) (y .sound .good .holds),
+      ended,
+      subst (λ (f : Finish). Leaves f k s) (sym ended) (y .sound .good .going, refl, refl, subst (Holds (s .cells) (s .state .count)) (sym tableIn-is) (y .sound .good .holds)),
     )
       where
         tableIn-is : tableIn s ≡ t
@@ -77,6 +101,9 @@ module _ (w : World) (good : Lawful w) (few : w .names ≤ 1024) (n : ℕ) (with
 
         nobody : y .sound .queue ≡ []
         nobody = empty (y .sound .queue) (sym (shown-length (s .ring) (s .state .queue) (y .sound .queue) shown) ∙ e)
+
+        ended : whole ≡ Ended (tableIn s) [] k
+        ended = y .left ∙ ap (rest w l k t) nobody ∙ rest-end w l k t ∙ ap (λ (x : Table). Ended x [] k) (sym tableIn-is)
 
     -- ---- THE FRONT HAS ITS TURN
 
@@ -148,9 +175,11 @@ module _ (w : World) (good : Lawful w) (few : w .names ≤ 1024) (n : ℕ) (with
         )
 
     -- or it was refused, and so is the whole
-    pub run-stops : (s′ .state .refusal ≡ 0 → ⊥) → whole ≡ Stopped (s′ .state .refusal)
+    pub run-stops : (s′ .state .refusal ≡ 0 → ⊥) → (whole ≡ Stopped (s′ .state .refusal)) × ((m : ℕ) → Leaves whole m s′)
     run-stops h = go (turn w l root u q) refl turned
       where
-        go : (o : Outcome) → turn w l root u q ≡ o → Shown s′ o → whole ≡ Stopped (s′ .state .refusal)
-        go (Refused j) f g = y .left ∙ ap (after w l (suc k)) f ∙ ap Stopped (sym (g .0))
+        go : (o : Outcome) → turn w l root u q ≡ o → Shown s′ o → (whole ≡ Stopped (s′ .state .refusal)) × ((m : ℕ) → Leaves whole m s′)
+        go (Refused j) f g =
+            let e = y .left ∙ ap (after w l (suc k)) f ∙ ap Stopped (sym (g .0)) in
+            (e, λ m. subst (λ (z : Finish). Leaves z m s′) (sym e) (refl, h))
         go (Going u′ q′) f g = absurd (h (g .going))

@@ -1,14 +1,14 @@
 -- A run over the slices: what the contracts cite, and the invariant of the loop. Assumes nothing.
 use mathlib.Core.Path.{_≡_}
-use mathlib.Core.List.{List, map}
+use mathlib.Core.List.{List, [], map}
 use Prim.Native.Nat.{ℕ, suc, _<_}
 use lib.ListN.{take, getD}
 use Rattle.lattice.specs.Lattice.{World}
 use Rattle.queue.specs.Ring.{line, firstSet, rested}
-use Rattle.solving.specs.Solving.{Table, Links, turn, Finish}
+use Rattle.solving.specs.Solving.{Table, Links, turn, Finish, Stopped, Ended}
 use Rattle.solving.specs.Steps.{rest, after}
 use Rattle.solving.specs.Tidy.{Tidy}
-use Rattle.solving.specs.TableKeys.{boundOf}
+use Rattle.solving.specs.TableKeys.{boundOf, Holds}
 use Rattle.inserting.specs.declared.State.{State}
 use Rattle.inserting.specs.Store.{Store, Good}
 use Rattle.running.specs.declared.Taken.{Taken}
@@ -45,3 +45,8 @@ pub record Fronted (w : World) (l : Links) (n : ℕ) (whole : Finish) (turns roo
   pub sound : Sound w n s
   pub small : root < n
   pub left : whole ≡ after w l (suc turns) (turn w l root (sound .table) (sound .queue))
+
+-- WHAT A FINISHED RUN LEAVES: its refusal; or its turns, and the final table at the front of the cells
+abbrev pub Leaves : Finish → ℕ → Store → Type 0
+Leaves (Stopped k) turns s = (s .state .refusal ≡ k) × (k ≡ 0 → ⊥)
+Leaves (Ended t q n) turns s = (s .state .refusal ≡ 0) × (turns ≡ n) × (q ≡ []) × Holds (s .cells) (s .state .count) t

@@ -15,6 +15,18 @@ pub struct Taken {
     pub state: State,
 }
 
+// The given bounds, which are only read, at the front of the table.
+pub fn load(given: &[u64], a: &mut [u64])
+    requires { ⌜ length (now given) ≤ length (now a) ⌝ }
+    ensures { λ _. ⌜ now (a .exit) ≡ now (given .entry) ++ drop (length (now (given .entry))) (now (a .entry)) ⌝ }
+{
+    let mut i: usize = 0;
+    while i < given.len() {
+        a[i] = given[i];
+        i += 1;
+    }
+}
+
 // A solve of so many bounds: all components wait, ascending.
 pub fn start(ring: &mut [u64], count: usize, components: u64) -> State
     requires { ⌜ (length (now ring) ≡ 512) × (components ≤ 512) ⌝ }
