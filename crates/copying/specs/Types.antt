@@ -5,7 +5,7 @@ use mathlib.Core.Bool.{true}
 use mathlib.Core.List.{List, [], _∷_, _++_, map, map-append, List·Memᴰ, List·Memᴰ·head, List·Memᴰ·tail}
 use Prim.Native.Nat.{ℕ, zero, suc, _-_, _%_, _^_, _≤_, _<_}
 use native.Mathlib.Omega.{arith}
-use lib.ListN.{take, drop}
+use lib.ListN.{length, getD, take, drop}
 use Rattle.order.specs.Truth.{and-left, and-right, and-both}
 use Rattle.sorted.specs.Sorted.{runOf}
 use Rattle.ty.specs.Types.{ArgType, compare}
@@ -148,3 +148,10 @@ evidence-legal names n t q few y c = go (runIn c Exact (keysOf t)) (copied-legal
     go : (xs : List ℕ) → allLegal names (wordsIn xs) ≡ true → allLegal names (wordsIn (orLower xs (runIn c Lower (keysOf t)))) ≡ true
     go [] h = copied-legal names n t q few y c Lower
     go (x ∷ xs) h = h
+
+-- one word of a list
+pub legal-at : (names : ℕ) (ws : List ℕ) → allLegal names ws ≡ true → (i : ℕ) → i < length ws → legalWord names (getD ws i 0) ≡ true
+unfolding allLegal
+legal-at names [] h i l = absurd (omega arith)
+legal-at names (w ∷ ws) h zero l = and-left (legalWord names w) (allLegal names ws) h
+legal-at names (w ∷ ws) h (suc i) l = legal-at names ws (and-right (legalWord names w) (allLegal names ws) h) i (omega arith)
