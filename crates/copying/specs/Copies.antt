@@ -1,11 +1,12 @@
 -- What the contracts of the copies cite. Assumes nothing.
-use mathlib.Core.List.{List, map}
+use mathlib.Core.List.{List, [], _∷_, _++_, map}
 use Prim.Native.Nat.{ℕ, _-_, _%_, _^_}
 use lib.ListN.{take, drop}
 use Rattle.sorted.specs.declared.Span.{Span}
 use Rattle.sorted.specs.Sorted.{runOf}
 use Rattle.ty.specs.Words.{wordOf}
 use Rattle.keys.specs.Rank.{keyType}
+use Rattle.solving.specs.Solving.{Upper, Lower, Exact}
 use Rattle.solving.specs.TableKeys.{prefix}
 
 -- the entries of a span
@@ -28,3 +29,15 @@ ranksIn keys = map rankIn keys
 
 abbrev pub wordsIn : List ℕ → List ℕ
 wordsIn keys = map wordIn keys
+
+-- the keys of what says what is produced: exact, or lower where none is exact
+abbrev pub orLower : List ℕ → List ℕ → List ℕ
+orLower [] lower = lower
+orLower (x ∷ xs) lower = x ∷ xs
+
+abbrev pub evidenceIn : ℕ → List ℕ → List ℕ
+evidenceIn c keys = orLower (runIn c Exact keys) (runIn c Lower keys)
+
+-- the keys of what goes to the sources
+abbrev pub uppersIn : ℕ → List ℕ → List ℕ
+uppersIn c keys = runIn c Upper keys ++ runIn c Exact keys

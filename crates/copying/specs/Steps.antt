@@ -1,15 +1,17 @@
 -- The copies as the code meets them. Assumes nothing.
-use mathlib.Core.Path.{_≡_, refl, sym, ap, _∙_, subst}
-use mathlib.Core.List.{List, map}
+use mathlib.Core.Path.{_≡_, refl, sym, ap, ap₂, _∙_, subst}
+use mathlib.Core.List.{List, [], _∷_, _++_, map, map-append}
 use Prim.Native.Nat.{ℕ, _+_, _-_, _*_, _^_, _≤_, _<_}
+use native.Mathlib.Nat.{zero-add}
 use native.Mathlib.Omega.{arith}
 use native.Mathlib.Numerals.{add-one}
-use lib.ListN.{length, length-map, length-take, length-drop, take, drop, getD, set, List·getD-map}
-use lib.Seq.{paste, paste-suc, take-length}
+use lib.ListN.{length, length-append, length-map, length-take, length-drop, take, drop, getD, set, List·getD-map}
+use lib.Seq.{paste, paste-suc, take-length, take-append-seam, drop-append-add, drop-drop}
 use Rattle.sorted.specs.declared.Span.{Span}
 use Rattle.sorted.specs.Sorted.{Sorted, runOf}
 use Rattle.sorted.specs.Places.{run-within, place-mono}
-use Rattle.copying.specs.Copies.{between, runIn}
+use Rattle.solving.specs.Solving.{Upper, Lower, Exact}
+use Rattle.copying.specs.Copies.{between, runIn, rankIn, ranksIn, wordsIn, orLower, evidenceIn, uppersIn}
 
 -- one entry more: f of the keys
 module _ (f : ℕ → ℕ) (d : List ℕ) (at : ℕ) (keys : List ℕ) (i v : ℕ) (e : v ≡ f (getD keys i 0)) where
@@ -60,3 +62,54 @@ two-short c k l keys o h =
     let n = run-length c l keys o s refl in
     let p = place-mono ((c * 8 + k) * 2 ^ 52 + 2 ^ 52) ((c * 8 + l) * 2 ^ 52) (take (length keys) keys) (subst Sorted (sym (take-length keys)) o) (omega arith) in
     omega arith
+
+-- ---- one copy after the other
+
+-- from the front, all of a list
+pub paste-front : (d s : List ℕ) → paste d 0 s (length s) ≡ s ++ drop (length s) d
+paste-front d s = ap₂ (λ (x y : List ℕ). x ++ y) (take-length s) (ap (λ (n : ℕ). drop n d) (zero-add (length s)))
+
+-- and another behind it
+pub paste-both : (d xs ys : List ℕ) → paste (paste d 0 xs (length xs)) (0 + length xs) ys (length ys) ≡ paste d 0 (xs ++ ys) (length (xs ++ ys))
+paste-both d xs ys =
+    ap₂ (λ (p : List ℕ) (n : ℕ). paste p n ys (length ys)) (paste-front d xs) (zero-add (length xs))
+    ∙ ap₂ (λ (a b : List ℕ). a ++ b)
+    (ap₂ (λ (a b : List ℕ). a ++ b) (take-append-seam xs (drop (length xs) d)) (take-length ys))
+    (drop-append-add xs (drop (length xs) d) (length ys) ∙ drop-drop (length ys) (length xs) d)
+    ∙ ap (λ (n : ℕ). (xs ++ ys) ++ drop n d) (sym (length-append xs ys)) ∙ sym (paste-front d (xs ++ ys))
+
+module _ (c : ℕ) (keys out : List ℕ) where
+  -- upper, then exact
+  pub uppers-copied : (m : ℕ) (mid last : List ℕ) → m ≡ 0 + length (runIn c Upper keys)
+      → mid ≡ paste out 0 (ranksIn (runIn c Upper keys)) (length (runIn c Upper keys))
+      → last ≡ paste mid m (ranksIn (runIn c Exact keys)) (length (runIn c Exact keys))
+      → last ≡ paste out 0 (ranksIn (uppersIn c keys)) (length (uppersIn c keys))
+  uppers-copied m mid last e f g =
+      let u = runIn c Upper keys in
+      let x = runIn c Exact keys in
+      g ∙ ap₂ (λ (d : List ℕ) (n : ℕ). paste d n (ranksIn x) (length x)) f e
+      ∙ ap₂ (λ (j k : ℕ). paste (paste out 0 (ranksIn u) j) (0 + j) (ranksIn x) k) (sym (length-map u rankIn)) (sym (length-map x rankIn))
+      ∙ paste-both out (ranksIn u) (ranksIn x)
+      ∙ ap₂ (λ (l : List ℕ) (k : ℕ). paste out 0 l k) (sym (map-append rankIn u x)) (ap length (sym (map-append rankIn u x)) ∙ length-map (u ++ x) rankIn)
+
+  pub uppers-length : (m r : ℕ) → m ≡ 0 + length (runIn c Upper keys) → r ≡ m + length (runIn c Exact keys) → r ≡ length (uppersIn c keys)
+  uppers-length m r e f = f ∙ (let z = length-append (runIn c Upper keys) (runIn c Exact keys) in omega arith)
+
+  -- exact, or lower
+  pub evidence-exact : (m : ℕ) → m ≡ 0 + length (runIn c Exact keys) → (m ≡ 0 → ⊥) → runIn c Exact keys ≡ evidenceIn c keys
+  evidence-exact m e h = go (runIn c Exact keys) e
+    where
+      go : (x : List ℕ) → m ≡ 0 + length x → x ≡ orLower x (runIn c Lower keys)
+      go [] k = absurd (h (omega arith))
+      go (y ∷ x) k = refl
+
+  pub evidence-lower : (m : ℕ) → m ≡ 0 + length (runIn c Exact keys) → m ≡ 0 → (runIn c Exact keys ≡ []) × (runIn c Lower keys ≡ evidenceIn c keys)
+  evidence-lower m e h = go (runIn c Exact keys) e
+    where
+      go : (x : List ℕ) → m ≡ 0 + length x → (x ≡ []) × (runIn c Lower keys ≡ orLower x (runIn c Lower keys))
+      go [] k = (refl, refl)
+      go (y ∷ x) k = absurd (omega arith)
+
+  -- nothing copied changes nothing
+  pub paste-none : (mid xs : List ℕ) → xs ≡ [] → mid ≡ paste out 0 (wordsIn xs) (length xs) → mid ≡ out
+  paste-none mid xs e f = f ∙ ap (λ (x : List ℕ). paste out 0 (wordsIn x) (length x)) e

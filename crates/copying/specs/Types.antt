@@ -2,24 +2,25 @@
 -- passes and the queries ask, a rank or a word within the limits. Assumes nothing.
 use mathlib.Core.Path.{_≡_, refl, sym, ap, ap₂, _∙_, subst}
 use mathlib.Core.Bool.{true}
-use mathlib.Core.List.{List, [], _∷_, map, List·Memᴰ, List·Memᴰ·head, List·Memᴰ·tail}
+use mathlib.Core.List.{List, [], _∷_, _++_, map, map-append, List·Memᴰ, List·Memᴰ·head, List·Memᴰ·tail}
 use Prim.Native.Nat.{ℕ, zero, suc, _-_, _%_, _^_, _≤_, _<_}
 use native.Mathlib.Omega.{arith}
-use lib.ListN.{take, drop}
+use lib.ListN.{length, getD, take, drop}
 use Rattle.order.specs.Truth.{and-left, and-right, and-both}
 use Rattle.sorted.specs.Sorted.{runOf}
-use Rattle.ty.specs.Types.{ArgType}
+use Rattle.ty.specs.Types.{ArgType, compare}
 use Rattle.ty.specs.Words.{typeOf, wordOf, legalWord, legalType, allLegal}
 use Rattle.ty.specs.Round.{type-of-word, legal-of-type}
 use Rattle.keys.specs.Rank.{rank, unrank, key, keyType}
 use Rattle.keys.specs.Laws.{rank-lt, key-type}
 use Rattle.solving.specs.Ordered.{Ascending}
-use Rattle.solving.specs.Solving.{Bound, Table, compareBounds, typesOf}
+use Rattle.solving.specs.Orders.{types-ascend}
+use Rattle.solving.specs.Solving.{Upper, Lower, Exact, Bound, Table, compareBounds, typesOf, evidence}
 use Rattle.solving.specs.Tidy.{Tidy}
 use Rattle.solving.specs.TableKeys.{keyOf, keysOf, Keyed, AllKeyed, tidy-keyed, prefix, types-run}
 use Rattle.inserting.specs.Store.{Ranked, AllRanked}
 use Rattle.inserting.specs.Laws.{ranked}
-use Rattle.copying.specs.Copies.{runIn, rankIn, wordIn, ranksIn, wordsIn}
+use Rattle.copying.specs.Copies.{runIn, rankIn, wordIn, ranksIn, wordsIn, orLower, evidenceIn, uppersIn}
 
 -- ---- of each key
 
@@ -102,3 +103,55 @@ copied-legal names n t q few y c k =
     (λ x xs ys h i. and-both (legalWord names (wordIn x)) (allLegal names (wordsIn ys)) (and-left (legalWord names (wordIn x)) (allLegal names (wordsIn xs)) h) i)
     (λ x xs h. and-right (legalWord names (wordIn x)) (allLegal names (wordsIn xs)) h) c k (keysOf t)
     (keys-legal names few t (tidy-keyed names n t q few y) (λ b m. y .legal b m .type))
+
+-- ---- the copies that a turn makes of two kinds
+
+ranked-both : (xs ys : List ℕ) → AllRanked xs → AllRanked ys → AllRanked (xs ++ ys)
+ranked-both [] ys g h = h
+ranked-both (x ∷ xs) ys g h = (g .0, ranked-both xs ys (g .1) h)
+
+module _ (t : Table) (g : AllKeyed t) (o : Ascending compareBounds t) (c : ℕ) where
+  -- WHAT GOES TO THE SOURCES
+  pub copied-uppers : map unrank (ranksIn (uppersIn c (keysOf t))) ≡ typesOf c Upper t ++ typesOf c Exact t
+  copied-uppers =
+      let u = runIn c Upper (keysOf t) in
+      let x = runIn c Exact (keysOf t) in
+      ap (map unrank) (map-append rankIn u x) ∙ map-append unrank (ranksIn u) (ranksIn x)
+      ∙ ap₂ _++_ (copied-ranks t g o c Upper (omega arith)) (copied-ranks t g o c Exact (omega arith))
+
+  pub uppers-ranked : AllRanked (ranksIn (uppersIn c (keysOf t)))
+  uppers-ranked =
+      let u = runIn c Upper (keysOf t) in
+      let x = runIn c Exact (keysOf t) in
+      subst AllRanked (sym (map-append rankIn u x))
+      (ranked-both (ranksIn u) (ranksIn x) (copied-ranked t g o c Upper (omega arith)) (copied-ranked t g o c Exact (omega arith)))
+
+  -- WHAT SAYS WHAT IS PRODUCED
+  pub copied-evidence : map typeOf (wordsIn (evidenceIn c (keysOf t))) ≡ evidence (typesOf c Exact t) (typesOf c Lower t)
+  copied-evidence = go (runIn c Exact (keysOf t)) (copied-words t g o c Exact (omega arith))
+    where
+      go : (xs : List ℕ) → map typeOf (wordsIn xs) ≡ typesOf c Exact t
+          → map typeOf (wordsIn (orLower xs (runIn c Lower (keysOf t)))) ≡ evidence (typesOf c Exact t) (typesOf c Lower t)
+      go [] e = copied-words t g o c Lower (omega arith) ∙ ap (λ (l : List ArgType). evidence l (typesOf c Lower t)) e
+      go (x ∷ xs) e = ap (λ (l : List ArgType). evidence l (typesOf c Lower t)) e
+
+pub evidence-ascends : (c : ℕ) (t : Table) → Ascending compareBounds t → Ascending compare (evidence (typesOf c Exact t) (typesOf c Lower t))
+evidence-ascends c t o = go (typesOf c Exact t) (types-ascend c Exact t o)
+  where
+    go : (xs : List ArgType) → Ascending compare xs → Ascending compare (evidence xs (typesOf c Lower t))
+    go [] h = types-ascend c Lower t o
+    go (x ∷ xs) h = h
+
+pub evidence-legal : (names n : ℕ) (t : Table) (q : List ℕ) → names ≤ 1024 → Tidy names n t q → (c : ℕ) → allLegal names (wordsIn (evidenceIn c (keysOf t))) ≡ true
+evidence-legal names n t q few y c = go (runIn c Exact (keysOf t)) (copied-legal names n t q few y c Exact)
+  where
+    go : (xs : List ℕ) → allLegal names (wordsIn xs) ≡ true → allLegal names (wordsIn (orLower xs (runIn c Lower (keysOf t)))) ≡ true
+    go [] h = copied-legal names n t q few y c Lower
+    go (x ∷ xs) h = h
+
+-- one word of a list
+pub legal-at : (names : ℕ) (ws : List ℕ) → allLegal names ws ≡ true → (i : ℕ) → i < length ws → legalWord names (getD ws i 0) ≡ true
+unfolding allLegal
+legal-at names [] h i l = absurd (omega arith)
+legal-at names (w ∷ ws) h zero l = and-left (legalWord names w) (allLegal names ws) h
+legal-at names (w ∷ ws) h (suc i) l = legal-at names ws (and-right (legalWord names w) (allLegal names ws) h) i (omega arith)

@@ -6,7 +6,7 @@ ghost use Prim.Native.Nat.{_+_, _≤_, _<_};
 ghost use lib.ListN.{length};
 ghost use lib.Seq.{paste};
 ghost use Rattle.sorted.specs.Sorted.{Sorted};
-ghost use Rattle.copying.specs.Copies.{runIn, ranksIn, wordsIn};
+ghost use Rattle.copying.specs.Copies.{runIn, ranksIn, wordsIn, evidenceIn, uppersIn};
 
 // The ranks of some keys, from `at` on.
 fn ranks_at(keys: &[u64], out: &mut [u64], at: usize)
@@ -55,4 +55,25 @@ pub fn copy_words(keys: &[u64], component: u64, kind: u64, out: &mut [u64], at: 
     let past = of.past;
     words_at(&keys[first..past], out, at);
     at + (past - first)
+}
+
+// The types that say what is produced, as words from the front on: the exact ones, or the lower ones where none is exact.
+pub fn copy_evidence(keys: &[u64], component: u64, out: &mut [u64]) -> usize
+    requires { ⌜ Sorted (now keys) × (component < 512) × (length (now keys) ≤ length (now out)) ⌝ }
+    ensures { λ r. ⌜ (r ≡ length (evidenceIn component (now (keys .entry)))) × (now (out .exit) ≡ paste (now (out .entry)) 0 (wordsIn (evidenceIn component (now (keys .entry)))) (length (evidenceIn component (now (keys .entry))))) ⌝ }
+{
+    let exact = copy_words(keys, component, 4, out, 0);
+    if exact != 0 {
+        return exact;
+    }
+    copy_words(keys, component, 3, out, 0)
+}
+
+// The types that go to the sources, as ranks from the front on: the upper ones, then the exact ones.
+pub fn copy_uppers(keys: &[u64], component: u64, out: &mut [u64]) -> usize
+    requires { ⌜ Sorted (now keys) × (component < 512) × (length (now keys) ≤ length (now out)) ⌝ }
+    ensures { λ r. ⌜ (r ≡ length (uppersIn component (now (keys .entry)))) × (now (out .exit) ≡ paste (now (out .entry)) 0 (ranksIn (uppersIn component (now (keys .entry)))) (length (uppersIn component (now (keys .entry))))) ⌝ }
+{
+    let upper = copy_ranks(keys, component, 2, out, 0);
+    copy_ranks(keys, component, 4, out, upper)
 }

@@ -24,7 +24,7 @@ use Rattle.solving.specs.Inserts.{New, all-refused}
 use Rattle.solving.specs.Tidy.{Given, insert-tidy}
 use Rattle.solving.specs.TableKeys.{keyOf, Keyed, tableBy, tidy-keyed, held-answer, put-holds, Holds}
 use Rattle.solving.specs.Solving.{Bound, bound, Table, compareBounds, Addition, toOne, Outcome, Refused, Going, room, enqueue, insertBound, insertAll}
-use Rattle.inserting.specs.Store.{Store, refuse, grow, byAnswer, putBound, putAll, deepest, sentTypes, Ranked, Sendable, Good, Ready, Shown}
+use Rattle.inserting.specs.Store.{Store, refuse, grow, byAnswer, putBound, putAll, deepest, sentTypes, sentOf, Ranked, Sendable, Good, Ready, Shown}
 use Rattle.inserting.specs.declared.Sent.{Sent}
 use Rattle.inserting.specs.declared.Sent.the-variants.{Nothing, Rank, Deep}
 
@@ -189,6 +189,15 @@ deepest-depth = omega arith
 deepest-base : legalAtBase 1024 deepest ≡ true
 unfolding deepest legalAtBase arrays
 deepest-base = refl
+
+-- a type that a rule may give can be sent
+pub sent-sendable : (t : ArgType) → legalAtBase 1024 t ≡ true → Sendable (sentOf t)
+unfolding sentOf
+sent-sendable t h = go (ltb 255 (depth t)) refl
+  where
+    go : (b : Bool) → ltb 255 (depth t) ≡ b → Sendable (cond b Deep (Rank (rank t)))
+    go true e = tt
+    go false e = ranked t (legal-both 1024 t (ltb-false 255 (depth t) e) h)
 
 -- each type that is sent may be given
 pub sent-base : (t : Sent) → Sendable t → (u : ArgType) → List·Memᴰ u (sentTypes t) → legalAtBase 1024 u ≡ true

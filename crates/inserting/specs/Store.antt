@@ -68,6 +68,10 @@ sentTypes Nothing = []
 sentTypes (Rank r) = unrank r ∷ []
 sentTypes Deep = deepest ∷ []
 
+-- how a type is sent: by its rank, or the mark of what is too deep
+unfoldable pub sentOf : ArgType → Sent
+sentOf t = cond (ltb 255 (depth t)) Deep (Rank (rank t))
+
 -- the rank of a type within the limits
 pub record Ranked (r : ℕ) : Type 0 where
   pub legal : LegalType (unrank r)

@@ -14,10 +14,9 @@ use Rattle.keys.specs.Laws.{unrank-rank}
 use Rattle.lattice.specs.Legality.{legal-both}
 use Rattle.solving.specs.Steps.{arrayRule}
 use Rattle.solving.specs.Solving.{Lower, bound, Pair, toOne, toEach, arrayRules}
-use Rattle.inserting.specs.declared.Sent.{Sent}
 use Rattle.inserting.specs.declared.Sent.the-variants.{Rank, Deep}
-use Rattle.inserting.specs.Store.{Store, putBound, putAll, sentTypes, Sendable}
-use Rattle.inserting.specs.Laws.{put-deep, put-append, ranked, deepest-depth}
+use Rattle.inserting.specs.Store.{Store, putBound, putAll, sentTypes, sentOf}
+use Rattle.inserting.specs.Laws.{put-deep, put-append, deepest-depth}
 
 -- two types that go in alike: the same, or both too deep
 abbrev pub Twin : ArgType → ArgType → Type 0
@@ -77,10 +76,6 @@ module _ (near near′ kind : ℕ) (es fs : List ArgType) (g : Alike es fs) (far
 
 -- ---- how a type is sent
 
--- its rank, or the mark of what is too deep
-unfoldable pub sentOf : ArgType → Sent
-sentOf t = cond (ltb 255 (depth t)) Deep (Rank (rank t))
-
 module _ (t : ArgType) (h : legalAtBase 1024 t ≡ true) where
   pub sent-alike : Alike (sentTypes (sentOf t)) (t ∷ [])
   unfolding sentOf
@@ -89,11 +84,3 @@ module _ (t : ArgType) (h : legalAtBase 1024 t ≡ true) where
       go : (b : Bool) → ltb 255 (depth t) ≡ b → Alike (sentTypes (cond b Deep (Rank (rank t)))) (t ∷ [])
       go true e = (inr (deepest-depth, ltb-true 255 (depth t) e), tt)
       go false e = (inl (unrank-rank t (legal-both 1024 t (ltb-false 255 (depth t) e) h)), tt)
-
-  pub sent-sendable : Sendable (sentOf t)
-  unfolding sentOf
-  sent-sendable = go (ltb 255 (depth t)) refl
-    where
-      go : (b : Bool) → ltb 255 (depth t) ≡ b → Sendable (cond b Deep (Rank (rank t)))
-      go true e = tt
-      go false e = ranked t (legal-both 1024 t (ltb-false 255 (depth t) e) h)

@@ -1,6 +1,10 @@
--- Bounds, pairs and types are totally ordered. Assumes nothing.
+-- Bounds, pairs and types are totally ordered, and the types of a kind in a table stand in their order. Assumes nothing.
 use mathlib.Core.Path.{_≡_, refl, sym, ap, ap₂, _∙_}
+use mathlib.Core.Bool.{Bool, true, false, cond}
+use mathlib.Core.List.{[], _∷_}
 use mathlib.Core.Logic.{_⊎_, inl, inr}
+use lib.Dec.{eqb}
+use borrow.Author.Tests.{eqb-true}
 use Prim.Native.Nat.{ℕ}
 use Rattle.order.specs.Laws.{less-not-equal, less-not-greater, equal-not-greater, numbers-same, equal-numbers, numbers-swap, numbers-trans}
 use Rattle.order.specs.Compare.{then, compareNumbers, flip}
@@ -8,8 +12,9 @@ use Rattle.order.specs.declared.Order.{Order}
 use Rattle.order.specs.declared.Order.the-variants.{Less, Equal, Greater}
 use Rattle.ty.specs.Types.{ArgType, compare}
 use Rattle.ty.specs.Order.{compare-same, compare-equal, compare-swap, compare-trans}
-use Rattle.solving.specs.OrderedLaws.{Total}
-use Rattle.solving.specs.Solving.{Bound, compareBounds, comparePairs}
+use Rattle.solving.specs.Ordered.{After, Ascending}
+use Rattle.solving.specs.OrderedLaws.{Total, after-ascending, after-skip}
+use Rattle.solving.specs.Solving.{Bound, Table, compareBounds, typesOf, comparePairs}
 
 pub numbers-total : Total compareNumbers
 numbers-total = record { same = numbers-same; equal = equal-numbers; swap = numbers-swap; trans = numbers-trans }
@@ -89,3 +94,42 @@ bounds-total = record {
   swap = λ a b. parts-total .swap (parts a) (parts b);
   trans = λ a b c. parts-total .trans (parts a) (parts b) (parts c);
 }
+
+-- ---- THE TYPES OF A KIND STAND IN THEIR ORDER
+
+less-type : (a b : Bound) → a .component ≡ b .component → a .kind ≡ b .kind → compareBounds a b ≡ Less → compare (a .type) (b .type) ≡ Less
+unfolding compareBounds
+less-type a b e f h =
+    ap₂ (λ (o p : Order). then o (then p (compare (a .type) (b .type))))
+    (sym (ap (compareNumbers (a .component)) (sym e) ∙ numbers-same (a .component)))
+    (sym (ap (compareNumbers (a .kind)) (sym f) ∙ numbers-same (a .kind)))
+    ∙ h
+
+module _ (c k : ℕ) where
+  types-after : (b : Bound) → b .component ≡ c → b .kind ≡ k → (t : Table) → After compareBounds b t → After compare (b .type) (typesOf c k t)
+  unfolding typesOf
+  types-after b e f [] g = tt
+  types-after b e f (x ∷ t) g =
+      go (eqb (x .component) c) refl (eqb (x .kind) k) refl (types-after b e f t (after-skip compareBounds bounds-total b x t (g .0) (g .1)))
+      (λ p q. types-after x p q t (g .1))
+    where
+      go : (u : Bool) → eqb (x .component) c ≡ u → (v : Bool) → eqb (x .kind) k ≡ v → After compare (b .type) (typesOf c k t)
+          → (x .component ≡ c → x .kind ≡ k → After compare (x .type) (typesOf c k t))
+          → After compare (b .type) (cond u (cond v (x .type ∷ typesOf c k t) (typesOf c k t)) (typesOf c k t))
+      go true p true q skip next =
+          let i = eqb-true (x .component) c p in
+          let j = eqb-true (x .kind) k q in
+          (less-type b x (e ∙ sym i) (f ∙ sym j) (g .0), next i j)
+      go true p false q skip next = skip
+      go false p v q skip next = skip
+
+  pub types-ascend : (t : Table) → Ascending compareBounds t → Ascending compare (typesOf c k t)
+  unfolding typesOf
+  types-ascend [] g = tt
+  types-ascend (b ∷ t) g = go (eqb (b .component) c) refl (eqb (b .kind) k) refl (types-ascend t (after-ascending compareBounds bounds-total b t g))
+    where
+      go : (u : Bool) → eqb (b .component) c ≡ u → (v : Bool) → eqb (b .kind) k ≡ v → Ascending compare (typesOf c k t)
+          → Ascending compare (cond u (cond v (b .type ∷ typesOf c k t) (typesOf c k t)) (typesOf c k t))
+      go true p true q ih = types-after b (eqb-true (b .component) c p) (eqb-true (b .kind) k q) t g
+      go true p false q ih = ih
+      go false p v q ih = ih
