@@ -113,3 +113,11 @@ module _ (c : ℕ) (keys out : List ℕ) where
   -- nothing copied changes nothing
   pub paste-none : (mid xs : List ℕ) → xs ≡ [] → mid ≡ paste out 0 (wordsIn xs) (length xs) → mid ≡ out
   paste-none mid xs e f = f ∙ ap (λ (x : List ℕ). paste out 0 (wordsIn x) (length x)) e
+
+-- THE EVIDENCE IS NO LONGER THAN THE TABLE
+pub evidence-short : (c : ℕ) (keys : List ℕ) → Sorted keys → length (evidenceIn c keys) ≤ length keys
+evidence-short c keys o = go (runIn c Exact keys) (run-short c Exact keys o)
+  where
+    go : (xs : List ℕ) → length xs ≤ length keys → length (orLower xs (runIn c Lower keys)) ≤ length keys
+    go [] h = run-short c Lower keys o
+    go (x ∷ xs) h = h
