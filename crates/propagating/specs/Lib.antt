@@ -1,0 +1,2 @@
+-- What a run asks, and its loop.
+pub mod Propagating
