@@ -26,10 +26,12 @@ use Rattle.methods.specs.Method.{Method, Whole, Broken, pickM, readMethod, read
 use Rattle.methods.specs.Answers.{foundMethod, refusedMethod, methodAnswer, methodOf}
 use Rattle.writer.specs.Print.{printWord, printMethodWords}
 use Rattle.rows.specs.Rows.{allBelow}
-use Rattle.columns.specs.Given.{Given, even, table}
+use Rattle.columns.specs.Given.{Given, even}
 use Rattle.tableview.specs.TableRows.{Rows, rowsView, rowsIn}
+use Rattle.tableview.specs.RowRefusals.{tableRefusal}
 use Rattle.tableview.specs.Canonical.{columnsOf, rows-back}
 use Rattle.tableview.specs.Domain.{InDomain, Aligned, Placed, even-exactly, table-exactly, object-there, rows-aligned, rows-placed}
+use Rattle.tableview.specs.Refused.{table-refusal}
 use Rattle.questions.specs.Questions.{goodNumbers, tableChecks, refusalOf}
 use Rattle.questions.specs.Laws.{once, are-classes, are-types}
 use Rattle.questionlaws.specs.Accepted.{NumbersIn}
@@ -94,28 +96,28 @@ numbers-good true n a b = (are-types n a b true refl, λ w. rw (w .0, w .1))
 pub question-exactly : (g : Given) (types : Bool) (a b room : ℕ) → (refusalOf g types (a ∷ b ∷ []) room ≡ 0) ↔ Asking g types a b room
 unfolding refusalOf tableChecks firstRefusal rowsView
 question-exactly g types a b room = (
-  λ h. to (ltb room 8192) refl (even g) refl (eqb (table g .refusal) 0) refl (goodNumbers types (length (rowsIn g .names)) (a ∷ b ∷ [])) refl (eqb (rowsView (rowsIn g) .object) (2 ^ 64 - 1)) refl types h,
+  λ h. to (ltb room 8192) refl (even g) refl (eqb (tableRefusal g) 0) refl (goodNumbers types (length (rowsIn g .names)) (a ∷ b ∷ [])) refl (eqb (rowsView (rowsIn g) .object) (2 ^ 64 - 1)) refl types h,
   λ w. rw (
     le-ltb room 8192 (w .room-there),
     even-exactly g .1 (w .aligned),
-    table-exactly g (w .aligned) .1 (w .placed, w .rows .limits),
+    sym (table-refusal g) ∙ table-exactly g (w .aligned) .1 (w .placed, w .rows .limits),
     numbers-good types (length (rowsIn g .names)) a b .1 (w .numbers),
     ne-eqb (rowsView (rowsIn g) .object) (2 ^ 64 - 1) (object-there (rowsIn g) (w .rows .limits .few-names) .1 (w .rows .object-named)),
   ),
 )
   where
-    to : (s : Bool) → ltb room 8192 ≡ s → (e : Bool) → even g ≡ e → (c : Bool) → eqb (table g .refusal) 0 ≡ c
+    to : (s : Bool) → ltb room 8192 ≡ s → (e : Bool) → even g ≡ e → (c : Bool) → eqb (tableRefusal g) 0 ≡ c
         → (d : Bool) → goodNumbers types (length (rowsIn g .names)) (a ∷ b ∷ []) ≡ d → (o : Bool) → eqb (rowsView (rowsIn g) .object) (2 ^ 64 - 1) ≡ o → (k : Bool)
-        → cond s 22 (cond (not e) 3 (cond (not c) (table g .refusal) (cond (not d) (cond k 7 6) (cond o 9 0)))) ≡ 0 → Asking g types a b room
+        → cond s 22 (cond (not e) 3 (cond (not c) (tableRefusal g) (cond (not d) (cond k 7 6) (cond o 9 0)))) ≡ 0 → Asking g types a b room
     to true es e ee c ec d ed o eo k q = absurd (omega arith)
     to false es false ee c ec d ed o eo k q = absurd (omega arith)
-    to false es true ee false ec d ed o eo k q = absurd (eqb-false (table g .refusal) 0 ec q)
+    to false es true ee false ec d ed o eo k q = absurd (eqb-false (tableRefusal g) 0 ec q)
     to false es true ee true ec false ed o eo true q = absurd (omega arith)
     to false es true ee true ec false ed o eo false q = absurd (omega arith)
     to false es true ee true ec true ed true eo k q = absurd (omega arith)
     to false es true ee true ec true ed false eo k q =
         let al = even-exactly g .0 ee in
-        let t = table-exactly g al .0 (eqb-true (table g .refusal) 0 ec) in
+        let t = table-exactly g al .0 (table-refusal g ∙ eqb-true (tableRefusal g) 0 ec) in
         record {
           room-there = ltb-false room 8192 es;
           aligned = al;

@@ -17,8 +17,10 @@ use Rattle.lattice.specs.World.{with-lawful}
 use Rattle.columns.specs.Given.{Given, even, table}
 use Rattle.columns.specs.GivenLaws.{good-in, object-known}
 use Rattle.tableview.specs.TableRows.{rowsView, rowsWorld, rowsIn}
+use Rattle.tableview.specs.RowRefusals.{tableRefusal}
 use Rattle.tableview.specs.Inner.{viewIn}
 use Rattle.tableview.specs.Agrees.{view-rows}
+use Rattle.tableview.specs.Refused.{table-refusal}
 use Rattle.questions.specs.declared.Question.{Question}
 use Rattle.questions.specs.declared.Question.the-variants.{Relation}
 use Rattle.questions.specs.Questions.{ofTypes, goodNumbers, tableChecks, refusalOf, questionRefusal, ancestorsRefusal}
@@ -31,7 +33,7 @@ NumbersIn true names a b = (legalWord names a ≡ true) × (legalWord names b �
 
 pub record Accepted (g : Given) (q : Question) (a b : ℕ) : Type 0 where
   pub columns : even g ≡ true
-  pub taken : table g .refusal ≡ 0
+  pub taken : tableRefusal g ≡ 0
   pub good : Good (rowsView (rowsIn g))
   pub lawful : Lawful (rowsWorld (rowsIn g))
   pub object-in : rowsView (rowsIn g) .object < rowsView (rowsIn g) .names
@@ -42,27 +44,27 @@ pub record Accepted (g : Given) (q : Question) (a b : ℕ) : Type 0 where
 -- a class table that is taken and has java/lang/Object
 record Taken (g : Given) (types : Bool) (numbers : List ℕ) : Type 0 where
   columns : even g ≡ true
-  taken : table g .refusal ≡ 0
+  taken : tableRefusal g ≡ 0
   numbers-good : goodNumbers types (rowsView (rowsIn g) .names) numbers ≡ true
   object-there : rowsView (rowsIn g) .object ≡ 2 ^ 64 - 1 → ⊥
 
 taken-by : (g : Given) (types : Bool) (numbers : List ℕ) (room : ℕ) → refusalOf g types numbers room ≡ 0 → Taken g types numbers
 unfolding refusalOf tableChecks firstRefusal
 taken-by g types numbers room h =
-    go (ltb room 8192) (even g) refl (eqb (table g .refusal) 0) refl (goodNumbers types (rowsView (rowsIn g) .names) numbers) refl (eqb (rowsView (rowsIn g) .object) (2 ^ 64 - 1)) refl types h
+    go (ltb room 8192) (even g) refl (eqb (tableRefusal g) 0) refl (goodNumbers types (rowsView (rowsIn g) .names) numbers) refl (eqb (rowsView (rowsIn g) .object) (2 ^ 64 - 1)) refl types h
   where
-    go : (a b : Bool) → even g ≡ b → (c : Bool) → eqb (table g .refusal) 0 ≡ c → (d : Bool) → goodNumbers types (rowsView (rowsIn g) .names) numbers ≡ d
+    go : (a b : Bool) → even g ≡ b → (c : Bool) → eqb (tableRefusal g) 0 ≡ c → (d : Bool) → goodNumbers types (rowsView (rowsIn g) .names) numbers ≡ d
         → (o : Bool) → eqb (rowsView (rowsIn g) .object) (2 ^ 64 - 1) ≡ o → (k : Bool)
-        → cond a 22 (cond (not b) 3 (cond (not c) (table g .refusal) (cond (not d) (cond k 7 6) (cond o 9 0)))) ≡ 0 → Taken g types numbers
+        → cond a 22 (cond (not b) 3 (cond (not c) (tableRefusal g) (cond (not d) (cond k 7 6) (cond o 9 0)))) ≡ 0 → Taken g types numbers
     go true b eb c ec d ed o eo k q = absurd (omega arith)
     go false false eb c ec d ed o eo k q = absurd (omega arith)
-    go false true eb false ec d ed o eo k q = absurd (eqb-false (table g .refusal) 0 ec q)
+    go false true eb false ec d ed o eo k q = absurd (eqb-false (tableRefusal g) 0 ec q)
     go false true eb true ec false ed o eo true q = absurd (omega arith)
     go false true eb true ec false ed o eo false q = absurd (omega arith)
     go false true eb true ec true ed true eo k q = absurd (omega arith)
     go false true eb true ec true ed false eo k q = record {
       columns = eb;
-      taken = eqb-true (table g .refusal) 0 ec;
+      taken = eqb-true (tableRefusal g) 0 ec;
       numbers-good = ed;
       object-there = eqb-false (rowsView (rowsIn g) .object) (2 ^ 64 - 1) eo;
     }
@@ -83,7 +85,7 @@ numbers-are true names a b h = are-types names a b true refl h
 from-taken : (g : Given) (q : Question) (a b : ℕ) → Taken g (ofTypes q) (a ∷ b ∷ []) → Accepted g q a b
 unfolding rowsWorld
 from-taken g q a b t =
-    let good = good-rows g (t .columns) (t .taken) (t .object-there) in
+    let good = good-rows g (t .columns) (table-refusal g ∙ t .taken) (t .object-there) in
     record {
       columns = t .columns;
       taken = t .taken;

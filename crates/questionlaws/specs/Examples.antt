@@ -8,20 +8,20 @@ use Rattle.order.specs.Lists.{elem}
 use Rattle.order.specs.Compare.{compareNumbers, compareLists}
 use Rattle.utf8.specs.Utf8.{table, within, matches, firstMatch, sequence, scan, validPrefix, wellFormed}
 use Rattle.sets.specs.Sets as sets
-use Rattle.sets.specs.Sets.{bit, at, member, insert, remove, clear, members}
+use Rattle.sets.specs.Sets.{bit, at, member, insert, members}
 use Rattle.sorted.specs.Sorted.{insertSorted, put}
 use Rattle.checks.specs.Checks.{firstRefusal}
 use Rattle.ty.specs.Types.{arrays, compare, categories}
 use Rattle.ty.specs.Words.{unpack, pack, listOf, goodDigits, goodUnknown, baseOf, typeOf, wordOf, legalBase, legalWord, allLegal}
-use Rattle.names.specs.Names.{nameChecks, checkName}
+use Rattle.names.specs.Names.{placeGood, nameChecks, checkRow, checkRows}
 use Rattle.view.specs.View.{insertAll, withParents, grow, level, reached, reach, steps, distance, numberOf, ancestor, allRecorded, complete, relation, relationNumber, castByFacts, cast, common, below, anyBelow, lowest, nearer, nearest, numbers, candidates, supertype}
 use Rattle.lattice.specs.Lattice.{sameType, hasAll, unknownAccepts, inEither, unknownUnion, primitiveAssignable, assignableApart, isAssignable, narrow, underDouble, joinPrimitive, joinKnown, joinApart, join, arrayParent, joinArrayClass}
-use Rattle.rows.specs.Rows.{objectName, cloneableName, serializableName, noTables, noted, withName, nameRow, goodFlags, allBelow, putAll, marked, recordMarks, recordChecks, recordRefusal, withRecord, recordRow}
-use Rattle.columns.specs.Columns.{inside, placedName, nameRows, placedRecord, recordRows, tableOf}
+use Rattle.rows.specs.Rows.{objectName, cloneableName, serializableName, goodFlags, allBelow}
+use Rattle.columns.specs.Columns.{inside}
 use Rattle.columns.specs.Examples.{bytes}
-use Rattle.columns.specs.Given as columns
 use Rattle.columns.specs.Given.{Given, given, evenLengths, even}
 use Rattle.tableview.specs.TableRows.{isRecorded, listedParents, setOf, lastDeclared, placeOf, rowsView, rowsWorld, namesOf, recordsOf, rowsIn}
+use Rattle.tableview.specs.RowRefusals.{listed, hasPair, different, rowChecks, recordsRefusal, tableRefusal}
 use Rattle.questions.specs.declared.Question.{Question}
 use Rattle.questions.specs.declared.Question.the-variants.{Relation, Distance, Supertype, Cast, Join, Assignable}
 use Rattle.questions.specs.declared.Answer.{Answer}
@@ -45,6 +45,10 @@ uneven = recording (0 ∷ []) (0 ∷ []) (0 ∷ []) []
 -- with a/TrussA an interface, and a/TrussB a class with the given flags
 abbrev pub declaring : ℕ → Given
 declaring flags = recording (0 ∷ 3 ∷ flags ∷ 0 ∷ []) (0 ∷ 1 ∷ 2 ∷ 3 ∷ []) (0 ∷ 1 ∷ 1 ∷ 2 ∷ []) (1 ∷ 1 ∷ 1 ∷ 0 ∷ [])
+
+-- with one record of a/Probe: its flags, and where its parents stand
+abbrev pub single : ℕ → ℕ → ℕ → Given
+single flags start size = recording (flags ∷ []) (0 ∷ []) (start ∷ []) (size ∷ [])
 
 -- a/Probe alone
 abbrev pub objectless : Given
@@ -93,9 +97,11 @@ examples =
     ∷ value whole Join 0x0001000000000001 0x0001000000000002 0x0001000000000000
     ∷ value whole Assignable 4 3 0
     ∷ value whole Assignable 0x0100000000000005 0x0001000000000003 1
-    -- a work of 8,191 words, a column too short, no class 4, no type of class 4, no java/lang/Object
+    -- a work of 8,191 words, a column too short, parents outside their slice, flags that are none, no class 4, no type of class 4, no java/lang/Object
     ∷ refused uneven Relation 0 4 8191 22
     ∷ refused uneven Relation 0 4 8192 3
+    ∷ refused (single 2 1 2) Relation 0 4 8192 3
+    ∷ refused (single 2 1 1) Relation 0 1 8192 6
     ∷ refused whole Relation 0 4 8192 6
     ∷ refused whole Join 5 0x0001000000000004 8192 7
     ∷ refused objectless Join 5 0x0001000000000004 8192 7
@@ -104,5 +110,5 @@ examples =
 
 -- EVERY EXAMPLE HOLDS
 pub all-hold : All holds examples
-unfolding answerOf answered refusalOf tableChecks goodNumbers valueOf columns.table evenLengths even rowsView rowsWorld rowsIn namesOf recordsOf isRecorded listedParents setOf lastDeclared placeOf allLegal legalWord legalBase goodUnknown goodDigits unpack typeOf arrays baseOf listOf wordOf pack compare categories sameType hasAll unknownAccepts inEither unknownUnion primitiveAssignable assignableApart isAssignable narrow underDouble joinPrimitive joinKnown joinApart join arrayParent joinArrayClass firstRefusal inside placedName nameRows placedRecord recordRows tableOf ascii objectName cloneableName serializableName noTables noted withName nameRow goodFlags allBelow putAll marked recordMarks recordChecks recordRefusal withRecord recordRow nameChecks checkName compareLists compareNumbers table within matches firstMatch sequence scan validPrefix wellFormed insert remove clear elem insertSorted put bit at member members sets.first insertAll withParents grow level reached reach steps distance numberOf ancestor allRecorded complete relation relationNumber castByFacts cast common below anyBelow lowest nearer nearest numbers candidates supertype
-all-hold = (refl, (refl, (refl, (refl, (refl, (refl, (refl, (refl, (refl, (refl, (refl, (refl, (refl, (refl, (refl, (refl, (refl, (refl, (refl, (refl, tt))))))))))))))))))))
+unfolding answerOf answered refusalOf tableChecks goodNumbers valueOf tableRefusal recordsRefusal rowChecks different hasPair listed evenLengths even rowsView rowsWorld rowsIn namesOf recordsOf isRecorded listedParents setOf lastDeclared placeOf allLegal legalWord legalBase goodUnknown goodDigits unpack typeOf arrays baseOf listOf wordOf pack compare categories sameType hasAll unknownAccepts inEither unknownUnion primitiveAssignable assignableApart isAssignable narrow underDouble joinPrimitive joinKnown joinApart join arrayParent joinArrayClass firstRefusal inside ascii objectName cloneableName serializableName goodFlags allBelow checkRows checkRow placeGood nameChecks compareLists compareNumbers table within matches firstMatch sequence scan validPrefix wellFormed insert elem insertSorted put bit at member members sets.first insertAll withParents grow level reached reach steps distance numberOf ancestor allRecorded complete relation relationNumber castByFacts cast common below anyBelow lowest nearer nearest numbers candidates supertype
+all-hold = (refl, (refl, (refl, (refl, (refl, (refl, (refl, (refl, (refl, (refl, (refl, (refl, (refl, (refl, (refl, (refl, (refl, (refl, (refl, (refl, (refl, (refl, tt))))))))))))))))))))))

@@ -26,8 +26,10 @@ use Rattle.columns.specs.Columns.{nameRows, tableOf}
 use Rattle.columns.specs.Given.{Given, evenLengths, even, noMarks, table, checkedTable}
 use Rattle.columns.specs.GivenLaws.{checked-even, checked-uneven, good-in, object-known}
 use Rattle.tableview.specs.TableRows.{rowsView, rowsWorld, rowsIn}
+use Rattle.tableview.specs.RowRefusals.{tableRefusal}
 use Rattle.tableview.specs.Inner.{viewIn, worldIn}
 use Rattle.tableview.specs.Agrees.{view-rows, world-rows}
+use Rattle.tableview.specs.Refused.{table-refusal}
 use Rattle.questions.specs.declared.Question.{Question}
 use Rattle.questions.specs.declared.Question.the-variants.{Relation, Distance, Supertype, Cast, Join, Assignable}
 use Rattle.questions.specs.declared.Answer.{Answer}
@@ -165,13 +167,15 @@ module _ (g : Given) (e : even g ≡ true) (z : table g .refusal ≡ 0) where
 pub checks-ran : (g : Given) (types : Bool) (numbers : List ℕ)
     → firstRefusal (ranChecks (checkedTable g .refusal) (checkedTable g .state .tables) types numbers) ≡ firstRefusal (tableChecks g types numbers)
 unfolding tableChecks ranChecks firstRefusal
-checks-ran g types numbers = go (even g) refl (eqb (table g .refusal) 0) refl
+checks-ran g types numbers = go (even g) refl (eqb (tableRefusal g) 0) refl
   where
-    go : (b : Bool) → even g ≡ b → (c : Bool) → eqb (table g .refusal) 0 ≡ c
+    go : (b : Bool) → even g ≡ b → (c : Bool) → eqb (tableRefusal g) 0 ≡ c
         → firstRefusal (ranChecks (checkedTable g .refusal) (checkedTable g .state .tables) types numbers) ≡ firstRefusal (tableChecks g types numbers)
     go false e c d = rw (checked-uneven g e, e)
-    go true e false d = rw (checked-even g e, e, d)
-    go true e true d = rw (checked-even g e, e, d, names-rows g e (eqb-true (table g .refusal) 0 d), object-rows g e (eqb-true (table g .refusal) 0 d))
+    go true e false d = rw (checked-even g e, e, table-refusal g, d)
+    go true e true d =
+        let z = table-refusal g ∙ eqb-true (tableRefusal g) 0 d in
+        rw (checked-even g e, e, table-refusal g, d, names-rows g e z, object-rows g e z)
 
 -- ---- the slices hold the view and the world
 

@@ -12,8 +12,9 @@ use Rattle.checks.specs.Checks.{Check, check, firstRefusal}
 use Rattle.view.specs.View.{View, relation, relationNumber, distance, numberOf, ancestors, supertype, cast}
 use Rattle.lattice.specs.Lattice.{World, join, isAssignable}
 use Rattle.rows.specs.Rows.{allBelow}
-use Rattle.columns.specs.Given.{Given, even, table}
+use Rattle.columns.specs.Given.{Given, even}
 use Rattle.tableview.specs.TableRows.{rowsView, rowsWorld, rowsIn}
+use Rattle.tableview.specs.RowRefusals.{tableRefusal}
 use Rattle.questions.specs.declared.Question.{Question}
 use Rattle.questions.specs.declared.Question.the-variants.{Relation, Distance, Supertype, Cast, Join, Assignable}
 use Rattle.questions.specs.declared.Answer.{Answer}
@@ -39,7 +40,7 @@ goodNumbers types names numbers = cond types (allLegal names numbers) (allBelow 
 unfoldable pub tableChecks : Given → Bool → List ℕ → List Check
 tableChecks g types numbers =
     check (not (even g)) 3
-    ∷ check (not (eqb (table g .refusal) 0)) (table g .refusal)
+    ∷ check (not (eqb (tableRefusal g) 0)) (tableRefusal g)
     ∷ check (not (goodNumbers types (rowsView (rowsIn g) .names) numbers)) (cond types 7 6)
     ∷ check (eqb (rowsView (rowsIn g) .object) (2 ^ 64 - 1)) 9
     ∷ []

@@ -37,6 +37,7 @@ use Rattle.columns.specs.Names.{inside-length, names-agree, names-checked, name
 use Rattle.columns.specs.Given.{Given, even, evenLengths, noMarks, table}
 use Rattle.columns.specs.GivenLaws.{even-is}
 use Rattle.tableview.specs.TableRows.{Record, Rows, setOf, placeOf, rowsView, namesOf, recordsOf, rowsIn}
+use Rattle.tableview.specs.RowRefusals.{Pair, listed, hasPair, different}
 use Rattle.tableview.specs.Taken.{elem-below, placed-taken}
 use Rattle.tableview.specs.Agrees.{names-length, member-elem, elem-set, set-sorted}
 use Rattle.tableview.specs.Canonical.{joined, placesFrom, sizesOf, parentLists, columnsOf, columns-even, rows-back}
@@ -61,28 +62,10 @@ pub record GoodRow (names : ℕ) (r : Record) : Type 0 where
   pub parents-in : (p : ℕ) → List·Memᴰ p (r .parents) → p < names
   pub few : length (r .parents) ≤ 254
 
--- a class and a parent that a row of it lists
-pub record Pair : Type 0 where
-  pub class : ℕ
-  pub parent : ℕ
-
-unfoldable pub listed : ℕ → List ℕ → List Pair
-listed c [] = []
-listed c (p ∷ ps) = record { class = c; parent = p } ∷ listed c ps
-
 -- the pairs of all rows, one after the other
 unfoldable pub pairsOf : List Record → List Pair
 pairsOf [] = []
 pairsOf (r ∷ rs) = listed (r .class) (r .parents) ++ pairsOf rs
-
-unfoldable pub hasPair : Pair → List Pair → Bool
-hasPair p [] = false
-hasPair p (q ∷ ps) = (eqb (q .class) (p .class) && eqb (q .parent) (p .parent)) || hasPair p ps
-
--- how many different pairs there are: each counts where it stands last
-unfoldable pub different : List Pair → ℕ
-different [] = 0
-different (p ∷ ps) = cond (hasPair p ps) (different ps) (suc (different ps))
 
 -- THE LIMITS: at most 1,024 names of 24,576 bytes, each good and above the one before it; rows of them; at most 4,096 different pairs
 pub record InLimits (t : Rows) : Type 0 where
@@ -167,7 +150,7 @@ flags-exactly f = (λ e. to (eqb f 0) refl (eqb (f % 2) 1) refl (leb f 7) refl e
 
 -- ---- a row
 
-below-members : (n : ℕ) (ps : List ℕ) → (allBelow n ps ≡ true) ↔ ((p : ℕ) → List·Memᴰ p ps → p < n)
+pub below-members : (n : ℕ) (ps : List ℕ) → (allBelow n ps ≡ true) ↔ ((p : ℕ) → List·Memᴰ p ps → p < n)
 unfolding allBelow
 below-members n [] = (λ e p m. absurd (List·Memᴰ·not-nil m), λ f. refl)
 below-members n (x ∷ ps) = let ih = below-members n ps in (
@@ -204,10 +187,10 @@ record-exactly n keys f c ps = (
 
 -- ---- pairs and keys
 
-keyOf : Pair → ℕ
+unfoldable pub keyOf : Pair → ℕ
 keyOf p = key (p .class) (p .parent)
 
-keysOf : List Pair → List ℕ
+unfoldable pub keysOf : List Pair → List ℕ
 keysOf [] = []
 keysOf (p ∷ ps) = keyOf p ∷ keysOf ps
 
@@ -232,7 +215,7 @@ or-move true false c = refl
 or-move false true c = refl
 or-move false false c = refl
 
-elem-listed : (z c : ℕ) (ps : List ℕ) (qs : List Pair) → elem z (keysOf (listed c ps ++ qs)) ≡ (elem z (map (key c) ps) || elem z (keysOf qs))
+pub elem-listed : (z c : ℕ) (ps : List ℕ) (qs : List Pair) → elem z (keysOf (listed c ps ++ qs)) ≡ (elem z (map (key c) ps) || elem z (keysOf qs))
 unfolding elem keysOf listed keyOf
 elem-listed z c [] qs = refl
 elem-listed z c (p ∷ ps) qs =
@@ -255,7 +238,7 @@ from-set rs =
     (λ z. elem-from z rs [] ∙ or-false (elem z (keysOf (pairsOf rs))) ∙ sym (elem-set z (keysOf (pairsOf rs))))
 
 -- parents below 1,024: a key tells its pair
-Small : List Pair → Type 0
+unfoldable pub Small : List Pair → Type 0
 Small ps = (q : Pair) → List·Memᴰ q ps → q .parent < 1024
 
 key-has : (p : Pair) (ps : List Pair) → p .parent < 1024 → Small ps → elem (keyOf p) (keysOf ps) ≡ hasPair p ps
@@ -270,7 +253,7 @@ key-has p (q ∷ ps) h s =
     same (no a) b k = rw (ne-eqb (keyOf q) (keyOf p) (λ e. a (omega arith)), ne-eqb (q .class) (p .class) a)
 
 -- AS MANY KEYS AS DIFFERENT PAIRS
-set-counted : (ps : List Pair) → Small ps → length (setOf (keysOf ps)) ≡ different ps
+pub set-counted : (ps : List Pair) → Small ps → length (setOf (keysOf ps)) ≡ different ps
 unfolding setOf keysOf different Small
 set-counted [] s = refl
 set-counted (p ∷ ps) s = go (hasPair p ps) refl (set-counted ps (λ r m. s r (List·Memᴰ·tail m)))
@@ -282,7 +265,7 @@ set-counted (p ∷ ps) s = go (hasPair p ps) refl (set-counted ps (λ r m. s r (
     go true e ih = length-old (keyOf p) (setOf (keysOf ps)) (told true e) ∙ ih
     go false e ih = length-new (keyOf p) (setOf (keysOf ps)) (told false e) ∙ ap suc ih
 
-listed-small : (c : ℕ) (ps : List ℕ) (qs : List Pair) → ((p : ℕ) → List·Memᴰ p ps → p < 1024) → Small qs → Small (listed c ps ++ qs)
+pub listed-small : (c : ℕ) (ps : List ℕ) (qs : List Pair) → ((p : ℕ) → List·Memᴰ p ps → p < 1024) → Small qs → Small (listed c ps ++ qs)
 unfolding listed Small
 listed-small c [] qs h s = s
 listed-small c (p ∷ ps) qs h s = λ q m.
