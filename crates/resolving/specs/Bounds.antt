@@ -7,6 +7,7 @@ use mathlib.Core.Option.{Option, some, none}
 use Prim.Native.Nat.{ℕ}
 use lib.Dec.{eqb, ltb}
 use lib.ListN.{length}
+use Rattle.lattice.specs.JoinAll.{Ascend}
 use Rattle.ty.specs.declared.TypeWord.{TypeWord}
 use Rattle.ty.specs.declared.MaybeType.{MaybeType}
 use Rattle.ty.specs.declared.MaybeType.the-variants.{Is, Nothing}
@@ -16,7 +17,7 @@ use Rattle.keys.specs.Rank.{rank}
 use Rattle.tables.specs.declared.Tables.{Tables}
 use Rattle.tables.specs.Table.{marksRoom}
 use Rattle.lattice.specs.Lattice.{World, domainAccepts, joinAll, assignableToAll, mostSpecificUpper}
-use Rattle.joins.specs.Joins.{Fits, AllLegal, Ascend}
+use Rattle.joins.specs.Joins.{Fits, AllLegal}
 use Rattle.inserting.specs.declared.Sent.{Sent}
 use Rattle.inserting.specs.declared.Sent.the-variants.{Nothing as NotSent, Rank, Deep}
 use Rattle.solving.specs.Solving.{TypeState, orElse, onlyConcrete, hintsOf}

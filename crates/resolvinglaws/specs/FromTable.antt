@@ -8,6 +8,7 @@ use native.Mathlib.Omega.{arith}
 use lib.Dec.{eqb}
 use lib.ListN.{length, getD}
 use borrow.Author.Tests.{eqb-true}
+use Rattle.lattice.specs.JoinAll.{AscendFrom, Ascend}
 use Rattle.order.specs.Truth.{and-left, and-right}
 use Rattle.order.specs.Compare.{then, compareNumbers}
 use Rattle.order.specs.Laws.{numbers-same}
@@ -16,7 +17,7 @@ use Rattle.order.specs.declared.Order.the-variants.{Less}
 use Rattle.ty.specs.Types.{compare}
 use Rattle.ty.specs.Words.{typeOf, legalWord, allLegal}
 use Rattle.tables.specs.declared.Tables.{Tables}
-use Rattle.joins.specs.Joins.{Fits, AllLegal, AscendFrom, Ascend}
+use Rattle.joins.specs.Joins.{Fits, AllLegal}
 use Rattle.solving.specs.Ordered.{After, Ascending}
 use Rattle.solving.specs.Orders.{bounds-total}
 use Rattle.solving.specs.Solving.{Domain, Fallback, Upper, Lower, Exact, Bound, Table, compareBounds, typesOf, stateOf}
