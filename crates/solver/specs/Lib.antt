@@ -1,0 +1,2 @@
+-- What a solve asks of its tables, and what it leaves.
+pub mod Solver
