@@ -9,10 +9,6 @@ use Rattle.resolving.proofs.element_of.Reads as element-of-reads
 use Rattle.resolving.proofs.element_of.Kinds as element-of-kinds
 use Rattle.resolving.proofs.array_element.Reads as array-element-reads
 use Rattle.resolving.proofs.array_element.Kinds as array-element-kinds
-use Rattle.resolving.proofs.sent.Reads as sent-reads
-use Rattle.resolving.proofs.sent.Kinds as sent-kinds
-use Rattle.resolving.proofs.sent_array.Reads as sent-array-reads
-use Rattle.resolving.proofs.sent_array.Kinds as sent-array-kinds
 use Rattle.resolving.proofs.resolve_state.Reads as resolve-state-reads
 use Rattle.resolving.proofs.resolve_state.Kinds as resolve-state-kinds
 
@@ -27,14 +23,6 @@ element-of-one κs a r₁ r₂ x₁ x₂ p q = p ∙ sym q
 pub array-element-one : (κs : Lfts 5) (a : Dens κs array-element-kinds.ps) (r₁ r₂ : resT array-element-kinds.r κs .Denot) (x₁ x₂ : AtExit (endedOf 5 array-element-kinds.ps array-element-kinds.r) κs)
     → array-element-reads.Post κs a r₁ x₁ → array-element-reads.Post κs a r₂ x₂ → r₁ ≡ r₂
 array-element-one κs a r₁ r₂ x₁ x₂ p q = p ∙ sym q
-
-pub sent-one : (κs : Lfts 0) (a : Dens κs sent-kinds.ps) (r₁ r₂ : resT sent-kinds.r κs .Denot) (x₁ x₂ : AtExit (endedOf 0 sent-kinds.ps sent-kinds.r) κs)
-    → sent-reads.Post κs a r₁ x₁ → sent-reads.Post κs a r₂ x₂ → r₁ ≡ r₂
-sent-one κs a r₁ r₂ x₁ x₂ p q = p ∙ sym q
-
-pub sent-array-one : (κs : Lfts 0) (a : Dens κs sent-array-kinds.ps) (r₁ r₂ : resT sent-array-kinds.r κs .Denot) (x₁ x₂ : AtExit (endedOf 0 sent-array-kinds.ps sent-array-kinds.r) κs)
-    → sent-array-reads.Post κs a r₁ x₁ → sent-array-reads.Post κs a r₂ x₂ → r₁ ≡ r₂
-sent-array-one κs a r₁ r₂ x₁ x₂ p q = p ∙ sym q
 
 pub resolve-state-one : (κs : Lfts 7) (a : Dens κs resolve-state-kinds.ps) (r₁ r₂ : resT resolve-state-kinds.r κs .Denot) (x₁ x₂ : AtExit (endedOf 7 resolve-state-kinds.ps resolve-state-kinds.r) κs)
     → resolve-state-reads.Post κs a r₁ x₁ → resolve-state-reads.Post κs a r₂ x₂ → r₁ ≡ r₂

@@ -1,25 +1,22 @@
--- What the contracts cite: a component's state from words, which words are asked for, the ways as the code has them, and what a turn
--- sends. Assumes nothing.
+-- What the contracts cite: a component's state from words, which words are asked for, and the ways as the code has them.
+-- Assumes nothing.
 use mathlib.Core.Path.{_≡_}
 use mathlib.Core.Bool.{Bool, false, cond, not, _&&_}
 use mathlib.Core.List.{List, map}
-use mathlib.Core.Option.{Option, some, none}
+use mathlib.Core.Option.{Option}
 use Prim.Native.Nat.{ℕ}
-use lib.Dec.{eqb, ltb}
+use lib.Dec.{eqb}
 use lib.ListN.{length}
-use Rattle.lattice.specs.JoinAll.{Ascend}
 use Rattle.ty.specs.declared.TypeWord.{TypeWord}
 use Rattle.ty.specs.declared.MaybeType.{MaybeType}
 use Rattle.ty.specs.declared.MaybeType.the-variants.{Is, Nothing}
-use Rattle.ty.specs.Types.{ArgType, Array, depth, isConcrete}
+use Rattle.ty.specs.Types.{ArgType}
 use Rattle.ty.specs.Words.{typeOf}
-use Rattle.keys.specs.Rank.{rank}
 use Rattle.tables.specs.declared.Tables.{Tables}
 use Rattle.tables.specs.Table.{marksRoom}
 use Rattle.lattice.specs.Lattice.{World, domainAccepts, joinAll, assignableToAll, mostSpecificUpper}
+use Rattle.lattice.specs.JoinAll.{Ascend}
 use Rattle.joins.specs.Joins.{Fits, AllLegal}
-use Rattle.inserting.specs.declared.Sent.{Sent}
-use Rattle.inserting.specs.declared.Sent.the-variants.{Nothing as NotSent, Rank, Deep}
 use Rattle.solving.specs.Solving.{TypeState, orElse, onlyConcrete, hintsOf}
 use Rattle.solving.specs.Resolve.{passing, allProduce, producesAll, single}
 
@@ -96,19 +93,3 @@ module _ (w : World) where
 
   unfoldable pub fromUpper : Option ArgType → TypeState → Option ArgType
   fromUpper o s = orElse (byUpper (s .exact) (s .lower) (s .upper) (s .domain)) (fromCast o (s .upper) (s .domain) (s .fallback))
-
--- ---- what a turn sends
-
--- a type by its rank, or the mark of what has too many dimensions
-unfoldable pub sentAs : ArgType → Sent
-sentAs t = cond (ltb 255 (depth t)) Deep (Rank (rank t))
-
--- a type of the bounds has not
-abbrev pub typeSent : Option ArgType → Sent
-typeSent none = NotSent
-typeSent (some t) = Rank (rank t)
-
--- the array of a concrete type
-abbrev pub arraySent : Option ArgType → Sent
-arraySent none = NotSent
-arraySent (some t) = cond (isConcrete t) (sentAs (Array t)) NotSent

@@ -2,4 +2,3 @@
 pub mod Bounds
 pub mod Laws
 pub mod Hints
-pub mod Sends

@@ -1,20 +1,15 @@
-// What lattice.rs asks of one component's bounds: the type that they produce, the element of an array, what a turn sends, and the
-// answer by five ways. Bounds are type words in lent slices, a slice for each kind, in the order of types.
+// What lattice.rs asks of one component's bounds: the type that they produce, the element of an array, and the answer by five
+// ways. Bounds are type words in lent slices, a slice for each kind, in the order of types.
 use candidates::domain_accepts;
 use candidates::is_assignable_to_all;
 use candidates::most_specific_upper;
 use candidates::producer_bound_compatible;
-use inserting::Sent;
 use joins::join_all;
-use keys::rank_of;
 use tables::Tables;
-use ty::Arrayed;
 use ty::MaybeType;
 use ty::TypeWord;
 ghost use mathlib.Core.Path.{_≡_};
 ghost use mathlib.Core.List.{[], map};
-ghost use mathlib.Core.Option.{some};
-ghost use Rattle.ty.specs.Types.{Array};
 ghost use Rattle.ty.specs.Words.{Legal, typeOf};
 ghost use Rattle.ty.specs.Answers.{maybeWord};
 ghost use Rattle.lattice.specs.Lattice.{mostSpecificUpper};
@@ -23,7 +18,7 @@ ghost use Rattle.joins.specs.Joins.{Fits, AllLegal};
 ghost use Rattle.candidates.specs.Maybe.{LegalMaybe, maybeType};
 ghost use Rattle.solving.specs.Solving.{producedType, orElse, onlyConcrete, elementOf, arrayElement, hintsOf, resolveState};
 ghost use Rattle.solving.specs.Resolve.{allProduce, producesAll, single};
-ghost use Rattle.resolving.specs.Bounds.{stateIn, Bounds, Classes, typeSent, arraySent, sentAs, keptIf, differs, bothDiffer, eitherOf, fitting, byUpper, byCast, byFallback, byHint, fromFallback, fromCast, fromUpper, upperPasses, castPasses, fallbackPasses};
+ghost use Rattle.resolving.specs.Bounds.{stateIn, Bounds, Classes, keptIf, differs, bothDiffer, eitherOf, fitting, byUpper, byCast, byFallback, byHint, fromFallback, fromCast, fromUpper, upperPasses, castPasses, fallbackPasses};
 
 // The join of the exact bounds, of the lower ones if there are none.
 pub fn produced_type(
@@ -99,50 +94,6 @@ pub fn array_element(
 {
     let produced = produced_type(pairs, marks, t, exact, lower);
     element_of(pairs, marks, t, produced, upper)
-}
-
-// A type that may be missing, as a rule sends it.
-pub fn sent(t: MaybeType) -> Sent
-    requires { ⌜ LegalMaybe t ⌝ }
-    ensures { λ r. ⌜ r ≡ typeSent (maybeType t) ⌝ }
-{
-    match t {
-        MaybeType::Is(u) => Sent::Rank(rank_of(u)),
-        MaybeType::Nothing => Sent::Nothing,
-    }
-}
-
-// The array of a type, too deep where that has 255 dimensions.
-fn sent_array_of(t: TypeWord) -> Sent
-    requires { ⌜ Legal (t .word) ⌝ }
-    ensures { λ r. ⌜ r ≡ sentAs (Array (typeOf (t .word))) ⌝ }
-{
-    match t.array() {
-        Arrayed::Of(a) => Sent::Rank(rank_of(a)),
-        Arrayed::Deep => Sent::Deep,
-    }
-}
-
-// The array of a concrete type.
-fn sent_array_if(t: TypeWord) -> Sent
-    requires { ⌜ Legal (t .word) ⌝ }
-    ensures { λ r. ⌜ r ≡ arraySent (some (typeOf (t .word))) ⌝ }
-{
-    if t.is_concrete() {
-        return sent_array_of(t);
-    }
-    Sent::Nothing
-}
-
-// The array of what is produced, if that is concrete.
-pub fn sent_array(produced: MaybeType) -> Sent
-    requires { ⌜ LegalMaybe produced ⌝ }
-    ensures { λ r. ⌜ r ≡ arraySent (maybeType produced) ⌝ }
-{
-    match produced {
-        MaybeType::Is(u) => sent_array_if(u),
-        MaybeType::Nothing => Sent::Nothing,
-    }
 }
 
 // A candidate, if it passes.

@@ -3,20 +3,18 @@
 use mathlib.Core.Path.{_≡_, refl, sym, ap, _∙_, subst}
 use mathlib.Core.Bool.{Bool, true, false, cond}
 use mathlib.Core.List.{List, [], _∷_, map}
-use Prim.Native.Nat.{ℕ, zero, suc, _<_}
+use Prim.Native.Nat.{ℕ, _<_}
 use native.Mathlib.Omega.{arith}
 use lib.Dec.{eqb}
-use lib.ListN.{length, getD}
 use borrow.Author.Tests.{eqb-true}
-use Rattle.lattice.specs.JoinAll.{AscendFrom, Ascend}
-use Rattle.order.specs.Truth.{and-left, and-right}
 use Rattle.order.specs.Compare.{then, compareNumbers}
 use Rattle.order.specs.Laws.{numbers-same}
 use Rattle.order.specs.declared.Order.{Order}
 use Rattle.order.specs.declared.Order.the-variants.{Less}
 use Rattle.ty.specs.Types.{compare}
-use Rattle.ty.specs.Words.{typeOf, legalWord, allLegal}
+use Rattle.ty.specs.Words.{typeOf}
 use Rattle.tables.specs.declared.Tables.{Tables}
+use Rattle.lattice.specs.JoinAll.{AscendFrom, Ascend}
 use Rattle.joins.specs.Joins.{Fits, AllLegal}
 use Rattle.solving.specs.Ordered.{After, Ascending}
 use Rattle.solving.specs.Orders.{bounds-total}
@@ -24,7 +22,7 @@ use Rattle.solving.specs.Solving.{Domain, Fallback, Upper, Lower, Exact, Bound,
 use Rattle.solving.specs.Tidy.{Tidy}
 use Rattle.solving.specs.TableKeys.{keysOf, tidy-keyed}
 use Rattle.copying.specs.Copies.{runIn, wordsIn}
-use Rattle.copying.specs.Types.{copied-words, copied-legal}
+use Rattle.copying.specs.Types.{copied-words, copied-legal, legal-at}
 use Rattle.resolving.specs.Bounds.{stateIn, Bounds}
 
 -- ---- the types of one kind stand in their order
@@ -74,14 +72,6 @@ module _ (c k : ℕ) where
       go true e false f skip = skip
       go false e v f skip = skip
 
--- ---- legal words, one by one
-
-pub legal-each : (names : ℕ) (ws : List ℕ) → allLegal names ws ≡ true → (i : ℕ) → i < length ws → legalWord names (getD ws i 0) ≡ true
-unfolding allLegal
-legal-each names [] h i l = absurd (omega arith)
-legal-each names (w ∷ ws) h zero l = and-left (legalWord names w) (allLegal names ws) h
-legal-each names (w ∷ ws) h (suc i) l = legal-each names ws (and-right (legalWord names w) (allLegal names ws) h) i (omega arith)
-
 -- ---- the copy of a tidy table
 
 module _ (t : Tables) (fits : Fits t) (n : ℕ) (table : Table) (q : List ℕ) (y : Tidy (t .names) n table q) (c : ℕ) where
@@ -94,7 +84,7 @@ module _ (t : Tables) (fits : Fits t) (n : ℕ) (table : Table) (q : List ℕ) (
 
   -- THEY ARE WHAT IS ASKED
   pub copy-legal : (k : ℕ) → AllLegal t (copyOf k)
-  copy-legal k = legal-each (t .names) (copyOf k) (copied-legal (t .names) n table q (fits .0) y c k)
+  copy-legal k = legal-at (t .names) (copyOf k) (copied-legal (t .names) n table q (fits .0) y c k)
 
   pub copy-bounds : (k : ℕ) → k < 8 → Bounds t (copyOf k)
   copy-bounds k small = (copy-legal k, subst Ascend (sym (copy-types k small)) (types-ascend c k table (y .ascends)))

@@ -1,4 +1,3 @@
--- Between a table of bounds and the functions of resolving, and between these and the rules of a turn.
+-- Between a table of bounds and the functions of resolving.
 pub mod FromTable
 pub mod Parts
-pub mod ToRules

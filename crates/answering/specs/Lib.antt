@@ -1,0 +1,3 @@
+-- What the contracts cite, and one law for each case that the code meets.
+pub mod Answering
+pub mod Steps
