@@ -12,11 +12,11 @@ use Rattle.ty.specs.Words.{wordOf}
 use Rattle.tables.specs.declared.Tables.{Tables}
 use Rattle.lattice.specs.Lattice.{World}
 use Rattle.joins.specs.Joins.{AllLegal}
-use Rattle.solving.specs.Solving.{Domain, Fallback, Upper, Lower, Exact, Table, answers}
+use Rattle.solving.specs.Solving.{Domain, Fallback, Upper, Lower, Exact, Table, TypeState, answers}
 use Rattle.solving.specs.Tidy.{Tidy}
 use Rattle.solving.specs.TableKeys.{boundOf, keysOf}
 use Rattle.copying.specs.Copies.{runIn, wordsIn}
-use Rattle.resolving.specs.Bounds.{Bounds}
+use Rattle.resolving.specs.Bounds.{Bounds, stateIn}
 use Rattle.answering.specs.declared.Parts.{Parts}
 
 -- ---- a component's bounds
@@ -54,6 +54,11 @@ pub record PartsLegal (t : Tables) (p : Parts) (l : List ℕ) : Type 0 where
   pub upper : AllLegal t (part (p .fallback) (p .upper) l)
   pub domain : AllLegal t (part 0 (p .domain) l)
   pub fallback : Bounds t (part (p .domain) (p .fallback) l)
+
+-- the state that they stand for
+abbrev pub partsState : Parts → List ℕ → TypeState
+partsState p l =
+    stateIn (part (p .lower) (p .exact) l) (part (p .upper) (p .lower) l) (part (p .fallback) (p .upper) l) (part 0 (p .domain) l) (part (p .domain) (p .fallback) l)
 
 -- ---- the final table
 

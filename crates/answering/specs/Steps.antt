@@ -1,17 +1,16 @@
 -- The copies, parts and answers as the code meets them. Assumes nothing.
-use mathlib.Core.Path.{_≡_, refl, sym, ap, ap₂, _∙_, subst}
-use mathlib.Core.List.{List, [], _∷_, _++_, map, append-assoc, append-nil}
-use mathlib.Core.Option.{Option, some, none}
-use Prim.Native.Nat.{ℕ, _+_, _-_, _^_, _≤_, _<_}
+use mathlib.Core.Path.{_≡_, sym, ap, ap₂, _∙_}
+use mathlib.Core.List.{List, _++_, append-assoc}
+use Prim.Native.Nat.{ℕ, _+_, _-_}
 use native.Mathlib.Omega.{arith}
 use native.Mathlib.Nat.{zero-add}
-use lib.ListN.{length, length-append, length-map, take, drop}
-use lib.Seq.{paste, paste-zero, take-append-seam}
+use lib.ListN.{length, length-append, length-map}
+use lib.Seq.{paste}
 use Rattle.copying.specs.Copies.{runIn, wordsIn, wordIn}
-use Rattle.copying.specs.Steps.{paste-front, paste-both}
+use Rattle.copying.specs.Steps.{paste-both}
 use Rattle.solving.specs.Solving.{Domain, Fallback, Upper, Lower, Exact}
 use Rattle.answering.specs.declared.Parts.{Parts}
-use Rattle.answering.specs.Answering.{kindWords, stateWords, ends, partsOf}
+use Rattle.answering.specs.Answering.{kindWords, stateWords, partsOf}
 
 -- ---- one copy after the other
 

@@ -13,8 +13,8 @@ ghost use Rattle.ty.specs.Answers.{maybeWord};
 ghost use Rattle.lattice.specs.World.{worldOf};
 ghost use Rattle.solving.specs.Queue.{Below};
 ghost use Rattle.solving.specs.Solving.{stateOf, resolveState};
-ghost use Rattle.resolving.specs.Bounds.{Classes, stateIn};
-ghost use Rattle.answering.specs.Answering.{partsOf, stateWords, InOrder, part, PartsLegal, tableIn, Final, numberIn, answerWords};
+ghost use Rattle.resolving.specs.Bounds.{Classes};
+ghost use Rattle.answering.specs.Answering.{partsOf, stateWords, InOrder, PartsLegal, partsState, tableIn, Final, numberIn, answerWords};
 
 // Where the words of each kind end; each begins where the one before it ends, the domain's at 0.
 pub struct Parts {
@@ -41,5 +41,74 @@ pub fn copy_state(keys: &[u64], component: u64, out: &mut [u64]) -> Parts
         upper: upper,
         lower: lower,
         exact: exact,
+    }
+}
+
+// The answer from the words of each kind.
+fn answer_from(pairs: &[u64], marks: &[u64], t: Tables, out: &[u64], p: Parts) -> MaybeType
+    requires { ⌜ Classes (now marks) t × InOrder p (now out) × PartsLegal t p (now out) ⌝ }
+    ensures { λ r. ⌜ r ≡ maybeWord (resolveState (worldOf (now (pairs .entry)) (now (marks .entry)) t) (partsState p (now (out .entry)))) ⌝ }
+{
+    let domain = p.domain;
+    let fallback = p.fallback;
+    let upper = p.upper;
+    let lower = p.lower;
+    let exact = p.exact;
+    resolve_state(
+        pairs,
+        marks,
+        t,
+        &out[lower..exact],
+        &out[upper..lower],
+        &out[fallback..upper],
+        &out[0..domain],
+        &out[domain..fallback],
+    )
+}
+
+// The answer of one component; the lent slice takes the copy of its bounds.
+pub fn answer(
+    pairs: &[u64],
+    marks: &[u64],
+    t: Tables,
+    keys: &[u64],
+    component: u64,
+    out: &mut [u64],
+) -> MaybeType
+    requires { ⌜ Classes (now marks) t × Final (t .names) (now keys) × (component < 512) × (length (now keys) ≤ length (now out)) ⌝ }
+    ensures { λ r. ⌜ r ≡ maybeWord (resolveState (worldOf (now (pairs .entry)) (now (marks .entry)) t) (stateOf (tableIn (now (keys .entry))) component)) ⌝ }
+{
+    let p = copy_state(keys, component, out);
+    answer_from(pairs, marks, t, out, p)
+}
+
+// An answer's word, all ones where there is none.
+fn word_in(m: MaybeType) -> u64
+    ensures { λ r. ⌜ r ≡ numberIn m ⌝ }
+{
+    match m {
+        MaybeType::Is(t) => t.word,
+        MaybeType::Nothing => 18446744073709551615,
+    }
+}
+
+// Each variable's answer, at the front of the answers' slice; what stands past them stays. The copies go to `out`.
+pub fn answers(
+    pairs: &[u64],
+    marks: &[u64],
+    t: Tables,
+    keys: &[u64],
+    variables: &[u64],
+    out: &mut [u64],
+    into: &mut [u64],
+)
+    requires { ⌜ Classes (now marks) t × Final (t .names) (now keys) × Below 512 (now variables) × (length (now keys) ≤ length (now out)) × (length (now variables) ≤ length (now into)) ⌝ }
+    ensures { λ _. ⌜ now (into .exit) ≡ paste (now (into .entry)) 0 (answerWords (worldOf (now (pairs .entry)) (now (marks .entry)) t) (tableIn (now (keys .entry))) (now (variables .entry))) (length (now (variables .entry))) ⌝ }
+{
+    let mut i: usize = 0;
+    while i < variables.len() {
+        let m = answer(pairs, marks, t, keys, variables[i], out);
+        into[i] = word_in(m);
+        i += 1;
     }
 }

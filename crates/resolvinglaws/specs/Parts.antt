@@ -1,11 +1,11 @@
--- Five copies one after the other in one slice: they fit where the table's keys do, the front is what was copied, and a part of it between two
--- ends is one kind's words. Assumes nothing.
-use mathlib.Core.Path.{_≡_, sym, ap, ap₂, _∙_}
+-- Five copies one after the other in one slice: they fit where the table's keys do, and a part of it between two ends is one kind's words.
+-- Assumes nothing.
+use mathlib.Core.Path.{_≡_, sym, ap, _∙_}
 use mathlib.Core.List.{List, _++_}
 use Prim.Native.Nat.{ℕ, _+_, _-_, _*_, _^_, _≤_}
 use native.Mathlib.Omega.{arith}
 use lib.ListN.{length, take, drop, length-append, length-take, take-append-drop}
-use lib.Seq.{paste, take-paste, take-all, take-append-seam, drop-append-seam, drop-append-le, take-append-le}
+use lib.Seq.{take-append-seam, drop-append-seam, drop-append-le, take-append-le}
 use Rattle.sorted.specs.Sorted.{Sorted, place, runOf}
 use Rattle.sorted.specs.Places.{place-le, place-mono}
 use Rattle.solving.specs.Solving.{Domain, Fallback, Upper, Lower, Exact}
@@ -37,12 +37,6 @@ module _ (c : ℕ) (keys : List ℕ) (o : Sorted keys) where
   pub five-short : length (runIn c Domain keys) + (length (runIn c Fallback keys) + (length (runIn c Upper keys) + (length (runIn c Lower keys) + length (runIn c Exact keys)))) ≤ length keys
   five-short =
       omega (arith, run-room 0, run-room 1, run-room 2, run-room 3, run-room 4, from-next 0, from-next 1, from-next 2, from-next 3, from-next 4, from-end 5)
-
--- ---- the front
-
--- one copy more
-pub filled-next : (d : List ℕ) (at : ℕ) (ws xs : List ℕ) (n : ℕ) → n ≡ length xs → at ≤ length d → take at d ≡ ws → take (at + n) (paste d at xs n) ≡ ws ++ xs
-filled-next d at ws xs n e h f = take-paste d at xs n h (omega arith) ∙ ap₂ _++_ f (take-all n xs (omega arith))
 
 -- ---- a part of it
 
