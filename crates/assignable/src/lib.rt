@@ -1,6 +1,7 @@
 // Assignability of lattice.rs on type words: what an Unknown accepts, primitives, classes and arrays. The class tables are those of
 // the crate hierarchy; every word is legal for at most 1,024 names.
 use tables::Tables;
+use ty::DIMENSION;
 use ty::TypeWord;
 use view::Relation;
 ghost use mathlib.Core.Path.{_≡_};
@@ -157,8 +158,8 @@ fn array_rule(pairs: &[u64], marks: &[u64], t: Tables, value: TypeWord, expected
     requires { ⌜ (length (now marks) ≡ marksRoom) × Legal (value .word) × Legal (expected .word) × (2 ^ 56 ≤ value .word) × (2 ^ 56 ≤ expected .word) ⌝ }
     ensures { λ r. ⌜ r ≡ assignableApart (worldOf (now (pairs .entry)) (now (marks .entry)) t) (typeOf (value .word)) (typeOf (expected .word)) ⌝ }
 {
-    let v = value.word - 72057594037927936;
-    let e = expected.word - 72057594037927936;
+    let v = value.word - DIMENSION;
+    let e = expected.word - DIMENSION;
     let inner = TypeWord { word: v };
     let wanted = TypeWord { word: e };
     if inner.is_primitive() {

@@ -1,5 +1,6 @@
 // What a turn copies before its first insertion: the types of a component's bounds of one kind, as ranks or as type words, out of the
 // sorted keys of a table into a lent slice.
+use keys::KIND;
 use keys::key_type;
 ghost use mathlib.Core.Path.{_≡_};
 ghost use Prim.Native.Nat.{_+_, _≤_, _<_};
@@ -15,7 +16,7 @@ fn ranks_at(keys: &[u64], out: &mut [u64], at: usize)
 {
     let mut i: usize = 0;
     while i < keys.len() {
-        out[at + i] = keys[i] % 4503599627370496;
+        out[at + i] = keys[i] % KIND;
         i += 1;
     }
 }
@@ -38,7 +39,7 @@ pub fn copy_ranks(keys: &[u64], component: u64, kind: u64, out: &mut [u64], at: 
     requires { ⌜ Sorted (now keys) × (component < 512) × (kind < 8) × (at + length (runIn component kind (now keys)) ≤ length (now out)) ⌝ }
     ensures { λ r. ⌜ (r ≡ at + length (runIn component kind (now (keys .entry)))) × (now (out .exit) ≡ paste (now (out .entry)) at (ranksIn (runIn component kind (now (keys .entry)))) (length (runIn component kind (now (keys .entry))))) ⌝ }
 {
-    let of = sorted::run(keys, keys.len(), 4503599627370496, component * 8 + kind);
+    let of = sorted::run(keys, keys.len(), KIND, component * 8 + kind);
     let first = of.first;
     let past = of.past;
     ranks_at(&keys[first..past], out, at);
@@ -50,7 +51,7 @@ pub fn copy_words(keys: &[u64], component: u64, kind: u64, out: &mut [u64], at: 
     requires { ⌜ Sorted (now keys) × (component < 512) × (kind < 8) × (at + length (runIn component kind (now keys)) ≤ length (now out)) ⌝ }
     ensures { λ r. ⌜ (r ≡ at + length (runIn component kind (now (keys .entry)))) × (now (out .exit) ≡ paste (now (out .entry)) at (wordsIn (runIn component kind (now (keys .entry)))) (length (runIn component kind (now (keys .entry))))) ⌝ }
 {
-    let of = sorted::run(keys, keys.len(), 4503599627370496, component * 8 + kind);
+    let of = sorted::run(keys, keys.len(), KIND, component * 8 + kind);
     let first = of.first;
     let past = of.past;
     words_at(&keys[first..past], out, at);

@@ -1,4 +1,6 @@
 // One bound into the table of a solve. The table is lent as a slice of 4,096 words, sorted keys at its front; the queue as its ring.
+use keys::COMPONENT;
+use keys::KIND;
 use queue::Queue;
 use sorted::Put;
 ghost use mathlib.Core.Path.{_≡_};
@@ -44,7 +46,7 @@ pub fn insert_bound(
     requires { ⌜ Ready (store (now a) (now ring) s) × (component < 512) × (kind < 5) × Ranked rank ⌝ }
     ensures { λ r. ⌜ store (now (a .exit)) (now (ring .exit)) r ≡ putBound (bound component kind (unrank rank)) (store (now (a .entry)) (now (ring .entry)) s) ⌝ }
 {
-    let key = component * 36028797018963968 + (kind * 4503599627370496 + rank);
+    let key = component * COMPONENT + (kind * KIND + rank);
     let p = sorted::insert(a, s.count, key);
     match p {
         Put::Old => s,

@@ -1,7 +1,10 @@
 // Joins of types, from lattice.rs, on type words: the table of the joins of primitives, the lists of categories, and the join of
 // two types and of a list.
 use tables::Tables;
+use ty::DIMENSION;
+use ty::LENGTH;
 use ty::MaybeType;
+use ty::TAG;
 use ty::TypeWord;
 use ty::digit;
 ghost use mathlib.Core.Path.{_≡_};
@@ -20,6 +23,11 @@ ghost use Rattle.lattice.specs.Unions.{kept};
 ghost use Rattle.lattice.specs.World.{worldOf};
 ghost use Rattle.lattice.specs.JoinAll.{Ascend};
 ghost use Rattle.joins.specs.Joins.{withFirst, Fits, Joinable, Apart, Known, Base, bothArrays, AllLegal};
+
+// The tag of an Unknown in its place, and the place of a list's first member.
+const UNKNOWN: u64 = 2 << 48;
+
+const FIRST: u64 = 1 << 40;
 
 // The joins of primitives, rows by the left category. Two equal ones join to themselves.
 const JOINS: [[u64; 11]; 11] = [
@@ -184,9 +192,7 @@ fn keep(load: u64, c: u64, is_kept: bool) -> u64
     ensures { λ r. ⌜ r ≡ cond «is_kept» (withFirst c load) load ⌝ }
 {
     if is_kept {
-        return (load / 17592186044416 + 1) * 17592186044416
-            + c * 1099511627776
-            + load % 17592186044416 / 16;
+        return (load / LENGTH + 1) * LENGTH + c * FIRST + load % LENGTH / 16;
     }
     load
 }
@@ -196,7 +202,7 @@ fn keep_members(load: u64, set: u64) -> u64
     requires { ⌜ load / 2 ^ 44 ≤ 11 ⌝ }
     ensures { λ r. ⌜ (r ≡ listLoad (kept set (listOf load))) × (r < 2 ^ 48) ⌝ }
 {
-    let mut i = load / 17592186044416;
+    let mut i = load / LENGTH;
     let mut found: u64 = 0;
     while 0 < i {
         i -= 1;
@@ -213,7 +219,7 @@ fn unknown_union(left: TypeWord, right: TypeWord) -> TypeWord
 {
     let load = keep_members(0xb0123456789a, left.categories() | right.categories());
     TypeWord {
-        word: 562949953421312 + load,
+        word: UNKNOWN + load,
     }
 }
 
@@ -227,7 +233,7 @@ fn in_both(left: TypeWord, right: TypeWord) -> TypeWord
         return TypeWord::UNKNOWN;
     }
     TypeWord {
-        word: 562949953421312 + load,
+        word: UNKNOWN + load,
     }
 }
 
@@ -237,11 +243,11 @@ fn category(t: TypeWord) -> u64
     ensures { λ r. ⌜ (categories (typeOf (t .word)) ≡ r ∷ []) × (r < 11) ⌝ }
 {
     let w = t.word;
-    if 72057594037927936 <= w {
+    if DIMENSION <= w {
         return 10;
     }
-    if w / 281474976710656 % 256 == 0 {
-        return w % 281474976710656;
+    if w / TAG % 256 == 0 {
+        return w % TAG;
     }
     9
 }
@@ -263,7 +269,7 @@ fn join_array(object: u64, array: TypeWord, other: TypeWord) -> TypeWord
     requires { ⌜ Legal (array .word) × Legal (other .word) × (object < namesRoom) ⌝ }
     ensures { λ r. ⌜ r .word ≡ wordOf (joinArrayOther object (typeOf (array .word)) (typeOf (other .word))) ⌝ }
 {
-    if other.word == 281474976710656 + object {
+    if other.word == TAG + object {
         return TypeWord::object(object);
     }
     unknown_union(array, other)
@@ -355,10 +361,10 @@ fn join_arrays(pairs: &[u64], marks: &[u64], t: Tables, left: TypeWord, right: T
     ensures { λ r. ⌜ r .word ≡ wordOf (join (worldOf (now (pairs .entry)) (now (marks .entry)) t) (typeOf (left .word)) (typeOf (right .word))) ⌝ }
 {
     let a = TypeWord {
-        word: left.word - 72057594037927936,
+        word: left.word - DIMENSION,
     };
     let b = TypeWord {
-        word: right.word - 72057594037927936,
+        word: right.word - DIMENSION,
     };
     if a.is_primitive() {
         return TypeWord::object(t.object);
@@ -368,7 +374,7 @@ fn join_arrays(pairs: &[u64], marks: &[u64], t: Tables, left: TypeWord, right: T
     }
     let e = join(pairs, marks, t, a, b);
     TypeWord {
-        word: e.word + 72057594037927936,
+        word: e.word + DIMENSION,
     }
 }
 

@@ -27,9 +27,9 @@ const KNOWN: u64 = 1 << 19;
 const LIST: u64 = 1 << 44;
 
 // What one kind and one component add to a key.
-const KIND: u64 = 1 << 52;
+pub const KIND: u64 = 1 << 52;
 
-const COMPONENT: u64 = 1 << 55;
+pub const COMPONENT: u64 = 1 << 55;
 
 // A one in each of eleven hex digits.
 const ONES: u64 = 0x11111111111;

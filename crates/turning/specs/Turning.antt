@@ -26,7 +26,7 @@ use Rattle.solving.specs.Queue.{Below}
 use Rattle.solving.specs.Ordered.{After, Ascending}
 use Rattle.solving.specs.Tidy.{Tidy}
 use Rattle.solving.specs.TableKeys.{keysOf, boundOf, AllKeyed, tidy-keyed, keys-sorted, table-back}
-use Rattle.solving.specs.Solving.{Fallback, Upper, Lower, Exact, Table, TypeState, stateOf, typesOf, evidence, producedType, listOf, arrayElement, producedArray, additions, orElse, room}
+use Rattle.solving.specs.Solving.{Fallback, Upper, Lower, Exact, Table, TypeState, Links, stateOf, typesOf, evidence, producedType, listOf, arrayElement, producedArray, additions, orElse, room}
 use Rattle.copying.specs.Copies.{runIn, rankIn, wordIn, ranksIn, wordsIn, evidenceIn, uppersIn}
 use Rattle.sending.specs.Sending.{LegalMaybe, sentMaybe, sentElement, sentArray}
 use Rattle.sending.specs.Laws.{maybe-legal}
@@ -163,6 +163,16 @@ gatheredOf w keys root = record {
   fallbacks = length (runIn root Fallback keys);
   uppers = length (uppersIn root keys);
 }
+
+-- and what it leaves in the two slices of ranks
+abbrev pub Gathers : World → List ℕ → ℕ → Gathered → List ℕ → List ℕ → List ℕ → List ℕ → Type 0
+Gathers w keys root r fs fs′ us us′ =
+    (r ≡ gatheredOf w keys root) × (fs′ ≡ paste fs 0 (ranksIn (runIn root 1 keys)) (length (runIn root 1 keys)))
+    × (us′ ≡ paste us 0 (ranksIn (uppersIn root keys)) (length (uppersIn root keys)))
+
+-- the store after a turn: what the definition adds from the state at its start
+abbrev pub turned : World → Links → ℕ → Store → Store
+turned w l root s = putAll (additions w l root (stateIn (take (s .state .count) (s .cells)) root)) s
 
 module _ (pairs marks : List ℕ) (t : Tables) (keys : List ℕ) (y : Asks pairs marks t keys) (root : ℕ) where
   -- both types are legal, so they can be sent

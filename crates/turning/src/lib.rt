@@ -24,7 +24,7 @@ ghost use Rattle.ty.specs.Answers.{maybeWord};
 ghost use Rattle.lattice.specs.World.{worldOf};
 ghost use Rattle.lattice.specs.Lattice.{mostSpecificUpper};
 ghost use Rattle.solving.specs.Solving.{producedType, orElse, additions};
-ghost use Rattle.turning.specs.Turning.{Asks, Turnable, stateIn, gatheredOf};
+ghost use Rattle.turning.specs.Turning.{Asks, Turnable, stateIn, Gathers, turned};
 
 // What a component's exact bounds, or else its lower ones, come to.
 fn produced_of(
@@ -98,7 +98,7 @@ fn gather(
     uppers: &mut [u64],
 ) -> Gathered
     requires { ⌜ Asks (now pairs) (now marks) t (now keys) × (root < 512) × (length (now keys) ≤ length (now words)) × (length (now keys) ≤ length (now fallbacks)) × (length (now keys) ≤ length (now uppers)) ⌝ }
-    ensures { λ r. ⌜ (r ≡ gatheredOf (worldOf (now (pairs .entry)) (now (marks .entry)) t) (now (keys .entry)) root) × (now (fallbacks .exit) ≡ paste (now (fallbacks .entry)) 0 (ranksIn (runIn root 1 (now (keys .entry)))) (length (runIn root 1 (now (keys .entry))))) × (now (uppers .exit) ≡ paste (now (uppers .entry)) 0 (ranksIn (uppersIn root (now (keys .entry)))) (length (uppersIn root (now (keys .entry))))) ⌝ }
+    ensures { λ r. ⌜ Gathers (worldOf (now (pairs .entry)) (now (marks .entry)) t) (now (keys .entry)) root r (now (fallbacks .entry)) (now (fallbacks .exit)) (now (uppers .entry)) (now (uppers .exit)) ⌝ }
 {
     let produced = produced_of(pairs, marks, t, keys, root, words);
     let shape = shape_of(pairs, marks, t, keys, root, words, produced);
@@ -134,7 +134,7 @@ pub fn turn(
     root: u64,
 ) -> State
     requires { ⌜ Turnable (now pairs) (now marks) t (store (now a) (now ring) s) (now words) (now fallbacks) (now uppers) (now flows) (now incoming) (now reads) (now writes) × (root < 512) ⌝ }
-    ensures { λ r. ⌜ store (now (a .exit)) (now (ring .exit)) r ≡ putAll (additions (worldOf (now (pairs .entry)) (now (marks .entry)) t) (linksIn (now (flows .entry)) (now (incoming .entry)) (now (reads .entry)) (now (writes .entry))) root (stateIn (take (s .count) (now (a .entry))) root)) (store (now (a .entry)) (now (ring .entry)) s) ⌝ }
+    ensures { λ r. ⌜ store (now (a .exit)) (now (ring .exit)) r ≡ turned (worldOf (now (pairs .entry)) (now (marks .entry)) t) (linksIn (now (flows .entry)) (now (incoming .entry)) (now (reads .entry)) (now (writes .entry))) root (store (now (a .entry)) (now (ring .entry)) s) ⌝ }
 {
     let n = s.count;
     let g = gather(pairs, marks, t, &a[0..n], root, words, fallbacks, uppers);
