@@ -1,4 +1,4 @@
--- The definitions and laws of names and of chains of checks.
+-- The definitions and laws of names: places, checks, lookup.
 pub mod Names
 pub mod Table
 pub mod Lookup

@@ -1,1 +1,1 @@
--- Nothing of its own: the definitions stand in the crates view and hierarchy.
+-- Nothing of its own: the definitions stand in the crates view and tables.
