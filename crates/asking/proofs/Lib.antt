@@ -1,0 +1,2 @@
+-- The theorem that the contract allows one outcome.
+pub mod Unique
