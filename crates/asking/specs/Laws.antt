@@ -69,7 +69,7 @@ either-false true b h = absurd (true≢false h)
 either-false false b h = (refl, h)
 
 -- who asks for the element asks for what is produced
-pub element-asks : (flows reads writes : List ℕ) (root : ℕ) → askedOf flows reads writes root .element ≡ true → askedOf flows reads writes root .produced ≡ true
+element-asks : (flows reads writes : List ℕ) (root : ℕ) → askedOf flows reads writes root .element ≡ true → askedOf flows reads writes root .produced ≡ true
 element-asks flows reads writes root h = go (begins root (map pairOf reads)) refl (begins root (map pairOf writes)) refl h
   where
     last : (a b : Bool) → b ≡ true → (a || b) ≡ true
@@ -83,6 +83,10 @@ element-asks flows reads writes root h = go (begins root (map pairOf reads)) ref
     go false e b f k =
         last (begins root (map pairOf flows)) (touches root (map pairOf reads) || touches root (map pairOf writes))
         (last (touches root (map pairOf reads)) (touches root (map pairOf writes)) (begins-touches root (map pairOf writes) (f ∙ k)))
+
+pub asked-element : (flows reads writes : List ℕ) (root : ℕ) (k : Asked) → k ≡ askedOf flows reads writes root → k .element ≡ true → k .produced ≡ true
+asked-element flows reads writes root k e h =
+    ap (λ (x : Asked). x .produced) e ∙ element-asks flows reads writes root (sym (ap (λ (x : Asked). x .element) e) ∙ h)
 
 module _ (flows incoming reads writes : List ℕ) (root : ℕ) (fallbacks uppers : List ℕ) where
   abbrev rules : Sent → Sent → Sent → List Addition

@@ -1,6 +1,6 @@
 -- What a turn asks of the tables and of the keys of the bounds, and what it reads off them.
 use mathlib.Core.Path.{_≡_, refl, sym, ap, ap₂, _∙_, subst}
-use mathlib.Core.Bool.{true}
+use mathlib.Core.Bool.{Bool, true, false, cond}
 use mathlib.Core.List.{List, [], _∷_, map}
 use mathlib.Core.Option.{Option, some, none}
 use Prim.Native.Nat.{ℕ, _+_, _-_, _≤_, _<_}
@@ -26,15 +26,19 @@ use Rattle.solving.specs.Queue.{Below}
 use Rattle.solving.specs.Ordered.{After, Ascending}
 use Rattle.solving.specs.Tidy.{Tidy}
 use Rattle.solving.specs.TableKeys.{keysOf, boundOf, AllKeyed, tidy-keyed, keys-sorted, table-back}
-use Rattle.solving.specs.Solving.{Fallback, Upper, Lower, Exact, Table, TypeState, Links, stateOf, typesOf, evidence, producedType, listOf, arrayElement, producedArray, additions, orElse, room}
+use Rattle.solving.specs.Solving.{Fallback, Upper, Lower, Exact, Table, TypeState, Links, Addition, stateOf, typesOf, evidence, producedType, listOf, arrayElement, producedArray, additions, orElse, room}
 use Rattle.copying.specs.Copies.{runIn, rankIn, wordIn, ranksIn, wordsIn, evidenceIn, uppersIn}
 use Rattle.sending.specs.Sending.{LegalMaybe, sentMaybe, sentElement, sentArray}
 use Rattle.sending.specs.Laws.{maybe-legal}
 use Rattle.turning.specs.Gather.{shape, produced-fits, shape-fits, gathered, produced-sendable, element-sendable, array-sendable, fallbacks-ranked, sources-ranked}
 use Rattle.turning.specs.declared.Gathered.{Gathered}
+use Rattle.asking.specs.declared.Asked.{Asked}
+use Rattle.asking.specs.Asking.{asksProduced, asksElement, askedOf}
+use Rattle.asking.specs.Laws.{rules-asked}
 use Rattle.copying.specs.Steps.{paste-front, run-short, two-short}
 use Rattle.inserting.specs.declared.State.{State}
 use Rattle.inserting.specs.declared.Sent.{Sent}
+use Rattle.inserting.specs.declared.Sent.the-variants.{Nothing as NoType}
 use Rattle.inserting.specs.Store.{Store, store, putAll, sentTypes, AllRanked, Sendable, Good, Ready}
 use Rattle.passing.specs.Alike.{Alike}
 use Rattle.rules.specs.Rules.{linksIn, allRules}
@@ -154,20 +158,28 @@ module _ (o u : Option ArgType) (m : MaybeType) (e : m ≡ maybeWord o) where
       go none g = refl
       go (some x) g = absurd (let z : _≡_ {A = ℕ} 0 1 = cc in omega arith)
 
--- WHAT IS GATHERED from the keys
-abbrev pub gatheredOf : World → List ℕ → ℕ → Gathered
-gatheredOf w keys root = record {
-  produced = sentMaybe (maybeWord (producedType w (stateIn keys root)));
-  element = sentElement (maybeWord (orElse (producedType w (stateIn keys root)) (mostSpecificUpper w (stateIn keys root .upper))));
-  array = sentArray (maybeWord (producedType w (stateIn keys root)));
+-- a type that is asked for, or nothing
+abbrev pub onlyIf : Bool → MaybeType → MaybeType
+onlyIf asked m = cond asked m Nothing
+
+only-legal : (asked : Bool) (m : MaybeType) → LegalMaybe m → LegalMaybe (onlyIf asked m)
+only-legal true m h = h
+only-legal false m h = tt
+
+-- WHAT IS GATHERED from the keys, as far as it is asked for
+abbrev pub gatheredOf : Asked → World → List ℕ → ℕ → Gathered
+gatheredOf k w keys root = record {
+  produced = sentMaybe (onlyIf (k .produced) (maybeWord (producedType w (stateIn keys root))));
+  element = sentElement (onlyIf (k .element) (maybeWord (orElse (producedType w (stateIn keys root)) (mostSpecificUpper w (stateIn keys root .upper)))));
+  array = sentArray (onlyIf (k .produced) (maybeWord (producedType w (stateIn keys root))));
   fallbacks = length (runIn root Fallback keys);
   uppers = length (uppersIn root keys);
 }
 
 -- and what it leaves in the two slices of ranks
-abbrev pub Gathers : World → List ℕ → ℕ → Gathered → List ℕ → List ℕ → List ℕ → List ℕ → Type 0
-Gathers w keys root r fs fs′ us us′ =
-    (r ≡ gatheredOf w keys root) × (fs′ ≡ paste fs 0 (ranksIn (runIn root 1 keys)) (length (runIn root 1 keys)))
+abbrev pub Gathers : Asked → World → List ℕ → ℕ → Gathered → List ℕ → List ℕ → List ℕ → List ℕ → Type 0
+Gathers k w keys root r fs fs′ us us′ =
+    (r ≡ gatheredOf k w keys root) × (fs′ ≡ paste fs 0 (ranksIn (runIn root 1 keys)) (length (runIn root 1 keys)))
     × (us′ ≡ paste us 0 (ranksIn (uppersIn root keys)) (length (uppersIn root keys)))
 
 -- the store after a turn: what the definition adds from the state at its start
@@ -176,15 +188,26 @@ turned w l root s = putAll (additions w l root (stateIn (take (s .state .count) 
 
 module _ (pairs marks : List ℕ) (t : Tables) (keys : List ℕ) (y : Asks pairs marks t keys) (root : ℕ) where
   -- both types are legal, so they can be sent
-  pub gather-produced : (m : MaybeType) → m ≡ maybeWord (producedType (worldOf pairs marks t) (stateIn keys root)) → LegalMaybe m
-  gather-produced m e =
+  produced-legal-in : (m : MaybeType) → m ≡ maybeWord (producedType (worldOf pairs marks t) (stateIn keys root)) → LegalMaybe m
+  produced-legal-in m e =
       subst LegalMaybe (sym (e ∙ ap (λ (s : TypeState). maybeWord (producedType (worldOf pairs marks t) s)) (asks-state pairs marks t keys y root)))
       (maybe-legal (producedType (worldOf pairs marks t) (stateOf (y .table) root)) (produced-fits (worldOf pairs marks t) (y .lawful) (y .fits .0) (y .components) (y .table) (y .queue) (y .tidy) root))
 
-  pub gather-shape : (m : MaybeType) → m ≡ maybeWord (orElse (producedType (worldOf pairs marks t) (stateIn keys root)) (mostSpecificUpper (worldOf pairs marks t) (stateIn keys root .upper))) → LegalMaybe m
-  gather-shape m e =
+  shape-legal-in : (m : MaybeType) → m ≡ maybeWord (orElse (producedType (worldOf pairs marks t) (stateIn keys root)) (mostSpecificUpper (worldOf pairs marks t) (stateIn keys root .upper))) → LegalMaybe m
+  shape-legal-in m e =
       subst LegalMaybe (sym (e ∙ ap (λ (s : TypeState). maybeWord (orElse (producedType (worldOf pairs marks t) s) (mostSpecificUpper (worldOf pairs marks t) (s .upper)))) (asks-state pairs marks t keys y root)))
       (maybe-legal (shape (worldOf pairs marks t) (y .lawful) (y .fits .0) (y .components) (y .table) (y .queue) (y .tidy) root) (shape-fits (worldOf pairs marks t) (y .lawful) (y .fits .0) (y .components) (y .table) (y .queue) (y .tidy) root))
+
+  pub gather-produced : (asked : Bool) (m : MaybeType) → m ≡ onlyIf asked (maybeWord (producedType (worldOf pairs marks t) (stateIn keys root))) → LegalMaybe m
+  gather-produced asked m e =
+      subst LegalMaybe (sym e) (only-legal asked (maybeWord (producedType (worldOf pairs marks t) (stateIn keys root))) (produced-legal-in (maybeWord (producedType (worldOf pairs marks t) (stateIn keys root))) refl))
+
+  pub gather-shape : (asked : Bool) (m : MaybeType) → m ≡ onlyIf asked (maybeWord (orElse (producedType (worldOf pairs marks t) (stateIn keys root)) (mostSpecificUpper (worldOf pairs marks t) (stateIn keys root .upper)))) → LegalMaybe m
+  gather-shape asked m e =
+      subst LegalMaybe (sym e) (only-legal asked whole (shape-legal-in whole refl))
+    where
+      whole : MaybeType
+      whole = maybeWord (orElse (producedType (worldOf pairs marks t) (stateIn keys root)) (mostSpecificUpper (worldOf pairs marks t) (stateIn keys root .upper)))
 
 -- WHAT A TURN ASKS
 pub record Turnable (pairs marks : List ℕ) (t : Tables) (s : Store) (words fallbacks uppers flows incoming reads writes : List ℕ) : Type 0 where
@@ -222,7 +245,7 @@ module _ (pairs marks : List ℕ) (t : Tables) (a ring : List ℕ) (s : State) (
   pub turn-ready : Ready (store a ring s)
   turn-ready = record { table = y .table; queue = y .queue; good = y .good }
 
-  module _ (root : ℕ) (g : Gathered) (fs us : List ℕ) (e : g ≡ gatheredOf (worldOf pairs marks t) keysIn root)
+  module _ (root : ℕ) (k : Asked) (ask : k ≡ askedOf flows reads writes root) (g : Gathered) (fs us : List ℕ) (e : g ≡ gatheredOf k (worldOf pairs marks t) keysIn root)
       (f : fs ≡ paste fallbacks 0 (ranksIn (runIn root Fallback keysIn)) (length (runIn root Fallback keysIn)))
       (h : us ≡ paste uppers 0 (ranksIn (uppersIn root keysIn)) (length (uppersIn root keysIn))) where
     abbrev v : World
@@ -247,38 +270,68 @@ module _ (pairs marks : List ℕ) (t : Tables) (a ring : List ℕ) (s : State) (
     unfolding turn-asks
     same = asks-state pairs marks t keysIn turn-asks root
 
-    produced-is : g .produced ≡ sentMaybe (maybeWord (producedType v st))
-    produced-is = ap (λ (x : Gathered). x .produced) e ∙ ap (λ (z : TypeState). sentMaybe (maybeWord (producedType v z))) same
+    -- what would be sent of the whole state
+    abbrev producedSent : Sent
+    producedSent = sentMaybe (maybeWord (producedType v st))
 
-    element-is : g .element ≡ sentElement (maybeWord (orElse (producedType v st) (mostSpecificUpper v (st .upper))))
+    abbrev elementSent : Sent
+    elementSent = sentElement (maybeWord (orElse (producedType v st) (mostSpecificUpper v (st .upper))))
+
+    abbrev arraySent : Sent
+    arraySent = sentArray (maybeWord (producedType v st))
+
+    produced-is : g .produced ≡ sentMaybe (onlyIf (k .produced) (maybeWord (producedType v st)))
+    produced-is = ap (λ (x : Gathered). x .produced) e ∙ ap (λ (z : TypeState). sentMaybe (onlyIf (k .produced) (maybeWord (producedType v z)))) same
+
+    element-is : g .element ≡ sentElement (onlyIf (k .element) (maybeWord (orElse (producedType v st) (mostSpecificUpper v (st .upper)))))
     element-is =
-        ap (λ (x : Gathered). x .element) e ∙ ap (λ (z : TypeState). sentElement (maybeWord (orElse (producedType v z) (mostSpecificUpper v (z .upper))))) same
+        ap (λ (x : Gathered). x .element) e ∙ ap (λ (z : TypeState). sentElement (onlyIf (k .element) (maybeWord (orElse (producedType v z) (mostSpecificUpper v (z .upper)))))) same
 
-    array-is : g .array ≡ sentArray (maybeWord (producedType v st))
-    array-is = ap (λ (x : Gathered). x .array) e ∙ ap (λ (z : TypeState). sentArray (maybeWord (producedType v z))) same
+    array-is : g .array ≡ sentArray (onlyIf (k .produced) (maybeWord (producedType v st)))
+    array-is = ap (λ (x : Gathered). x .array) e ∙ ap (λ (z : TypeState). sentArray (onlyIf (k .produced) (maybeWord (producedType v z)))) same
+
+    -- where it is asked for it is sent
+    produced-asked : asksProduced flows reads writes root ≡ true → (g .produced ≡ producedSent) × (g .array ≡ arraySent)
+    produced-asked b =
+        let c : k .produced ≡ true = ap (λ (x : Asked). x .produced) ask ∙ b in
+        (produced-is ∙ ap (λ (a : Bool). sentMaybe (onlyIf a (maybeWord (producedType v st)))) c, array-is ∙ ap (λ (a : Bool). sentArray (onlyIf a (maybeWord (producedType v st)))) c)
+
+    element-asked : asksElement reads writes root ≡ true → g .element ≡ elementSent
+    element-asked b =
+        let c : k .element ≡ true = ap (λ (x : Asked). x .element) ask ∙ b in
+        element-is ∙ ap (λ (a : Bool). sentElement (onlyIf a (maybeWord (orElse (producedType v st) (mostSpecificUpper v (st .upper)))))) c
 
     -- it stands for the state
-    all : Copied v st (sentMaybe (maybeWord (producedType v st))) (ranksIn (runIn root Fallback (keysOf (y .table)))) (ranksIn (uppersIn root (keysOf (y .table))))
-        (sentElement (maybeWord (orElse (producedType v st) (mostSpecificUpper v (st .upper))))) (sentArray (maybeWord (producedType v st)))
+    all : Copied v st producedSent (ranksIn (runIn root Fallback (keysOf (y .table)))) (ranksIn (uppersIn root (keysOf (y .table)))) elementSent arraySent
     all = gathered v (y .lawful) (y .fits .0) (y .components) (y .table) (y .queue) (y .tidy) root
 
-    copied : Copied v st (g .produced) (take (g .fallbacks - 0) fs) (take (g .uppers - 0) us) (g .element) (g .array)
+    copied : Copied v st producedSent (take (g .fallbacks - 0) fs) (take (g .uppers - 0) us) elementSent arraySent
     copied = record {
-      produced = subst (λ (x : Sent). Alike (sentTypes x) (listOf (producedType v st))) (sym produced-is) (all .produced);
+      produced = all .produced;
       fallbacks = ap (map unrank) fallback-part ∙ all .fallbacks;
       uppers = ap (map unrank) upper-part-of ∙ all .uppers;
-      element = subst (λ (x : Sent). Alike (sentTypes x) (listOf (arrayElement v st))) (sym element-is) (all .element);
-      array = subst (λ (x : Sent). Alike (sentTypes x) (producedArray v st)) (sym array-is) (all .array);
+      element = all .element;
+      array = all .array;
     }
 
+    sends : (asked : Bool) (send : MaybeType → Sent) (m : MaybeType) → send Nothing ≡ NoType → Sendable (send m) → Sendable (send (onlyIf asked m))
+    sends true send m n z = z
+    sends false send m n z = subst Sendable (sym n) tt
+
     pub turn-produced : Sendable (g .produced)
-    turn-produced = subst Sendable (sym produced-is) (produced-sendable v (y .lawful) (y .fits .0) (y .components) (y .table) (y .queue) (y .tidy) root)
+    turn-produced =
+        subst Sendable (sym produced-is)
+        (sends (k .produced) sentMaybe (maybeWord (producedType v st)) refl (produced-sendable v (y .lawful) (y .fits .0) (y .components) (y .table) (y .queue) (y .tidy) root))
 
     pub turn-element : Sendable (g .element)
-    turn-element = subst Sendable (sym element-is) (element-sendable v (y .lawful) (y .fits .0) (y .components) (y .table) (y .queue) (y .tidy) root)
+    turn-element =
+        subst Sendable (sym element-is)
+        (sends (k .element) sentElement (maybeWord (orElse (producedType v st) (mostSpecificUpper v (st .upper)))) refl (element-sendable v (y .lawful) (y .fits .0) (y .components) (y .table) (y .queue) (y .tidy) root))
 
     pub turn-array : Sendable (g .array)
-    turn-array = subst Sendable (sym array-is) (array-sendable v (y .lawful) (y .fits .0) (y .components) (y .table) (y .queue) (y .tidy) root)
+    turn-array =
+        subst Sendable (sym array-is)
+        (sends (k .produced) sentArray (maybeWord (producedType v st)) refl (array-sendable v (y .lawful) (y .fits .0) (y .components) (y .table) (y .queue) (y .tidy) root))
 
     pub turn-fallbacks : AllRanked (take (g .fallbacks - 0) fs)
     turn-fallbacks = subst AllRanked (sym fallback-part) (fallbacks-ranked v (y .lawful) (y .fits .0) (y .components) (y .table) (y .queue) (y .tidy) root)
@@ -300,6 +353,8 @@ module _ (pairs marks : List ℕ) (t : Tables) (a ring : List ℕ) (s : State) (
     pub turn-additions : (z : Store) → putAll (allRules flows incoming reads writes root (g .produced) (take (g .fallbacks - 0) fs) (take (g .uppers - 0) us) (g .element) (g .array)) z
         ≡ putAll (additions v (linksIn flows incoming reads writes) root (stateIn (take (s .count) a) root)) z
     turn-additions z =
-        rules-additions v flows incoming reads writes root st (g .produced) (take (g .fallbacks - 0) fs) (take (g .uppers - 0) us) (g .element) (g .array) copied z
+        ap (λ (l : List Addition). putAll l z)
+        (rules-asked flows incoming reads writes root (take (g .fallbacks - 0) fs) (take (g .uppers - 0) us) (g .produced) producedSent (g .element) elementSent (g .array) arraySent produced-asked element-asked)
+        ∙ rules-additions v flows incoming reads writes root st producedSent (take (g .fallbacks - 0) fs) (take (g .uppers - 0) us) elementSent arraySent copied z
         ∙ ap (λ (x : TypeState). putAll (additions v (linksIn flows incoming reads writes) root x) z)
         (sym same ∙ ap (λ (n : ℕ). stateIn (take n a) root) (let q : s .count - 0 ≡ s .count = omega arith in q))

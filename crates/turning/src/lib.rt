@@ -1,4 +1,6 @@
-// A turn: what a component's state gives, from its copy, and the rules that send it on.
+// A turn: what a component's state gives, from its copy and as far as a link asks for it, and the rules that send it on.
+use asking::Asked;
+use asking::asks;
 use candidates::most_specific_upper;
 use copying::copy_evidence;
 use copying::copy_ranks;
@@ -14,6 +16,7 @@ use sending::send_type;
 use tables::Tables;
 use ty::MaybeType;
 ghost use mathlib.Core.Path.{_≡_};
+ghost use mathlib.Core.Bool.{true};
 ghost use Prim.Native.Nat.{_≤_, _<_};
 ghost use lib.ListN.{length, take};
 ghost use Rattle.inserting.specs.Store.{store, putAll};
@@ -24,7 +27,7 @@ ghost use Rattle.ty.specs.Answers.{maybeWord};
 ghost use Rattle.lattice.specs.World.{worldOf};
 ghost use Rattle.lattice.specs.Lattice.{mostSpecificUpper};
 ghost use Rattle.solving.specs.Solving.{producedType, orElse, additions};
-ghost use Rattle.turning.specs.Turning.{Asks, Turnable, stateIn, Gathers, turned};
+ghost use Rattle.turning.specs.Turning.{Asks, Turnable, stateIn, onlyIf, Gathers, turned};
 
 // What a component's exact bounds, or else its lower ones, come to.
 fn produced_of(
@@ -40,6 +43,25 @@ fn produced_of(
 {
     let m = copy_evidence(keys, root, words);
     join_all(pairs, marks, t, &words[0..m])
+}
+
+// The same where it is asked for.
+fn produced_if(
+    asked: bool,
+    pairs: &[u64],
+    marks: &[u64],
+    t: Tables,
+    keys: &[u64],
+    root: u64,
+    words: &mut [u64],
+) -> MaybeType
+    requires { ⌜ Asks (now pairs) (now marks) t (now keys) × (root < 512) × (length (now keys) ≤ length (now words)) ⌝ }
+    ensures { λ r. ⌜ r ≡ onlyIf asked (maybeWord (producedType (worldOf (now (pairs .entry)) (now (marks .entry)) t) (stateIn (now (keys .entry)) root))) ⌝ }
+{
+    if asked {
+        return produced_of(pairs, marks, t, keys, root, words);
+    }
+    MaybeType::Nothing
 }
 
 // Its most specific upper bound.
@@ -77,6 +99,26 @@ fn shape_of(
     }
 }
 
+// The same where it is asked for.
+fn shape_if(
+    asked: bool,
+    pairs: &[u64],
+    marks: &[u64],
+    t: Tables,
+    keys: &[u64],
+    root: u64,
+    words: &mut [u64],
+    produced: MaybeType,
+) -> MaybeType
+    requires { ⌜ Asks (now pairs) (now marks) t (now keys) × (root < 512) × (length (now keys) ≤ length (now words)) × (asked ≡ true → produced ≡ maybeWord (producedType (worldOf (now pairs) (now marks) t) (stateIn (now keys) root))) ⌝ }
+    ensures { λ r. ⌜ r ≡ onlyIf asked (maybeWord (orElse (producedType (worldOf (now (pairs .entry)) (now (marks .entry)) t) (stateIn (now (keys .entry)) root)) (mostSpecificUpper (worldOf (now (pairs .entry)) (now (marks .entry)) t) (stateIn (now (keys .entry)) root .upper)))) ⌝ }
+{
+    if asked {
+        return shape_of(pairs, marks, t, keys, root, words, produced);
+    }
+    MaybeType::Nothing
+}
+
 // What a turn gathers before its first insertion: what is sent, and how many ranks were copied.
 pub struct Gathered {
     pub produced: Sent,
@@ -88,6 +130,7 @@ pub struct Gathered {
 
 // From the keys of the table, which are only read here.
 fn gather(
+    k: Asked,
     pairs: &[u64],
     marks: &[u64],
     t: Tables,
@@ -97,11 +140,11 @@ fn gather(
     fallbacks: &mut [u64],
     uppers: &mut [u64],
 ) -> Gathered
-    requires { ⌜ Asks (now pairs) (now marks) t (now keys) × (root < 512) × (length (now keys) ≤ length (now words)) × (length (now keys) ≤ length (now fallbacks)) × (length (now keys) ≤ length (now uppers)) ⌝ }
-    ensures { λ r. ⌜ Gathers (worldOf (now (pairs .entry)) (now (marks .entry)) t) (now (keys .entry)) root r (now (fallbacks .entry)) (now (fallbacks .exit)) (now (uppers .entry)) (now (uppers .exit)) ⌝ }
+    requires { ⌜ Asks (now pairs) (now marks) t (now keys) × (root < 512) × (length (now keys) ≤ length (now words)) × (length (now keys) ≤ length (now fallbacks)) × (length (now keys) ≤ length (now uppers)) × (k .element ≡ true → k .produced ≡ true) ⌝ }
+    ensures { λ r. ⌜ Gathers k (worldOf (now (pairs .entry)) (now (marks .entry)) t) (now (keys .entry)) root r (now (fallbacks .entry)) (now (fallbacks .exit)) (now (uppers .entry)) (now (uppers .exit)) ⌝ }
 {
-    let produced = produced_of(pairs, marks, t, keys, root, words);
-    let shape = shape_of(pairs, marks, t, keys, root, words, produced);
+    let produced = produced_if(k.produced, pairs, marks, t, keys, root, words);
+    let shape = shape_if(k.element, pairs, marks, t, keys, root, words, produced);
     let f = copy_ranks(keys, root, 1, fallbacks, 0);
     let u = copy_uppers(keys, root, uppers);
     let sent = send_type(produced);
@@ -137,7 +180,8 @@ pub fn turn(
     ensures { λ r. ⌜ store (now (a .exit)) (now (ring .exit)) r ≡ turned (worldOf (now (pairs .entry)) (now (marks .entry)) t) (linksIn (now (flows .entry)) (now (incoming .entry)) (now (reads .entry)) (now (writes .entry))) root (store (now (a .entry)) (now (ring .entry)) s) ⌝ }
 {
     let n = s.count;
-    let g = gather(pairs, marks, t, &a[0..n], root, words, fallbacks, uppers);
+    let k = asks(flows, reads, writes, root);
+    let g = gather(k, pairs, marks, t, &a[0..n], root, words, fallbacks, uppers);
     let f = g.fallbacks;
     let u = g.uppers;
     let produced = g.produced;
