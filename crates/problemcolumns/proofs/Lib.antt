@@ -1,0 +1,1 @@
+-- The theorem that each contract allows one outcome.
