@@ -5,10 +5,10 @@ use mathlib.Core.List.{List, [], _∷_, _++_, map, append-assoc, append-nil}
 use Prim.Native.Nat.{ℕ, _-_, _^_, _≤_, _<_}
 use native.Mathlib.Omega.{arith}
 use lib.Dec.{eqb}
-use lib.ListN.{length, take, length-map}
+use lib.ListN.{length, take, drop, length-map, length-append}
 use borrow.Author.Tests.{eqb-true, eqb-false, ne-eqb}
 use Rattle.solving.specs.Solving.{Problem}
-use Rattle.solving.specs.TableKeys.{keysOf, boundOf}
+use Rattle.solving.specs.TableKeys.{keyOf, keysOf, boundOf}
 use Rattle.solving.specs.LinkKeys.{pairOf}
 use Rattle.rows.specs.Rows.{filled}
 use Rattle.rows.specs.Keys.{take-filled}
@@ -346,3 +346,29 @@ module _ (names : ℕ) (c : Columns) where
       go : (t : Bool) → eqb (countRefusal n) 0 ≡ t → cond t (variableRun n (c .variables) [] .refusal) (countRefusal n) ≡ 0 → (n ≤ 512) × (variableRun n (c .variables) [] .refusal ≡ 0)
       go true f q = (count-few n (eqb-true (countRefusal n) 0 f), q)
       go false f q = absurd (eqb-false (countRefusal n) 0 f q)
+
+-- ---- what a caller reads off
+
+front-fits : {A : Type 0} (f : A → ℕ) (l : List A) (a a′ : List ℕ) (m : ℕ) → m ≡ length l → a′ ≡ filled (map f l) a → m ≤ length a′
+front-fits f l a a′ m e d =
+    let n = length-map l f in
+    let k = length-append (map f l) (drop (length (map f l)) a) in
+    let q = ap length d in
+    omega arith
+
+module _ (names : ℕ) (c : Columns) (bounds bounds′ flows flows′ uppers uppers′ reads reads′ writes writes′ : List ℕ) (r : ProblemCounts) (t : Taken names c bounds bounds′ flows flows′ uppers uppers′ reads reads′ writes writes′ r) where
+  pub taken-refusal : r .refusal ≡ problem names c .refusal
+  unfolding countsOf
+  taken-refusal = ap (λ (x : ProblemCounts). x .refusal) (t .counts-are)
+
+  -- the entries lie inside the slices
+  pub taken-counts : (r .bounds ≤ length bounds′) × (r .flows ≤ length flows′) × (r .uppers ≤ length uppers′) × (r .reads ≤ length reads′) × (r .writes ≤ length writes′)
+  unfolding countsOf
+  taken-counts =
+      let p = problem names c .problem in (
+        front-fits keyOf (p .bounds) bounds bounds′ (r .bounds) (ap (λ (x : ProblemCounts). x .bounds) (t .counts-are)) (t .bounds-are),
+        front-fits pairKey (p .flows) flows flows′ (r .flows) (ap (λ (x : ProblemCounts). x .flows) (t .counts-are)) (t .flows-are),
+        front-fits pairKey (p .upperFlows) uppers uppers′ (r .uppers) (ap (λ (x : ProblemCounts). x .uppers) (t .counts-are)) (t .uppers-are),
+        front-fits pairKey (p .reads) reads reads′ (r .reads) (ap (λ (x : ProblemCounts). x .reads) (t .counts-are)) (t .reads-are),
+        front-fits pairKey (p .writes) writes writes′ (r .writes) (ap (λ (x : ProblemCounts). x .writes) (t .counts-are)) (t .writes-are),
+      )

@@ -20,9 +20,9 @@ use Rattle.problems.specs.Problems.{Columns, evenProblem}
 use Rattle.problems.specs.Held.{Words}
 use Rattle.problemrows.specs.declared.Added.{Added}
 use Rattle.problemrows.specs.ProblemRows.{Ran, refused, taken, countRefusal, variableRefusal, variableRow, entryRow, pairRow, boundRow, Adds}
-use Rattle.problemrows.specs.Laws.{added, adds-entries}
+use Rattle.problemrows.specs.Laws.{added, adds-by, adds-entries}
 use Rattle.problemcolumns.specs.ProblemColumns.{evenRows}
-use Rattle.problemcolumns.specs.Runs.{variableRun, headRefusal, boundRun, pairRun, after}
+use Rattle.problemcolumns.specs.Runs.{variableRun, headRefusal, boundRun, pairRun, after, boundsRan, flowsRan, uppersRan, readsRan, writesRan, Enters}
 
 -- ---- columns of equal length
 
@@ -228,6 +228,9 @@ module _ (room n : ℕ) (a₀ a a′ : List ℕ) (s : Ran) (r : Added) (h : n �
 pub adds-told : {s : Ran} {a a′ : List ℕ} {r : Added} → Adds s a a′ r → r .refusal ≡ s .refusal
 adds-told h = ap (λ (x : Added). x .refusal) (h .added-is)
 
+pub adds-many : {s : Ran} {a a′ : List ℕ} {r : Added} → Adds s a a′ r → r .count ≡ length (s .entries)
+adds-many h = ap (λ (x : Added). x .count) (h .added-is)
+
 -- the run's end
 pub adds-end : (n : ℕ) (a₀ a : List ℕ) → n ≤ length a → a ≡ filled (take n a) a₀ → Adds (taken (take n a)) a₀ a (added 0 n)
 adds-end n a₀ a h f = record { added-is = ap (added 0) (sym (length-take-le n a h)); entries-are = f }
@@ -242,3 +245,61 @@ module _ (z : ℕ) (s : Ran) (a a′ : List ℕ) where
   pub after-taken : (r : Added) → z ≡ 0 → Adds s a a′ r → Adds (after z s) a a′ r
   unfolding after
   after-taken r e d = subst (λ (t : Bool). Adds (cond t s (refused z [])) a a′ r) (sym (eq-eqb z 0 e)) d
+
+-- reads keep to their room
+pub reads-few : (z components : ℕ) (xs ys a a′ : List ℕ) (r : Added) → Adds (after z (pairRun components 1024 xs ys [])) a a′ r → r .count ≤ 1024
+reads-few z components xs ys a a′ r d =
+    let n = adds-many d in
+    let m = after-few z 1024 (pairRun components 1024 xs ys []) (pairs-few components 1024 xs ys [] tt (omega arith)) in
+    omega (arith, n, m)
+
+-- ---- kind after kind
+
+writes-by : (names : ℕ) (c : Columns) (r r′ w w′ : List ℕ) (rr rw : Added) → Adds (readsRan names c) r r′ rr
+    → Adds (after (rr .refusal) (pairRun (c .components) (1024 - rr .count) (c .writeArrays) (c .writeValues) [])) w w′ rw → Adds (writesRan names c) w w′ rw
+unfolding writesRan
+writes-by names c r r′ w w′ rr rw rs ws =
+    adds-by (ap₂ (λ (z m : ℕ). after z (pairRun (c .components) (1024 - m) (c .writeArrays) (c .writeValues) [])) (sym (adds-told rs)) (sym (adds-many rs))) ws
+
+module _ (names : ℕ) (c : Columns) (b b′ f f′ u u′ r r′ w w′ : List ℕ) (rb rf ru rr rw : Added)
+    (bs : Adds (boundRun names (c .components) (c .boundComponents) (c .boundKinds) (c .boundWords) []) b b′ rb)
+    (fs : Adds (after (rb .refusal) (pairRun (c .components) 2048 (c .flowSources) (c .flowTargets) [])) f f′ rf)
+    (us : Adds (after (rf .refusal) (pairRun (c .components) 1024 (c .upperSources) (c .upperTargets) [])) u u′ ru)
+    (rs : Adds (after (ru .refusal) (pairRun (c .components) 1024 (c .readArrays) (c .readResults) [])) r r′ rr) where
+  bounds-ran : Adds (boundsRan names c) b b′ rb
+  unfolding boundsRan
+  bounds-ran = bs
+
+  flows-ran : Adds (flowsRan names c) f f′ rf
+  unfolding flowsRan
+  flows-ran = adds-by (ap (λ (z : ℕ). after z (pairRun (c .components) 2048 (c .flowSources) (c .flowTargets) [])) (sym (adds-told bounds-ran))) fs
+
+  uppers-ran : Adds (uppersRan names c) u u′ ru
+  unfolding uppersRan
+  uppers-ran = adds-by (ap (λ (z : ℕ). after z (pairRun (c .components) 1024 (c .upperSources) (c .upperTargets) [])) (sym (adds-told flows-ran))) us
+
+  reads-ran : Adds (readsRan names c) r r′ rr
+  unfolding readsRan
+  reads-ran = adds-by (ap (λ (z : ℕ). after z (pairRun (c .components) 1024 (c .readArrays) (c .readResults) [])) (sym (adds-told uppers-ran))) rs
+
+  -- the room that the reads leave
+  pub entered : Adds (after (rr .refusal) (pairRun (c .components) (1024 - rr .count) (c .writeArrays) (c .writeValues) [])) w w′ rw
+      → Enters names c b b′ f f′ u u′ r r′ w w′ (record { refusal = rw .refusal; bounds = rb .count; flows = rf .count; uppers = ru .count; reads = rr .count; writes = rw .count })
+  entered ws =
+      let told = adds-told writes-ran in
+      let nb = adds-many bounds-ran in
+      let nf = adds-many flows-ran in
+      let nu = adds-many uppers-ran in
+      let nr = adds-many reads-ran in
+      let nw = adds-many writes-ran in
+      record {
+        counts-are = λ i. record { refusal = told i; bounds = nb i; flows = nf i; uppers = nu i; reads = nr i; writes = nw i };
+        bounds-are = bounds-ran .entries-are;
+        flows-are = flows-ran .entries-are;
+        uppers-are = uppers-ran .entries-are;
+        reads-are = reads-ran .entries-are;
+        writes-are = writes-ran .entries-are;
+      }
+    where
+      writes-ran : Adds (writesRan names c) w w′ rw
+      writes-ran = writes-by names c r r′ w w′ rr rw reads-ran ws

@@ -171,3 +171,103 @@ fn add_pairs_after(
     }
     add_pairs(components, firsts, seconds, pairs, room)
 }
+
+// Bounds and pairs, where the count and the variables are taken.
+fn build_entries(
+    names: u64,
+    components: u64,
+    var_comp: &[u64],
+    bnd_comp: &[u64],
+    bnd_kind: &[u64],
+    bnd_type: &[u64],
+    flow_src: &[u64],
+    flow_dst: &[u64],
+    up_src: &[u64],
+    up_dst: &[u64],
+    read_arr: &[u64],
+    read_res: &[u64],
+    write_arr: &[u64],
+    write_val: &[u64],
+    bounds: &mut [u64],
+    flows: &mut [u64],
+    uppers: &mut [u64],
+    reads: &mut [u64],
+    writes: &mut [u64],
+) -> ProblemCounts
+    requires { ⌜ (names ≤ 1024) × (components ≤ 512) × (evenProblem (columnsIn components (now «var_comp») (now «bnd_comp») (now «bnd_kind») (now «bnd_type») (now «flow_src») (now «flow_dst») (now «up_src») (now «up_dst») (now «read_arr») (now «read_res») (now «write_arr») (now «write_val»)) ≡ true) × Roomy (now bounds) (now flows) (now uppers) (now reads) (now writes) ⌝ }
+    ensures { λ r. ⌜ Enters names (columnsIn components (now («var_comp» .entry)) (now («bnd_comp» .entry)) (now («bnd_kind» .entry)) (now («bnd_type» .entry)) (now («flow_src» .entry)) (now («flow_dst» .entry)) (now («up_src» .entry)) (now («up_dst» .entry)) (now («read_arr» .entry)) (now («read_res» .entry)) (now («write_arr» .entry)) (now («write_val» .entry))) (now (bounds .entry)) (now (bounds .exit)) (now (flows .entry)) (now (flows .exit)) (now (uppers .entry)) (now (uppers .exit)) (now (reads .entry)) (now (reads .exit)) (now (writes .entry)) (now (writes .exit)) r ⌝ }
+{
+    let b = add_bounds(names, components, bnd_comp, bnd_kind, bnd_type, bounds);
+    let f = add_pairs_after(b.refusal, components, flow_src, flow_dst, flows, FLOWS);
+    let u = add_pairs_after(f.refusal, components, up_src, up_dst, uppers, UPPER_FLOWS);
+    let r = add_pairs_after(u.refusal, components, read_arr, read_res, reads, ARRAYS);
+    let room = ARRAYS - r.count;
+    let w = add_pairs_after(r.refusal, components, write_arr, write_val, writes, room);
+    ProblemCounts {
+        refusal: w.refusal,
+        bounds: b.count,
+        flows: f.count,
+        uppers: u.count,
+        reads: r.count,
+        writes: w.count,
+    }
+}
+
+// The problem of columns of equal length.
+pub fn build_problem(
+    names: u64,
+    components: u64,
+    var_comp: &[u64],
+    bnd_comp: &[u64],
+    bnd_kind: &[u64],
+    bnd_type: &[u64],
+    flow_src: &[u64],
+    flow_dst: &[u64],
+    up_src: &[u64],
+    up_dst: &[u64],
+    read_arr: &[u64],
+    read_res: &[u64],
+    write_arr: &[u64],
+    write_val: &[u64],
+    bounds: &mut [u64],
+    flows: &mut [u64],
+    uppers: &mut [u64],
+    reads: &mut [u64],
+    writes: &mut [u64],
+) -> ProblemCounts
+    requires { ⌜ (names ≤ 1024) × (evenProblem (columnsIn components (now «var_comp») (now «bnd_comp») (now «bnd_kind») (now «bnd_type») (now «flow_src») (now «flow_dst») (now «up_src») (now «up_dst») (now «read_arr») (now «read_res») (now «write_arr») (now «write_val»)) ≡ true) × Roomy (now bounds) (now flows) (now uppers) (now reads) (now writes) ⌝ }
+    ensures { λ r. ⌜ Taken names (columnsIn components (now («var_comp» .entry)) (now («bnd_comp» .entry)) (now («bnd_kind» .entry)) (now («bnd_type» .entry)) (now («flow_src» .entry)) (now («flow_dst» .entry)) (now («up_src» .entry)) (now («up_dst» .entry)) (now («read_arr» .entry)) (now («read_res» .entry)) (now («write_arr» .entry)) (now («write_val» .entry))) (now (bounds .entry)) (now (bounds .exit)) (now (flows .entry)) (now (flows .exit)) (now (uppers .entry)) (now (uppers .exit)) (now (reads .entry)) (now (reads .exit)) (now (writes .entry)) (now (writes .exit)) r ⌝ }
+{
+    let refusal = check_head(components, var_comp);
+    if refusal != 0 {
+        return ProblemCounts {
+            refusal: refusal,
+            bounds: 0,
+            flows: 0,
+            uppers: 0,
+            reads: 0,
+            writes: 0,
+        };
+    }
+    build_entries(
+        names,
+        components,
+        var_comp,
+        bnd_comp,
+        bnd_kind,
+        bnd_type,
+        flow_src,
+        flow_dst,
+        up_src,
+        up_dst,
+        read_arr,
+        read_res,
+        write_arr,
+        write_val,
+        bounds,
+        flows,
+        uppers,
+        reads,
+        writes,
+    )
+}
