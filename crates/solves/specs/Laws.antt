@@ -2,6 +2,7 @@
 -- written out, is what a solve leaves. Assumes nothing.
 use mathlib.Core.Path.{_≡_, refl, sym, ap, ap₂, _∙_, subst}
 use mathlib.Core.List.{List, [], _∷_, _++_, map, List·Memᴰ, List·Memᴰ·head, List·Memᴰ·tail}
+use mathlib.Core.Logic.{_⊎_, inl, inr, ⊎-elim}
 use Prim.Native.Nat.{ℕ, _+_, _-_, _≤_, _<_}
 use native.Mathlib.Omega.{arith}
 use lib.ListN.{length, length-map, take, drop}
@@ -21,6 +22,7 @@ use Rattle.solving.specs.Ordered.{setOf, Ascending}
 use Rattle.solving.specs.OrderedLaws.{Total, set-ascending, set-has, set-only, same-members}
 use Rattle.solving.specs.Orders.{bounds-total, pairs-total}
 use Rattle.solving.specs.Queue.{Below}
+use Rattle.solving.specs.Runs.{propagate-stops}
 use Rattle.solving.specs.Tidy.{Tidy, Among, propagate-tidy}
 use Rattle.solving.specs.TableKeys.{Holds, keyOf, keysOf, boundOf, AllKeyed, bound-back, tidy-keyed}
 use Rattle.solving.specs.LinkKeys.{pairOf}
@@ -38,7 +40,7 @@ use Rattle.solver.specs.Solver.{Solvable, counted, Solved}
 use Rattle.linking.specs.Linking.{incomingOf}
 use Rattle.linking.specs.Laws.{incoming-sorted, incoming-most, incoming-links}
 use Rattle.columnsout.specs.Columns.{front, Written}
-use Rattle.solves.specs.SolveResult.{Lent, lent, Roomy, countsOf, answersAfter, columnAfter, componentsAfter, kindsAfter, typesAfter}
+use Rattle.solves.specs.SolveResult.{Lent, lent, Roomy, countsOf, answersAfter, columnAfter, componentsAfter, kindsAfter, typesAfter, Solves}
 
 minus-none : (n : ℕ) → n - 0 ≡ n
 minus-none n = omega arith
@@ -225,3 +227,18 @@ module _ (pairs marks : List ℕ) (t : Tables) (components : ℕ) (variables bou
             kinds = column-filled (λ b. b .kind) (y .table) keys (l .kinds) (l′ .kinds) keyed (same ∙ keys-are) (c .kinds-are);
             types = column-filled (λ b. wordOf (b .type)) (y .table) keys (l .types) (l′ .types) keyed (same ∙ keys-are) (c .types-are);
           })
+
+-- ---- for who reads the contract
+
+-- A REFUSED SOLVE IS 20 OR 21 AND ZEROS, and leaves answers and columns as they came
+pub solves-refused : (w : World) (p : Problem) (l l′ : Lent) (r : Counts) → Solves (solve w p) l l′ r → (r .refusal ≡ 0 → ⊥)
+    → (r ≡ counted (r .refusal) 0 0) × ((r .refusal ≡ 20) ⊎ (r .refusal ≡ 21)) × (l′ .answers ≡ l .answers) × (l′ .components ≡ l .components) × (l′ .kinds ≡ l .kinds) × (l′ .types ≡ l .types)
+unfolding solve countsOf answersAfter componentsAfter kindsAfter typesAfter
+solves-refused w p l l′ r y refused = go (runOf w p) refl y
+  where
+    go : (f : Finish) → runOf w p ≡ f → Solves (solution w (p .variables) f) l l′ r
+        → (r ≡ counted (r .refusal) 0 0) × ((r .refusal ≡ 20) ⊎ (r .refusal ≡ 21)) × (l′ .answers ≡ l .answers) × (l′ .components ≡ l .components) × (l′ .kinds ≡ l .kinds) × (l′ .types ≡ l .types)
+    go (Stopped j) e h =
+        let n : r .refusal ≡ j = ap (λ (x : Counts). x .refusal) (h .counts) in
+        (h .counts ∙ ap (λ (m : ℕ). counted m 0 0) (sym n), ⊎-elim (λ z. inl (n ∙ z)) (λ z. inr (n ∙ z)) (propagate-stops w (linksOf p) (p .components) (tableOf p) j e), h .answers, h .components, h .kinds, h .types)
+    go (Ended u q n) e h = absurd (refused (ap (λ (x : Counts). x .refusal) (h .counts)))
