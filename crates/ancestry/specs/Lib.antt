@@ -1,0 +1,2 @@
+-- What is reached from many classes at once.
+pub mod Spread
