@@ -47,8 +47,8 @@ returns c =
     (c .before .before .before .before .difference .ensures) (c .before .before .before .spread .ensures) (c .before .before .difference2 .ensures)
     (sym (c .before .lowest .ensures) ∙ c .if1 .taken)
 
-lowest-by-walks-requires : tie.Need-lowest-by-walks-requires
-lowest-by-walks-requires c κs =
+lowest-left-requires : tie.Need-lowest-left-requires
+lowest-left-requires c κs =
     let a = c .before .before .before .before .before .before .before .before .before .args in
     let p = c .before .before .before .before .before .before .before .before .before .pre in
     let v = viewOf (a .pairs .now) (a .marks .now) (a .t) in
@@ -71,7 +71,7 @@ returns-2 c =
     (p .2) (p .3) (p .4) (p .5)
     (c .before .before .before .before .before .before .before .expand .ensures ∙ ap (λ (s : List _). withParents v s (members (at (a .all .words)) 0 1024)) (c .before .before .before .before .before .before .before .before .empty .ensures))
     (c .before .before .before .before .before .before .difference .ensures) (c .before .before .before .before .before .spread .ensures) (c .before .before .before .before .difference2 .ensures)
-    (c .before .lowest-by-walks .result .words) (c .union .result .words) (c .before .lowest-by-walks .ensures) (c .union .ensures)
+    (c .before .lowest-left .result .words) (c .union .result .words) (c .before .lowest-left .ensures) (c .union .ensures)
 
 pub lowest-many-spec : {M : Type 1} → statement M
 lowest-many-spec =
@@ -84,6 +84,6 @@ lowest-many-spec =
     difference-requires-2
     lowest-requires
     returns
-    lowest-by-walks-requires
+    lowest-left-requires
     union-requires
     returns-2)
