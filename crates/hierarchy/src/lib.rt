@@ -27,7 +27,7 @@ fn with_class(s: Set, names: u64, p: u64) -> Set
 }
 
 // The set with the parents of c.
-fn with_parents(pairs: &[u64], marks: &[u64], t: Tables, c: u64, s: Set) -> Set
+pub fn with_parents(pairs: &[u64], marks: &[u64], t: Tables, c: u64, s: Set) -> Set
     ensures { λ r. ⌜ r .words ≡ insertAll (s .words) (viewOf (now (pairs .entry)) (now (marks .entry)) t .parents c) ⌝ }
 {
     let run = sorted::run(pairs, t.pairs, NAMES, c);
@@ -42,7 +42,7 @@ fn with_parents(pairs: &[u64], marks: &[u64], t: Tables, c: u64, s: Set) -> Set
 }
 
 // The set with the parents of each class of `front`.
-fn expand(pairs: &[u64], marks: &[u64], t: Tables, s: Set, front: Set) -> Set
+pub fn expand(pairs: &[u64], marks: &[u64], t: Tables, s: Set, front: Set) -> Set
     ensures { λ r. ⌜ r .words ≡ withParents (viewOf (now (pairs .entry)) (now (marks .entry)) t) (s .words) (members (at (front .words)) 0 1024) ⌝ }
 {
     let mut all = s;

@@ -1,1 +1,3 @@
--- Nothing of its own: the definitions stand in the crates view and tables.
+-- How the lowest of the common ancestors are found; what is asked stands in the crates view and tables.
+pub mod Sources
+pub mod Stripped

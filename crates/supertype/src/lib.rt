@@ -1,6 +1,12 @@
 // The least common supertype, from hierarchy.rs, over the class tables as `hierarchy` reads them.
+use ancestry::ROWS;
+use ancestry::fill;
+use ancestry::is_in;
+use ancestry::row_of;
+use ancestry::spread;
 use hierarchy::ancestors;
 use hierarchy::distance_or_far;
+use hierarchy::expand;
 use hierarchy::reached;
 use hierarchy::reaches;
 use sets::Set;
@@ -10,11 +16,17 @@ ghost use mathlib.Core.Bool.{true, cond};
 ghost use Prim.Native.Nat.{ℕ, _≤_, _<_, max};
 ghost use lib.ListN.{length};
 ghost use Rattle.sets.specs.Sets.{at, member, members, remove};
-ghost use Rattle.view.specs.View.{supertype, numberOf};
+ghost use Rattle.view.specs.View.{reached, supertype, numberOf};
 ghost use Rattle.view.specs.Nearest.{greater, sum};
 ghost use Rattle.view.specs.Lows.{strip, Lows, LowestOf};
 ghost use Rattle.view.specs.Pick.{before, NearestOf};
 ghost use Rattle.tables.specs.Table.{namesRoom, viewOf};
+ghost use Rattle.ancestry.specs.Rows.{rowsRoom, row};
+ghost use Rattle.supertype.specs.Sources.{Upward};
+ghost use Rattle.supertype.specs.Stripped.{stripRows};
+
+// How many classes are walked from, each by itself, before rows are made for them.
+const FEW: u64 = 8;
 
 // The set, without c where `taken`.
 fn without_if(s: Set, taken: bool, c: u64) -> Set
@@ -41,9 +53,9 @@ fn not_reaching(pairs: &[u64], marks: &[u64], t: Tables, s: Set, d: u64) -> Set
     kept
 }
 
-// Of a set without Object, the classes with none strictly below. What a class reaches is looked at no more: it is strictly
-// above, and out, or reaches back, and has the same above it.
-fn lowest_others(pairs: &[u64], marks: &[u64], t: Tables, all: Set) -> Set
+// Of a set of classes, those with none strictly below. What a class reaches is looked at no more: it is strictly above, and out, or
+// reaches back, and has the same above it.
+fn lowest_by_walks(pairs: &[u64], marks: &[u64], t: Tables, all: Set) -> Set
     requires { ⌜ (t .names ≤ namesRoom) × (t .object < t .names) × (length (all .words) ≡ 16) × ((c : ℕ) → member (all .words) c ≡ true → c < t .names) ⌝ }
     ensures { λ r. ⌜ Lows (viewOf (now (pairs .entry)) (now (marks .entry)) t) (all .words) (r .words) ⌝ }
 {
@@ -60,13 +72,98 @@ fn lowest_others(pairs: &[u64], marks: &[u64], t: Tables, all: Set) -> Set
     alive
 }
 
+// Of s, the classes whose row has not d.
+fn not_in_rows(rows: &[u64], s: Set, d: u64) -> Set
+    requires { ⌜ (length (now rows) ≡ rowsRoom) × (d < namesRoom) ⌝ }
+    ensures { λ r. ⌜ r .words ≡ stripRows (now (rows .entry)) d (s .words) (members (at (s .words)) 0 1024) ⌝ }
+{
+    let mut kept = s;
+    let mut left = s;
+    let mut c = left.lowest();
+    while c < 1024 {
+        kept = without_if(kept, is_in(rows, c, d), c);
+        left = left.without(c);
+        c = left.lowest();
+    }
+    kept
+}
+
+// As `lowest_by_walks`, where the rows of the classes are at hand: what each reaches.
+fn lowest_by_rows(pairs: &[u64], marks: &[u64], t: Tables, all: Set, rows: &[u64]) -> Set
+    requires { ⌜ (t .names ≤ namesRoom) × (t .object < t .names) × (length (all .words) ≡ 16) × ((c : ℕ) → member (all .words) c ≡ true → c < t .names) × (length (now rows) ≡ rowsRoom) × ((c : ℕ) → member (all .words) c ≡ true → row (now rows) c ≡ reached (viewOf (now pairs) (now marks) t) c) ⌝ }
+    ensures { λ r. ⌜ Lows (viewOf (now (pairs .entry)) (now (marks .entry)) t) (all .words) (r .words) ⌝ }
+{
+    let mut alive = all;
+    let mut todo = all;
+    let mut d = todo.lowest();
+    while d < t.names {
+        let r = row_of(rows, d);
+        let above = not_in_rows(rows, r.intersection(alive), d);
+        alive = alive.difference(above);
+        todo = todo.difference(r);
+        d = todo.lowest();
+    }
+    alive
+}
+
+// The same, with rows made for it.
+fn lowest_by_table(pairs: &[u64], marks: &[u64], t: Tables, all: Set) -> Set
+    requires { ⌜ (t .names ≤ namesRoom) × (t .object < t .names) × (length (all .words) ≡ 16) × ((c : ℕ) → member (all .words) c ≡ true → c < t .names) ⌝ }
+    ensures { λ r. ⌜ Lows (viewOf (now (pairs .entry)) (now (marks .entry)) t) (all .words) (r .words) ⌝ }
+{
+    let mut rows = [0u64; ROWS];
+    let above = spread(pairs, marks, t, all);
+    fill(pairs, marks, t, above, &mut rows);
+    lowest_by_rows(pairs, marks, t, all, &rows)
+}
+
+// The same: a few classes are walked from, for more of them rows are made.
+fn lowest_left(pairs: &[u64], marks: &[u64], t: Tables, all: Set) -> Set
+    requires { ⌜ (t .names ≤ namesRoom) × (t .object < t .names) × (length (all .words) ≡ 16) × ((c : ℕ) → member (all .words) c ≡ true → c < t .names) ⌝ }
+    ensures { λ r. ⌜ Lows (viewOf (now (pairs .entry)) (now (marks .entry)) t) (all .words) (r .words) ⌝ }
+{
+    if all.count() < FEW {
+        return lowest_by_walks(pairs, marks, t, all);
+    }
+    lowest_by_table(pairs, marks, t, all)
+}
+
+// The same of `others`, which is `all` but for Object: first the sources, which no class of `all` has as a parent. What they reach is
+// not among the lowest; what is left stands on a cycle, or above one.
+fn lowest_many(pairs: &[u64], marks: &[u64], t: Tables, all: Set, others: Set) -> Set
+    requires { ⌜ (t .names ≤ namesRoom) × (t .object < t .names) × (length (all .words) ≡ 16) × (length (others .words) ≡ 16) × ((c : ℕ) → member (others .words) c ≡ true → c < t .names) × Upward (viewOf (now pairs) (now marks) t) (all .words) (others .words) ⌝ }
+    ensures { λ r. ⌜ Lows (viewOf (now (pairs .entry)) (now (marks .entry)) t) (others .words) (r .words) ⌝ }
+{
+    let direct = expand(pairs, marks, t, Set::empty(), all);
+    let sources = others.difference(direct);
+    let covered = spread(pairs, marks, t, sources);
+    let rest = others.difference(covered);
+    if rest.lowest() == 1024 {
+        return sources;
+    }
+    let low = lowest_left(pairs, marks, t, rest);
+    sources.union(low)
+}
+
+// The same; one class alone is the lowest.
+fn lowest_others(pairs: &[u64], marks: &[u64], t: Tables, all: Set, others: Set) -> Set
+    requires { ⌜ (t .names ≤ namesRoom) × (t .object < t .names) × (length (all .words) ≡ 16) × (length (others .words) ≡ 16) × ((c : ℕ) → member (others .words) c ≡ true → c < t .names) × Upward (viewOf (now pairs) (now marks) t) (all .words) (others .words) ⌝ }
+    ensures { λ r. ⌜ Lows (viewOf (now (pairs .entry)) (now (marks .entry)) t) (others .words) (r .words) ⌝ }
+{
+    let rest = others.without(others.lowest());
+    if rest.lowest() == 1024 {
+        return others;
+    }
+    lowest_many(pairs, marks, t, all, others)
+}
+
 // Of a set with Object, the classes with none strictly below. Below Object is what it does not reach.
 fn lowest_of(pairs: &[u64], marks: &[u64], t: Tables, all: Set) -> Set
-    requires { ⌜ (t .names ≤ namesRoom) × (t .object < t .names) × (length (all .words) ≡ 16) × ((c : ℕ) → member (all .words) c ≡ true → c < t .names) × (member (all .words) (t .object) ≡ true) ⌝ }
+    requires { ⌜ (t .names ≤ namesRoom) × (t .object < t .names) × (length (all .words) ≡ 16) × ((c : ℕ) → member (all .words) c ≡ true → c < t .names) × (member (all .words) (t .object) ≡ true) × Upward (viewOf (now pairs) (now marks) t) (all .words) (remove (all .words) (t .object)) ⌝ }
     ensures { λ r. ⌜ LowestOf (viewOf (now (pairs .entry)) (now (marks .entry)) t) (all .words) (r .words) ⌝ }
 {
     let others = all.without(t.object);
-    let low = lowest_others(pairs, marks, t, others);
+    let low = lowest_others(pairs, marks, t, all, others);
     let unreached = others.difference(reached(pairs, marks, t, t.object));
     if unreached.lowest() == 1024 {
         return low.with(t.object);

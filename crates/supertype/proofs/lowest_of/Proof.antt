@@ -8,6 +8,7 @@ use lib.ListN.{length}
 use Rattle.sets.specs.Sets.{member}
 use Rattle.sets.specs.Laws.{length-remove}
 use Rattle.tables.specs.Table.{viewOf, view-good}
+use Rattle.supertype.specs.Sources.{Upward}
 use Rattle.view.specs.Lows.{remove-only, object-lowest, object-not-lowest}
 use Rattle.supertype.proofs.lowest_of.Statement.{statement}
 use Rattle.supertype.proofs.lowest_of.Tie as tie
@@ -22,8 +23,10 @@ lowest-others-requires c κs =
     let e = c .without .ensures in (
       p .0,
       p .1,
+      p .2,
       ap length e ∙ length-remove (a .all .words) (a .t .object) ∙ p .2,
       λ d m. p .3 d (remove-only (a .all .words) (a .t .object) d (subst (λ (s : List ℕ). member s d ≡ true) e m) .1),
+      subst (Upward (viewOf (a .pairs .now) (a .marks .now) (a .t)) (a .all .words)) (sym e) (p .5),
     )
 
 reached-requires : tie.Need-reached-requires

@@ -2,6 +2,8 @@
 use borrow.Author.Needs.{needs}
 use mathlib.Core.Path.{sym, _∙_}
 use Rattle.tables.specs.Table.{viewOf, view-good}
+use Rattle.supertype.specs.Sources.{common-upward}
+use Rattle.view.specs.Lows.{remove-only}
 use Rattle.view.specs.Pick.{found-right, found-left, found-nearest, all-fits}
 use Rattle.supertype.proofs.supertype.Statement.{statement}
 use Rattle.supertype.proofs.supertype.Tie as tie
@@ -39,10 +41,21 @@ lowest-of-requires : tie.Need-lowest-of-requires
 lowest-of-requires c κs =
     let a = c .before .before .before .before .before .before .before .before .before .args in
     let p = c .before .before .before .before .before .before .before .before .before .pre in
+    let x = c .before .before .before .before .before .before .ancestors in
+    let y = c .before .before .before .ancestors2 in
+    let z = c .intersection in
     let f =
-    all-fits (viewOf (a .pairs .now) (a .marks .now) (a .t)) (view-good (a .pairs .now) (a .marks .now) (a .t) (p .0) (p .1)) (a .left) (a .right) (p .2) (p .3)
-    (c .before .before .before .before .before .before .ancestors .result .words) (c .before .before .before .ancestors2 .result .words) (c .before .before .before .before .before .before .ancestors .ensures) (c .before .before .before .ancestors2 .ensures) (sym (c .before .before .before .before .before .has .ensures) ∙ c .before .before .before .before .if1 .left) (c .intersection .result .words) (c .intersection .ensures) in
-    (p .0, p .1, f .0, f .1, f .2)
+    all-fits (viewOf (a .pairs .now) (a .marks .now) (a .t)) (view-good (a .pairs .now) (a .marks .now) (a .t) (p .0) (p .1)) (a .left) (a .right) (p .2) (p .3) (x .result .words) (y .result .words) (x .ensures) (y .ensures)
+    (sym (c .before .before .before .before .before .has .ensures) ∙ c .before .before .before .before .if1 .left) (z .result .words) (z .ensures) in (
+      p .0,
+      p .1,
+      f .0,
+      f .1,
+      f .2,
+      λ d e m r.
+          let w = remove-only (z .result .words) (a .t .object) d m in
+          common-upward (viewOf (a .pairs .now) (a .marks .now) (a .t)) (view-good (a .pairs .now) (a .marks .now) (a .t) (p .0) (p .1)) (a .left) (a .right) (p .2) (p .3) (x .result .words) (y .result .words) (z .result .words) (x .ensures) (y .ensures) (z .ensures) d e (w .0) (w .1) r,
+    )
 
 nearest-of-requires : tie.Need-nearest-of-requires
 nearest-of-requires c κs = search needs
