@@ -5,4 +5,5 @@ pub mod Names
 pub mod Fold
 pub mod Given
 pub mod GivenLaws
+pub mod Gathered
 pub mod Examples

@@ -8,6 +8,12 @@ use Rattle.rows.proofs.add_name.Reads as add-name
 use Rattle.rows.proofs.add_name.Kinds as add-name-kinds
 use Rattle.rows.proofs.add_record.Reads as add-record
 use Rattle.rows.proofs.add_record.Kinds as add-record-kinds
+use Rattle.rows.proofs.is_flags.Reads as is-flags
+use Rattle.rows.proofs.is_flags.Kinds as is-flags-kinds
+use Rattle.rows.proofs.are_classes.Reads as are-classes
+use Rattle.rows.proofs.are_classes.Kinds as are-classes-kinds
+use Rattle.rows.proofs.put_marks.Reads as put-marks
+use Rattle.rows.proofs.put_marks.Kinds as put-marks-kinds
 
 pub add-name-one : (κs : Lfts 2) (a : Dens κs add-name-kinds.ps) (r₁ r₂ : resT add-name-kinds.r κs .Denot)
     (x₁ x₂ : AtExit (endedOf 2 add-name-kinds.ps add-name-kinds.r) κs) → add-name.Post κs a r₁ x₁ → add-name.Post κs a r₂ x₂ → r₁ ≡ r₂
@@ -22,3 +28,16 @@ add-record-one κs a r₁ r₂ x₁ x₂ p q = (
   p .pairs-are ∙ sym (q .pairs-are),
   p .marks-are ∙ sym (q .marks-are),
 )
+
+pub is-flags-one : (κs : Lfts 0) (a : Dens κs is-flags-kinds.ps) (r₁ r₂ : resT is-flags-kinds.r κs .Denot)
+    (x₁ x₂ : AtExit (endedOf 0 is-flags-kinds.ps is-flags-kinds.r) κs) → is-flags.Post κs a r₁ x₁ → is-flags.Post κs a r₂ x₂ → r₁ ≡ r₂
+is-flags-one κs a r₁ r₂ x₁ x₂ p q = p ∙ sym q
+
+pub are-classes-one : (κs : Lfts 1) (a : Dens κs are-classes-kinds.ps) (r₁ r₂ : resT are-classes-kinds.r κs .Denot)
+    (x₁ x₂ : AtExit (endedOf 1 are-classes-kinds.ps are-classes-kinds.r) κs) → are-classes.Post κs a r₁ x₁ → are-classes.Post κs a r₂ x₂ → r₁ ≡ r₂
+are-classes-one κs a r₁ r₂ x₁ x₂ p q = p ∙ sym q
+
+-- the first is lent
+pub put-marks-one : (κs : Lfts 1) (a : Dens κs put-marks-kinds.ps) (r₁ r₂ : resT put-marks-kinds.r κs .Denot)
+    (x₁ x₂ : AtExit (endedOf 1 put-marks-kinds.ps put-marks-kinds.r) κs) → put-marks.Post κs a r₁ x₁ → put-marks.Post κs a r₂ x₂ → now (x₁ .0) ≡ now (x₂ .0)
+put-marks-one κs a r₁ r₂ x₁ x₂ p q = p ∙ sym q
