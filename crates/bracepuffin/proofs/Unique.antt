@@ -18,6 +18,10 @@ use Rattle.bracepuffin.proofs.bp_write_method.Reads as bp-write-method-
 use Rattle.bracepuffin.proofs.bp_write_method.Kinds as bp-write-method-kinds
 use Rattle.bracepuffin.proofs.bp_lookup.Reads as bp-lookup-reads
 use Rattle.bracepuffin.proofs.bp_lookup.Kinds as bp-lookup-kinds
+use Rattle.bracepuffin.proofs.bp_abi_1.Reads as bp-abi-1-reads
+use Rattle.bracepuffin.proofs.bp_abi_1.Kinds as bp-abi-1-kinds
+use Rattle.bracepuffin.proofs.bp_check_table.Reads as bp-check-table-reads
+use Rattle.bracepuffin.proofs.bp_check_table.Kinds as bp-check-table-kinds
 use Rattle.bracepuffin.proofs.bp_relation.Reads as bp-relation-reads
 use Rattle.bracepuffin.proofs.bp_relation.Kinds as bp-relation-kinds
 use Rattle.bracepuffin.proofs.bp_distance.Reads as bp-distance-reads
@@ -60,6 +64,14 @@ bp-write-method-one κs a r₁ r₂ x₁ x₂ p q = (p .result ∙ sym (q .resul
 pub bp-lookup-one : (κs : Lfts 4) (a : Dens κs bp-lookup-kinds.ps) (r₁ r₂ : resT bp-lookup-kinds.r κs .Denot) (x₁ x₂ : AtExit (endedOf 4 bp-lookup-kinds.ps bp-lookup-kinds.r) κs)
     → bp-lookup-reads.Post κs a r₁ x₁ → bp-lookup-reads.Post κs a r₂ x₂ → r₁ ≡ r₂
 bp-lookup-one κs a r₁ r₂ x₁ x₂ p q = p ∙ sym q
+
+pub bp-abi-1-one : (κs : Lfts 0) (a : Dens κs bp-abi-1-kinds.ps) (r₁ r₂ : resT bp-abi-1-kinds.r κs .Denot) (x₁ x₂ : AtExit (endedOf 0 bp-abi-1-kinds.ps bp-abi-1-kinds.r) κs)
+    → bp-abi-1-reads.Post κs a r₁ x₁ → bp-abi-1-reads.Post κs a r₂ x₂ → r₁ ≡ r₂
+bp-abi-1-one κs a r₁ r₂ x₁ x₂ p q = p ∙ sym q
+
+pub bp-check-table-one : (κs : Lfts 8) (a : Dens κs bp-check-table-kinds.ps) (r₁ r₂ : resT bp-check-table-kinds.r κs .Denot) (x₁ x₂ : AtExit (endedOf 8 bp-check-table-kinds.ps bp-check-table-kinds.r) κs)
+    → bp-check-table-reads.Post κs a r₁ x₁ → bp-check-table-reads.Post κs a r₂ x₂ → r₁ ≡ r₂
+bp-check-table-one κs a r₁ r₂ x₁ x₂ p q = p ∙ sym q
 
 pub bp-relation-one : (κs : Lfts 9) (a : Dens κs bp-relation-kinds.ps) (r₁ r₂ : resT bp-relation-kinds.r κs .Denot) (x₁ x₂ : AtExit (endedOf 9 bp-relation-kinds.ps bp-relation-kinds.r) κs)
     → bp-relation-reads.Post κs a r₁ x₁ → bp-relation-reads.Post κs a r₂ x₂ → (r₁ ≡ r₂) × (now (x₁ .1 .1 .1 .1 .1 .1 .1 .1 .1 .1 .0) ≡ now (x₂ .1 .1 .1 .1 .1 .1 .1 .1 .1 .1 .0))

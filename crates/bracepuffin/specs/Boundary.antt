@@ -23,6 +23,8 @@ use Rattle.questions.specs.declared.Question.the-variants.{Relation, Distance, 
 use Rattle.questions.specs.declared.Answer.{Answer}
 use Rattle.questions.specs.declared.Ancestors.{Ancestors}
 use Rattle.questions.specs.Questions.{questionRefusal, ancestorsRefusal, answered, gathered}
+use Rattle.tablecheck.specs.declared.TableCheck.{TableCheck}
+use Rattle.tablecheck.specs.TableCheck.{tableCheck}
 use Rattle.bracepuffin.specs.declared.BpType.{BpType}
 use Rattle.bracepuffin.specs.declared.BpMethod.{BpMethod}
 use Rattle.bracepuffin.specs.declared.BpWritten.{BpWritten}
@@ -30,6 +32,7 @@ use Rattle.bracepuffin.specs.declared.BpFound.{BpFound}
 use Rattle.bracepuffin.specs.declared.BpRelation.{BpRelation}
 use Rattle.bracepuffin.specs.declared.BpAnswer.{BpAnswer}
 use Rattle.bracepuffin.specs.declared.BpSet.{BpSet}
+use Rattle.bracepuffin.specs.declared.BpTable.{BpTable}
 
 -- tag 0 a primitive by its category, tag 1 a class by the place of its name
 abbrev pub typeFound : ℕ → Base → BpType
@@ -72,6 +75,14 @@ WroteMethod names at len params result out out′ r =
 
 abbrev pub foundAnswer : LookedUp → BpFound
 foundAnswer f = record { refusal = f .refusal; «class_no» = f .«class_no» }
+
+-- ---- where a table is refused, and with what
+
+abbrev pub checkAnswer : TableCheck → BpTable
+checkAnswer c = record { refusal = c .refusal; part = c .part; row = c .row }
+
+abbrev pub checkTold : Given → BpTable
+checkTold g = checkAnswer (tableCheck g)
 
 -- ---- what is asked, of the rows that the columns hold; the last number is the length of the work
 

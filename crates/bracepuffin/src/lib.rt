@@ -13,6 +13,8 @@ use questions::Answer;
 use questions::Question;
 use questions::ancestors_of;
 use questions::ask;
+use tablecheck::TableCheck;
+use tablecheck::check_table;
 use writer::Written;
 use writer::write_method;
 use writer::write_type;
@@ -24,7 +26,7 @@ ghost use Rattle.methods.specs.Answers.{methodOf, paramsAfter};
 ghost use Rattle.names.specs.Names.{lookUp};
 ghost use Rattle.columns.specs.Given.{given};
 ghost use Rattle.questions.specs.Questions.{workAfter};
-ghost use Rattle.bracepuffin.specs.Boundary.{typeFound, typeAnswer, methodResult, bpMethod, foundAnswer, writtenAnswer, WroteType, WroteMethod, relationAnswer, numberAnswer, setAnswer, relationTold, distanceTold, ancestorsTold, supertypeTold, castTold, joinTold, assignableTold};
+ghost use Rattle.bracepuffin.specs.Boundary.{typeFound, typeAnswer, methodResult, bpMethod, foundAnswer, writtenAnswer, WroteType, WroteMethod, relationAnswer, numberAnswer, setAnswer, checkAnswer, checkTold, relationTold, distanceTold, ancestorsTold, supertypeTold, castTold, joinTold, assignableTold};
 
 #[repr(C)]
 pub struct BpType {
@@ -82,6 +84,23 @@ pub struct BpSet {
     pub count: u64,
     pub lowest: u64,
     pub words: [u64; 16],
+}
+
+#[repr(C)]
+pub struct BpTable {
+    pub refusal: u64,
+    pub part: u64,
+    pub row: u64,
+}
+
+// ---- the version
+
+// Its name is the version: a host refers to the name that its header has, and does not link with an archive of another.
+#[no_mangle]
+pub extern "C" fn bp_abi_1() -> u64
+    ensures { λ r. ⌜ r ≡ 1 ⌝ }
+{
+    1
 }
 
 // ---- descriptors, read
@@ -249,6 +268,43 @@ pub extern "C" fn bp_lookup(names: &[u8], name_at: &[u64], name_len: &[u64], key
     ensures { λ r. ⌜ r ≡ foundAnswer (lookUp (now (names .entry)) (now («name_at» .entry)) (now («name_len» .entry)) (now (key .entry))) ⌝ }
 {
     found_answer(look_up(names, name_at, name_len, key))
+}
+
+// ---- tables
+
+fn check_answer(c: TableCheck) -> BpTable
+    ensures { λ r. ⌜ r ≡ checkAnswer c ⌝ }
+{
+    BpTable {
+        refusal: c.refusal,
+        part: c.part,
+        row: c.row,
+    }
+}
+
+#[no_mangle]
+pub extern "C" fn bp_check_table(
+    names: &[u8],
+    name_at: &[u64],
+    name_len: &[u64],
+    rec_flags: &[u64],
+    rec_class: &[u64],
+    rec_at: &[u64],
+    rec_len: &[u64],
+    parents: &[u64],
+) -> BpTable
+    ensures { λ r. ⌜ r ≡ checkTold (given (now (names .entry)) (now («name_at» .entry)) (now («name_len» .entry)) (now («rec_flags» .entry)) (now («rec_class» .entry)) (now («rec_at» .entry)) (now («rec_len» .entry)) (now (parents .entry))) ⌝ }
+{
+    check_answer(check_table(
+        names,
+        name_at,
+        name_len,
+        rec_flags,
+        rec_class,
+        rec_at,
+        rec_len,
+        parents,
+    ))
 }
 
 // ---- classes

@@ -53,7 +53,7 @@ pub struct Ancestors {
 // ---- the table
 
 // Whether the columns of the names are of equal length, and those of the records.
-fn is_even(
+pub fn is_even(
     name_at: usize,
     name_len: usize,
     rec_flags: usize,

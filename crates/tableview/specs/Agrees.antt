@@ -79,7 +79,7 @@ index-placed wanted bytes (at ∷ ats) (len ∷ lens) e = go (compareLists (name
 
 module _ (wanted bytes ats lens : List ℕ) (e : length ats ≡ length lens) (z : nameRows bytes ats lens [] noTables .refusal ≡ 0) where
   -- what is noted of a wanted name is its place among the names
-  noted-index : notedIn wanted bytes ats lens 0 (2 ^ 64 - 1) ≡ numberOf (placeOf wanted (namesOf bytes ats lens))
+  pub noted-index : notedIn wanted bytes ats lens 0 (2 ^ 64 - 1) ≡ numberOf (placeOf wanted (namesOf bytes ats lens))
   unfolding numberOf StandsAt
   noted-index = go (placeOf wanted (namesOf bytes ats lens)) (index-placed wanted bytes ats lens e)
     where

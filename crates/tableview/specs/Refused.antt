@@ -53,7 +53,7 @@ names-many bytes (at ∷ ats) (len ∷ lens) last t z = go (eqb (one .refusal) 0
 -- ---- a record
 
 -- the keys are those of the pairs before, as a set
-record Holds (keys : List ℕ) (before : List Pair) : Type 0 where
+pub record Holds (keys : List ℕ) (before : List Pair) : Type 0 where
   pub keys-are : keys ≡ setOf (keysOf before)
   pub small : Small before
 
@@ -93,7 +93,7 @@ unfolding rowChecks firstRefusal
 row-outside names f c ps before = refl
 
 -- and one outside with 3
-placed-refused : (parents : List ℕ) (f c a l : ℕ) (s : State) (before : List Pair) → s .tables .names ≤ 1024 → Holds (s .keys) before
+pub placed-refused : (parents : List ℕ) (f c a l : ℕ) (s : State) (before : List Pair) → s .tables .names ≤ 1024 → Holds (s .keys) before
     → placedRecord parents f c a l s .refusal ≡ firstRefusal (rowChecks (s .tables .names) (inside (length parents) a l) f c (take l (drop a parents)) before)
 placed-refused parents f c a l s before few h = go (inside (length parents) a l) refl
   where
@@ -101,11 +101,31 @@ placed-refused parents f c a l s before few h = go (inside (length parents) a l)
     go true e = ap (λ (u : Ran). u .refusal) (record-inside parents f c a l s e) ∙ row-refused (s .tables .names) (s .keys) before few h c (take l (drop a parents)) f
     go false e = ap (λ (u : Ran). u .refusal) (record-outside parents f c a l s e) ∙ sym (row-outside (s .tables .names) f c (take l (drop a parents)) before)
 
+-- what a record that is taken leaves: as many names, and keys that are those of the pairs before and its own
+pub record Kept (s u : State) (pairs : List Pair) : Type 0 where
+  pub sound : Sound u
+  pub holds : Holds (u .keys) pairs
+  pub as-many : u .tables .names ≡ s .tables .names
+
+pub placed-holds : (parents : List ℕ) (f c a l : ℕ) (s : State) (before : List Pair) → Sound s → Holds (s .keys) before → placedRecord parents f c a l s .refusal ≡ 0
+    → Kept s (placedRecord parents f c a l s .state) (listed c (take l (drop a parents)) ++ before)
+unfolding withRecord
+placed-holds parents f c a l s before g h z =
+    let part = take l (drop a parents) in
+    let t = placed-taken parents f c a l s z in
+    let good = record-good (s .tables .names) (s .keys) f c part (t .0) in
+    let held = row-holds (s .tables .names) (s .keys) before (g .few) h c part (λ p m. elem-below (s .tables .names) p part (good .parents-in) (member-elem p part m)) in
+    record {
+      sound = subst Sound (sym (t .1)) (subst Sound (record-taken s f c part (t .0)) (good-record s f c part g));
+      holds = subst (λ (u : State). Holds (u .keys) (listed c part ++ before)) (sym (t .1)) held;
+      as-many = ap (λ (u : State). u .tables .names) (t .1);
+    }
+
 -- ---- all records
 
 records-refused : (parents fs cs ats ls : List ℕ) (s : State) (before : List Pair) → Sound s → Holds (s .keys) before
     → recordRows parents fs cs ats ls s .refusal ≡ recordsRefusal (s .tables .names) parents fs cs ats ls before
-unfolding recordRows recordsRefusal withRecord
+unfolding recordRows recordsRefusal
 records-refused parents [] cs ats ls s before g h = refl
 records-refused parents (f ∷ fs) [] ats ls s before g h = refl
 records-refused parents (f ∷ fs) (c ∷ cs) [] ls s before g h = refl
@@ -136,17 +156,13 @@ records-refused parents (f ∷ fs) (c ∷ cs) (a ∷ ats) (l ∷ ls) s before g 
         → cond b rest one .refusal ≡ orElse first (more (s .tables .names))
     go true e ih =
         let z = eqb-true (one .refusal) 0 e in
-        let t = placed-taken parents f c a l s z in
-        let good = record-good (s .tables .names) (s .keys) f c part (t .0) in
-        let sound : Sound (one .state) = subst Sound (sym (t .1)) (subst Sound (record-taken s f c part (t .0)) (good-record s f c part g)) in
-        let held = row-holds (s .tables .names) (s .keys) before (g .few) h c part (λ p m. elem-below (s .tables .names) p part (good .parents-in) (member-elem p part m)) in
-        ih sound (subst (λ (u : State). Holds (u .keys) (listed c part ++ before)) (sym (t .1)) held)
-        ∙ ap (λ (u : State). more (u .tables .names)) (t .1) ∙ sym (else-none first (more (s .tables .names)) (sym same ∙ z))
+        let n = placed-holds parents f c a l s before g h z in
+        ih (n .sound) (n .holds) ∙ ap more (n .as-many) ∙ sym (else-none first (more (s .tables .names)) (sym same ∙ z))
     go false e ih = same ∙ sym (else-some first (more (s .tables .names)) (λ z. eqb-false (one .refusal) 0 e (same ∙ z)))
 
 -- ---- the table
 
-none-held : Holds [] []
+pub none-held : Holds [] []
 unfolding setOf keysOf Small
 none-held = record { keys-are = refl; small = λ q m. absurd (List·Memᴰ·not-nil m) }
 

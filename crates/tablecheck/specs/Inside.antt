@@ -1,0 +1,44 @@
+-- What the inner functions promise each other: the records by the tables that they leave. Assumes nothing.
+use mathlib.Core.Path.{_≡_}
+use mathlib.Core.Bool.{cond}
+use mathlib.Core.List.{List, [], _∷_}
+use Prim.Native.Nat.{ℕ, suc, _+_}
+use lib.Dec.{eqb}
+use lib.ListN.{length, drop}
+use Rattle.tables.specs.declared.Tables.{Tables}
+use Rattle.rows.specs.Rows.{State}
+use Rattle.rows.specs.Laws.{Sound}
+use Rattle.columns.specs.Columns.{placedRecord, recordRows}
+use Rattle.columns.specs.Given.{noMarks}
+use Rattle.tablecheck.specs.declared.Stop.{Stop}
+
+-- how many records are taken before the first that is refused
+unfoldable pub placedTaken : List ℕ → List ℕ → List ℕ → List ℕ → List ℕ → State → ℕ
+placedTaken parents [] cs ats ls s = 0
+placedTaken parents (f ∷ fs) [] ats ls s = 0
+placedTaken parents (f ∷ fs) (c ∷ cs) [] ls s = 0
+placedTaken parents (f ∷ fs) (c ∷ cs) (a ∷ ats) [] s = 0
+placedTaken parents (f ∷ fs) (c ∷ cs) (a ∷ ats) (l ∷ ls) s =
+    cond (eqb (placedRecord parents f c a l s .refusal) 0) (suc (placedTaken parents fs cs ats ls (placedRecord parents f c a l s .state))) 0
+
+-- their refusal, and where
+abbrev pub stopOf : List ℕ → List ℕ → List ℕ → List ℕ → List ℕ → State → Stop
+stopOf parents fs cs ats ls s = record { refusal = recordRows parents fs cs ats ls s .refusal; row = placedTaken parents fs cs ats ls s }
+
+-- names, and no record yet
+abbrev pub unrecorded : Tables → State
+unrecorded t = record { tables = t; keys = []; marks = noMarks }
+
+-- columns of equal length
+abbrev pub Equal : List ℕ → List ℕ → List ℕ → List ℕ → Type 0
+Equal fs cs ats ls = (length fs ≡ length cs) × (length fs ≡ length ats) × (length fs ≡ length ls)
+
+-- what the names of a table leave
+pub record Fresh (t : Tables) : Type 0 where
+  pub sound : Sound (unrecorded t)
+  pub none : t .pairs ≡ 0
+
+-- the first i records of all are taken, from a state to another, and the others are as they are from there
+pub record Gone (parents fs cs ats ls : List ℕ) (start : State) (i : ℕ) (s : State) : Type 0 where
+  pub refusal-is : recordRows parents fs cs ats ls start .refusal ≡ recordRows parents (drop i fs) (drop i cs) (drop i ats) (drop i ls) s .refusal
+  pub taken-is : placedTaken parents fs cs ats ls start ≡ i + placedTaken parents (drop i fs) (drop i cs) (drop i ats) (drop i ls) s
