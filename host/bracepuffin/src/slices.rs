@@ -4,7 +4,7 @@
 //! function does and what it refuses.
 
 use crate::ffi::{
-    self, BpAnswer, BpFound, BpMethod, BpRelation, BpSet, BpTable, BpType, BpWritten,
+    self, BpAnswer, BpFound, BpMethod, BpRelation, BpSet, BpSolved, BpTable, BpType, BpWritten,
 };
 
 /// The three slices of a table of names, checked or not.
@@ -33,6 +33,50 @@ pub struct ClassColumns<'a> {
     pub rec_len: &'a [u64],
     /// The parents of all records.
     pub parents: &'a [u64],
+}
+
+/// The slices of a problem to solve, checked or not.
+#[derive(Debug, Clone, Copy)]
+pub struct ProblemColumns<'a> {
+    /// How many components there are.
+    pub components: u64,
+    /// The component of each variable.
+    pub var_comp: &'a [u64],
+    /// The component of each bound.
+    pub bnd_comp: &'a [u64],
+    /// The kind of each bound, 0 to 4: domain, fallback, upper, lower, exact.
+    pub bnd_kind: &'a [u64],
+    /// The type word of each bound.
+    pub bnd_type: &'a [u64],
+    /// The source of each flow.
+    pub flow_src: &'a [u64],
+    /// The target of each flow.
+    pub flow_dst: &'a [u64],
+    /// The source of each upper flow.
+    pub up_src: &'a [u64],
+    /// The target of each upper flow.
+    pub up_dst: &'a [u64],
+    /// The array of each read.
+    pub read_arr: &'a [u64],
+    /// The result of each read.
+    pub read_res: &'a [u64],
+    /// The array of each write.
+    pub write_arr: &'a [u64],
+    /// The value of each write.
+    pub write_val: &'a [u64],
+}
+
+/// What a solve writes to.
+#[derive(Debug)]
+pub struct SolvedColumns<'a> {
+    /// The type word of each variable, all ones for none.
+    pub answers: &'a mut [u64],
+    /// The component of each final bound; at least [`ffi::BP_BOUNDS`] entries, as the next two.
+    pub out_comp: &'a mut [u64],
+    /// The kind of each final bound.
+    pub out_kind: &'a mut [u64],
+    /// The type word of each final bound.
+    pub out_type: &'a mut [u64],
 }
 
 /// Reads a type.
@@ -196,4 +240,70 @@ queries! {
     fn join(left, right) -> BpAnswer = bp_join;
     /// Whether a value of one type may stand where the other is expected.
     fn assignable(value, expected) -> BpAnswer = bp_assignable;
+}
+
+/// Solves a problem over a class table.
+#[inline]
+pub fn solve(
+    table: ClassColumns,
+    problem: ProblemColumns,
+    out: SolvedColumns,
+    work: &mut [u64],
+) -> BpSolved {
+    // SAFETY: pointers and lengths of live slices; those that are written are each borrowed for that alone.
+    unsafe {
+        ffi::bp_solve(
+            table.names.names.as_ptr(),
+            table.names.names.len(),
+            table.names.name_at.as_ptr(),
+            table.names.name_at.len(),
+            table.names.name_len.as_ptr(),
+            table.names.name_len.len(),
+            table.rec_flags.as_ptr(),
+            table.rec_flags.len(),
+            table.rec_class.as_ptr(),
+            table.rec_class.len(),
+            table.rec_at.as_ptr(),
+            table.rec_at.len(),
+            table.rec_len.as_ptr(),
+            table.rec_len.len(),
+            table.parents.as_ptr(),
+            table.parents.len(),
+            problem.components,
+            problem.var_comp.as_ptr(),
+            problem.var_comp.len(),
+            problem.bnd_comp.as_ptr(),
+            problem.bnd_comp.len(),
+            problem.bnd_kind.as_ptr(),
+            problem.bnd_kind.len(),
+            problem.bnd_type.as_ptr(),
+            problem.bnd_type.len(),
+            problem.flow_src.as_ptr(),
+            problem.flow_src.len(),
+            problem.flow_dst.as_ptr(),
+            problem.flow_dst.len(),
+            problem.up_src.as_ptr(),
+            problem.up_src.len(),
+            problem.up_dst.as_ptr(),
+            problem.up_dst.len(),
+            problem.read_arr.as_ptr(),
+            problem.read_arr.len(),
+            problem.read_res.as_ptr(),
+            problem.read_res.len(),
+            problem.write_arr.as_ptr(),
+            problem.write_arr.len(),
+            problem.write_val.as_ptr(),
+            problem.write_val.len(),
+            out.answers.as_mut_ptr(),
+            out.answers.len(),
+            out.out_comp.as_mut_ptr(),
+            out.out_comp.len(),
+            out.out_kind.as_mut_ptr(),
+            out.out_kind.len(),
+            out.out_type.as_mut_ptr(),
+            out.out_type.len(),
+            work.as_mut_ptr(),
+            work.len(),
+        )
+    }
 }

@@ -23,7 +23,10 @@ fn any_type(rng: &mut Rng, classes: &[String]) -> ArgType {
                 ArgType::Unknown(vec![]),
             ])
             .clone(),
-        _ => ArgType::object(rng.pick(classes)),
+        _ => {
+            let class: &String = rng.pick(classes);
+            ArgType::object(class)
+        }
     };
     let dimensions = *rng.pick(&[0, 0, 0, 1, 1, 2]);
     (0..dimensions).fold(base, |element, _| ArgType::array(element))
