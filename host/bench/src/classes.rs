@@ -2,16 +2,15 @@
 
 use std::hint::black_box;
 
-use bracepuffin::{slices, ClassTable, ClassTableBuilder, ReferenceTypeInfo, Relations};
-use bracepuffin::{OBJECT, WORK};
+use bracepuffin::{slices, ClassTable, ClassTableBuilder, ReferenceTypeInfo, Relations, WORK};
 use dexdec::hierarchy::{self, ClassHierarchyIndex, TypeHierarchy};
 
-use crate::{best, row};
+use crate::measure::{Effort, Row};
 
 /// A class with its parents and whether it is an interface.
 pub struct Declared {
     pub name: String,
-    parents: Vec<String>,
+    pub parents: Vec<String>,
     pub is_interface: bool,
 }
 
@@ -80,124 +79,134 @@ pub fn table(classes: &[Declared]) -> ClassTable {
     builder.build().expect("a sound table")
 }
 
-pub fn run() {
-    for count in [50, 200, 1000] {
+/// Two classes at the ends of chains, the last ones of a program.
+pub fn ends(classes: &[Declared]) -> [&str; 2] {
+    let mut chain = classes.iter().rev().filter(|class| !class.is_interface);
+    let mut end = || chain.find(|class| class.name.ends_with('9'));
+    [end(), end()].map(|class| class.or(classes.last()).expect("a class").name.as_str())
+}
+
+pub fn rows(effort: Effort) -> Vec<Row> {
+    let mut rows = Vec::new();
+    for count in effort.sizes {
         let classes = program(count);
-        all_pairs(&classes);
-        each_query(&classes);
+        rows.extend(all_pairs(effort, &classes));
+        rows.extend(each_query(effort, &classes));
     }
+    rows
 }
 
 /// How many values the Rust is asked about; its time is scaled up to all of them, which would take too long.
 const SAMPLE: usize = 20;
 
-/// Building, and the relation of every pair. The boundary is asked for the ancestors of each class; one call of it that
-/// asks next to nothing shows what checking and building a table costs.
-fn all_pairs(classes: &[Declared]) {
-    let (count, names) = (classes.len(), sorted_names(classes));
+/// Building, and the relation of every pair. The boundary is asked for the ancestors of each class; what it needs to
+/// check and build a table, `bp_check_table` shows.
+fn all_pairs(effort: Effort, classes: &[Declared]) -> [Row; 2] {
+    let count = classes.len();
     let made = table(classes);
     let mut work = vec![0; WORK];
-    let object = made.class_number(OBJECT).expect("in the table");
-    row(
-        &format!("{count} names, build"),
-        best(|| index(classes)),
-        best(|| slices::relation(made.columns(), object, object, &mut work)),
-        best(|| table(classes)),
+    let build = Row::of(
+        effort,
+        format!("{count} names, build"),
+        || index(classes),
+        || slices::check_table(made.columns()),
+        || table(classes),
     );
     let warm = index(classes);
+    let mut names: Vec<&str> = classes.iter().map(|class| class.name.as_str()).collect();
+    names.sort_unstable();
     let sample = count.min(SAMPLE);
-    let values: Vec<&str> = names
-        .iter()
-        .copied()
-        .step_by(count / sample)
-        .take(sample)
-        .collect();
-    let some_rows = best(|| {
-        let pairs = values
-            .iter()
-            .flat_map(|value| names.iter().map(move |other| (value, other)));
-        pairs
-            .map(|(value, other)| warm.subtype_relation(value, other) as u64)
-            .sum::<u64>()
-    });
-    row(
-        &format!("{count} names, all pairs"),
-        some_rows * count as f64 / sample as f64,
-        best(|| {
+    let values = names.iter().step_by(count / sample).take(sample);
+    let values: Vec<&str> = values.copied().collect();
+    let pairs = Row::of(
+        effort,
+        format!("{count} names, all pairs"),
+        || {
+            let pairs = values
+                .iter()
+                .flat_map(|value| names.iter().map(move |other| (value, other)));
+            pairs
+                .map(|(value, other)| warm.subtype_relation(value, other) as u64)
+                .sum::<u64>()
+        },
+        || {
             let asked = 0..count as u64;
             let sets = asked.map(|class| slices::ancestors(made.columns(), class, &mut work));
             sets.map(|set| set.count).sum::<u64>()
-        }),
-        best(|| every_relation(&made, count as u64)),
+        },
+        || every_relation(&made),
     );
+    let rust = pairs.rust.scaled(count as f64 / sample as f64);
+    [build, Row { rust, ..pairs }]
 }
 
-fn sorted_names(classes: &[Declared]) -> Vec<&str> {
-    let mut names: Vec<&str> = classes.iter().map(|class| class.name.as_str()).collect();
-    names.sort_unstable();
-    names
-}
-
-fn every_relation(table: &ClassTable, count: u64) -> u64 {
-    let relations = Relations::of(table).expect("a sound table");
+fn every_relation(table: &ClassTable) -> u64 {
+    let relations = Relations::of(table);
     let mut sum = 0;
-    for value in 0..count {
-        for expected in 0..count {
-            sum += relations.relation_of(value, expected).expect("in range") as u64;
+    for value in table.names().classes() {
+        for expected in table.names().classes() {
+            sum += relations.relation_of(value, expected).expect("its own") as u64;
         }
     }
     sum
 }
 
 /// One call of each query: far up a chain, and to a class that is no ancestor.
-fn each_query(classes: &[Declared]) {
+fn each_query(effort: Effort, classes: &[Declared]) -> [Row; 6] {
     let count = classes.len();
     let (index, table) = (index(classes), table(classes));
-    let last = |which: usize| {
-        let chain = classes.iter().rev().filter(|class| !class.is_interface);
-        let class = chain.skip(which).find(|class| class.name.ends_with('9'));
-        class.expect("a whole chain").name.as_str()
-    };
-    let (left, right) = (last(0), last(10));
-    let number = |name| table.class_number(name).expect("in the table");
+    let [left, right] = ends(classes);
+    let number = |name| table.class_number(name).expect("in the table").get();
     let (l, r) = (number(left), number(right));
     let mut work = vec![0; WORK];
     let columns = table.columns();
-    row(
-        &format!("{count} names, relation"),
-        best(|| index.subtype_relation(black_box(left), black_box(right))),
-        best(|| slices::relation(columns, black_box(l), black_box(r), &mut work)),
-        best(|| table.relation(black_box(left), black_box(right))),
-    );
-    row(
-        &format!("{count} names, distance"),
-        best(|| {
-            hierarchy::distances(&index, black_box(left))
-                .get(black_box(right))
-                .copied()
-        }),
-        best(|| slices::distance(columns, black_box(l), black_box(r), &mut work)),
-        best(|| table.distance(black_box(left), black_box(right))),
-    );
-    row(
-        &format!("{count} names, ancestors"),
-        best(|| index.ancestor_names(black_box(left))),
-        best(|| slices::ancestors(columns, black_box(l), &mut work)),
-        best(|| {
-            let above = table.ancestors(black_box(left)).expect("in the table");
-            above.names().count()
-        }),
-    );
-    row(
-        &format!("{count} names, supertype"),
-        best(|| index.least_common_supertype(black_box(left), black_box(right))),
-        best(|| slices::supertype(columns, black_box(l), black_box(r), &mut work)),
-        best(|| table.supertype(black_box(left), black_box(right)).is_ok()),
-    );
-    row(
-        &format!("{count} names, cast"),
-        best(|| index.is_cast_convertible(black_box(left), black_box(right))),
-        best(|| slices::cast(columns, black_box(l), black_box(r), &mut work)),
-        best(|| table.cast(black_box(left), black_box(right))),
-    );
+    let what = |query: &str| format!("{count} names, {query}");
+    let relations = Relations::of(&table);
+    [
+        Row::of(
+            effort,
+            what("relation"),
+            || index.subtype_relation(black_box(left), black_box(right)),
+            || slices::relation(columns, black_box(l), black_box(r), &mut work),
+            || table.relation(black_box(left), black_box(right)),
+        ),
+        Row::of(
+            effort,
+            what("relation, asked before (`Relations`)"),
+            || index.subtype_relation(black_box(left), black_box(right)),
+            || slices::relation(columns, black_box(l), black_box(r), &mut work),
+            || relations.relation(black_box(left), black_box(right)),
+        ),
+        Row::of(
+            effort,
+            what("distance"),
+            || {
+                let distances = hierarchy::distances(&index, black_box(left));
+                distances.get(black_box(right)).copied()
+            },
+            || slices::distance(columns, black_box(l), black_box(r), &mut work),
+            || table.distance(black_box(left), black_box(right)),
+        ),
+        Row::of(
+            effort,
+            what("ancestors"),
+            || index.ancestor_names(black_box(left)),
+            || slices::ancestors(columns, black_box(l), &mut work),
+            || table.ancestors(black_box(left)).names().count(),
+        ),
+        Row::of(
+            effort,
+            what("supertype"),
+            || index.least_common_supertype(black_box(left), black_box(right)),
+            || slices::supertype(columns, black_box(l), black_box(r), &mut work),
+            || table.supertype(black_box(left), black_box(right)).len(),
+        ),
+        Row::of(
+            effort,
+            what("cast"),
+            || index.is_cast_convertible(black_box(left), black_box(right)),
+            || slices::cast(columns, black_box(l), black_box(r), &mut work),
+            || table.cast(black_box(left), black_box(right)),
+        ),
+    ]
 }

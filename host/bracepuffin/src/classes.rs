@@ -1,18 +1,18 @@
-//! Class tables: records of classes with their parents, and what is asked of them, by name.
+//! Class tables, and what is asked of them, by name.
 
-use std::collections::{HashMap, HashSet};
+use std::cell::Cell;
+use std::collections::BTreeSet;
 use std::fmt;
-use std::sync::{Mutex, PoisonError};
 
-use crate::ffi::BpAnswer;
+use crate::ffi::{self, BpAnswer};
 use crate::slices::{self, ClassColumns};
-use crate::{Names, Refusal};
+use crate::{ClassNumber, Names, Refusal, TableError};
 
 /// The class above all others; every table has it.
 pub const OBJECT: &str = "java/lang/Object";
 
 /// The least number of words that a working slice must have.
-pub const WORK: usize = 8192;
+pub const WORK: usize = ffi::BP_WORK;
 
 /// The most parents that one record may have. A class may have more in several records.
 const PARENTS: usize = 254;
@@ -24,12 +24,14 @@ const FINAL: u64 = 4;
 const NONE: u64 = u64::MAX;
 const UNREACHED: u64 = 4_611_686_018_427_387_903;
 
-/// How a class stands to another that is expected.
+/// How a class stands to another that is expected, after `SubtypeRelation` of hierarchy.rs.
 #[derive(Debug, Clone, Copy, PartialEq, Eq, Hash)]
 pub enum Relation {
+    /// The other is an ancestor.
     Yes,
+    /// It is none.
     No,
-    /// No, as far as the table knows; but a class that is reached has no record.
+    /// It is none, as far as the table knows; but a class that is reached has no record.
     Unknown,
 }
 
@@ -50,6 +52,7 @@ pub enum Distance {
     Steps(u64),
     /// java/lang/Object, which is an ancestor of every class, though no record leads to it.
     UnreachedObject,
+    /// No ancestor.
     NoAncestor,
 }
 
@@ -66,111 +69,41 @@ impl Distance {
 /// What a declaration says of a class besides its parents, after `ReferenceTypeInfo` of hierarchy.rs.
 #[derive(Debug, Clone, Copy, PartialEq, Eq, Hash)]
 pub struct ReferenceTypeInfo {
+    /// Whether it is an interface.
     pub is_interface: bool,
+    /// Whether nothing may be below it.
     pub is_final: bool,
 }
 
 impl ReferenceTypeInfo {
-    fn flags(self) -> u64 {
+    /// A class that may be extended.
+    pub const PLAIN: Self = Self {
+        is_interface: false,
+        is_final: false,
+    };
+    /// An interface.
+    pub const INTERFACE: Self = Self {
+        is_interface: true,
+        is_final: false,
+    };
+    /// A class that may not be extended.
+    pub const FINAL: Self = Self {
+        is_interface: false,
+        is_final: true,
+    };
+
+    pub(crate) fn flags(self) -> u64 {
         let interface = if self.is_interface { INTERFACE } else { 0 };
         let last = if self.is_final { FINAL } else { 0 };
         DECLARED | interface | last
     }
 }
 
-/// Records of classes as they come. Names need no order: every name that occurs is numbered at the end, and
-/// java/lang/Object with them.
-#[derive(Debug, Clone, Default)]
-pub struct ClassTableBuilder<'a> {
-    names: Vec<&'a str>,
-    records: Vec<Record<'a>>,
-}
-
-#[derive(Debug, Clone)]
-struct Record<'a> {
-    flags: u64,
-    class: &'a str,
-    parents: Vec<&'a str>,
-}
-
-impl<'a> ClassTableBuilder<'a> {
-    pub fn new() -> Self {
-        Self::default()
-    }
-
-    /// A name that may be asked about, without a record of it.
-    pub fn name(&mut self, class: &'a str) -> &mut Self {
-        self.names.push(class);
-        self
-    }
-
-    /// A record of `class` and its direct parents. Several records of one class unite their parents.
-    pub fn add(&mut self, class: &'a str, parents: impl IntoIterator<Item = &'a str>) -> &mut Self {
-        self.record(0, class, parents)
-    }
-
-    /// A record of a declared class. Of several such records the last one's facts count.
-    pub fn add_declared_type(
-        &mut self,
-        class: &'a str,
-        parents: impl IntoIterator<Item = &'a str>,
-        info: ReferenceTypeInfo,
-    ) -> &mut Self {
-        self.record(info.flags(), class, parents)
-    }
-
-    fn record(
-        &mut self,
-        flags: u64,
-        class: &'a str,
-        parents: impl IntoIterator<Item = &'a str>,
-    ) -> &mut Self {
-        self.records.push(Record {
-            flags,
-            class,
-            parents: parents.into_iter().collect(),
-        });
-        self
-    }
-
-    /// The table, numbered and checked. Refused are a name of no bytes or more than 255, more than 1,024 names,
-    /// 24,576 bytes of names or 4,096 distinct pairs of a class and its parent.
-    pub fn build(&self) -> Result<ClassTable, Refusal> {
-        let mut distinct: HashSet<&str> = self.names.iter().copied().chain([OBJECT]).collect();
-        for record in &self.records {
-            distinct.insert(record.class);
-            distinct.extend(&record.parents);
-        }
-        let mut table = ClassTable::over(Names::new(distinct)?);
-        for (class, flags, parents) in self.numbered(&table.names) {
-            table.push(class, flags, &parents);
-        }
-        let object = table.class_number(OBJECT)?;
-        match table.ask(|columns, work| slices::relation(columns, object, object, work).refusal) {
-            0 => Ok(table),
-            number => Err(Refusal::plain(number)),
-        }
-    }
-
-    /// Class, flags and parents of each record. Pairs that ascend cost a call the least; records of one class stay in
-    /// their order.
-    fn numbered(&self, names: &Names) -> Vec<(u64, u64, Vec<u64>)> {
-        let listed = (0..).map_while(|class| Some((names.name(class)?, class)));
-        let numbers: HashMap<&str, u64> = listed.collect();
-        let numbered = self.records.iter().map(|record| {
-            let mut parents: Vec<u64> = record.parents.iter().map(|name| numbers[name]).collect();
-            parents.sort_unstable();
-            parents.dedup();
-            (numbers[record.class], record.flags, parents)
-        });
-        let mut numbered: Vec<_> = numbered.collect();
-        numbered.sort_by_key(|(class, _, _)| *class);
-        numbered
-    }
-}
-
-/// A class table that was checked. It may be shared between threads, which then take turns at its working slice; a
-/// clone has a slice of its own.
+/// A class table that was checked. Questions by name are never refused: a class that the table does not name is
+/// answered as hierarchy.rs answers, which takes it for one without a record.
+///
+/// It may be shared between threads, which do not wait for each other: each has a working slice of its own.
+#[derive(Clone)]
 pub struct ClassTable {
     names: Names,
     flags: Vec<u64>,
@@ -178,21 +111,37 @@ pub struct ClassTable {
     at: Vec<u64>,
     len: Vec<u64>,
     parents: Vec<u64>,
-    work: Mutex<Box<[u64]>>,
+    /// A bit for each class that has a record.
+    recorded: [u64; 16],
+    object: u64,
 }
 
 impl ClassTable {
-    /// The table with these names and no record.
-    fn over(names: Names) -> Self {
-        Self {
+    /// The table with these names, java/lang/Object among them, and rows of class, flags and parents.
+    pub(crate) fn new(names: Names, rows: Vec<(u64, u64, Vec<u64>)>) -> Result<Self, TableError> {
+        let mut table = Self {
+            object: names
+                .find(OBJECT)
+                .expect("java/lang/Object is among the names"),
             names,
             flags: Vec::new(),
             class: Vec::new(),
             at: Vec::new(),
             len: Vec::new(),
             parents: Vec::new(),
-            work: working_slice(),
+            recorded: [0; 16],
+        };
+        for (class, flags, parents) in rows {
+            table.push(class, flags, &parents);
         }
+        let checked = slices::check_table(table.columns());
+        if checked.refusal != 0 {
+            return Err(TableError::of(checked, &table.names, &table.class));
+        }
+        for class in &table.class {
+            table.recorded[*class as usize / 64] |= 1 << (class % 64);
+        }
+        Ok(table)
     }
 
     /// A record: as many rows as its parents need, one for none.
@@ -209,6 +158,24 @@ impl ClassTable {
         }
     }
 
+    /// The same records over these names too, which the table does not have.
+    pub(crate) fn extended(&self, more: &BTreeSet<&str>) -> Result<Self, TableError> {
+        let names = Names::unchecked(self.names.iter().chain(more.iter().copied()));
+        let number = |class: &u64| {
+            let name = self.names.name_at(*class);
+            let found = name.and_then(|name| names.find(name));
+            found.expect("every name is among them")
+        };
+        let rows = (0..self.class.len()).map(|row| {
+            let (at, len) = (self.at[row] as usize, self.len[row] as usize);
+            let parents = self.parents[at..at + len].iter().map(number).collect();
+            (number(&self.class[row]), self.flags[row], parents)
+        });
+        let rows = rows.collect();
+        Self::new(names, rows)
+    }
+
+    /// The names of the table.
     pub fn names(&self) -> &Names {
         &self.names
     }
@@ -226,85 +193,113 @@ impl ClassTable {
     }
 
     /// The number of a class.
-    pub fn class_number(&self, class: &str) -> Result<u64, Refusal> {
-        let found = self.names.find(class);
-        found.ok_or(Refusal::plain(Refusal::ABSENT))
+    ///
+    /// # Errors
+    ///
+    /// [`Refusal::Absent`] for a class that is not in the table.
+    pub fn class_number(&self, class: &str) -> Result<ClassNumber, Refusal> {
+        self.names.class_number(class)
     }
 
-    /// How `value` stands to `expected`: `subtype_relation`.
-    pub fn relation(&self, value: &str, expected: &str) -> Result<Relation, Refusal> {
-        self.relation_of(self.class_number(value)?, self.class_number(expected)?)
+    /// How `value` stands to `expected`.
+    #[doc(alias = "subtype_relation")]
+    pub fn relation(&self, value: &str, expected: &str) -> Relation {
+        match self.both(value, expected) {
+            Some((value, expected)) => self.relation_between(value, expected),
+            None => self.relation_of_absent(value, expected),
+        }
+    }
+
+    /// Whether `expected` is an ancestor of `value`.
+    pub fn is_subtype(&self, value: &str, expected: &str) -> bool {
+        self.relation(value, expected) == Relation::Yes
     }
 
     /// How far `expected` is above `value`.
-    pub fn distance(&self, value: &str, expected: &str) -> Result<Distance, Refusal> {
-        let answer = self.ask_pair(slices::distance, value, expected);
-        answer.map(Distance::of)
+    pub fn distance(&self, value: &str, expected: &str) -> Distance {
+        match self.both(value, expected) {
+            Some((value, expected)) => self.distance_between(value, expected),
+            None => self.distance_of_absent(value, expected),
+        }
     }
 
-    /// The ancestors of a class, itself and java/lang/Object among them: `ancestor_names`.
-    pub fn ancestors(&self, class: &str) -> Result<Ancestors<'_>, Refusal> {
-        self.ancestors_of(self.class_number(class)?)
+    /// The ancestors of a class, itself and java/lang/Object among them.
+    #[doc(alias = "ancestor_names")]
+    pub fn ancestors<'a>(&'a self, class: &'a str) -> Ancestors<'a> {
+        match self.names.find(class) {
+            Some(class) => self.ancestors_of(class),
+            None => Ancestors::of_absent(&self.names, self.object, class),
+        }
     }
 
-    /// The least common supertype: `least_common_supertype`.
-    pub fn supertype(&self, left: &str, right: &str) -> Result<Option<&str>, Refusal> {
-        let class = self.ask_pair(slices::supertype, left, right)?;
-        Ok(self.names.name(class))
+    /// The least common supertype. hierarchy.rs has an `Option` for it, but java/lang/Object is common to all.
+    #[doc(alias = "least_common_supertype")]
+    pub fn supertype<'a>(&'a self, left: &'a str, right: &'a str) -> &'a str {
+        match self.both(left, right) {
+            Some((left, right)) => {
+                let class = self.ask_pair(slices::supertype, left, right);
+                let name = self.names.name_at(class);
+                name.expect("java/lang/Object is common to all")
+            }
+            None => self.supertype_of_absent(left, right),
+        }
     }
 
-    /// Whether a cast from `source` to `target` can succeed: `is_cast_convertible`.
-    pub fn cast(&self, source: &str, target: &str) -> Result<bool, Refusal> {
-        let answer = self.ask_pair(slices::cast, source, target)?;
-        Ok(answer == 1)
+    /// Whether a cast from `source` to `target` can succeed.
+    #[doc(alias = "is_cast_convertible")]
+    pub fn cast(&self, source: &str, target: &str) -> bool {
+        match self.both(source, target) {
+            Some((source, target)) => self.ask_pair(slices::cast, source, target) == 1,
+            None => self.cast_of_absent(source, target),
+        }
     }
 
-    pub(crate) fn ancestors_of(&self, class: u64) -> Result<Ancestors<'_>, Refusal> {
+    /// The numbers of two classes, if the table has both.
+    pub(crate) fn both(&self, left: &str, right: &str) -> Option<(u64, u64)> {
+        Some((self.names.find(left)?, self.names.find(right)?))
+    }
+
+    pub(crate) fn object(&self) -> u64 {
+        self.object
+    }
+
+    pub(crate) fn recorded(&self) -> &[u64; 16] {
+        &self.recorded
+    }
+
+    pub(crate) fn relation_between(&self, value: u64, expected: u64) -> Relation {
+        let found = self.ask(|columns, work| slices::relation(columns, value, expected, work));
+        Relation::of(answered(found.refusal, found.relation))
+    }
+
+    pub(crate) fn distance_between(&self, value: u64, expected: u64) -> Distance {
+        Distance::of(self.ask_pair(slices::distance, value, expected))
+    }
+
+    pub(crate) fn ancestors_of(&self, class: u64) -> Ancestors<'_> {
         let set = self.ask(|columns, work| slices::ancestors(columns, class, work));
-        let names = &self.names;
-        accepted(set.refusal, set.words).map(|words| Ancestors {
-            names,
+        Ancestors {
+            names: &self.names,
+            absent: None,
             count: set.count,
             lowest: set.lowest,
-            words,
-        })
-    }
-
-    /// How a class stands to another, by their numbers.
-    pub(crate) fn relation_of(&self, value: u64, expected: u64) -> Result<Relation, Refusal> {
-        let found = self.ask(|columns, work| slices::relation(columns, value, expected, work));
-        accepted(found.refusal, found.relation).map(Relation::of)
+            words: answered(set.refusal, set.words),
+        }
     }
 
     fn ask_pair(
         &self,
         query: fn(ClassColumns, u64, u64, &mut [u64]) -> BpAnswer,
-        left: &str,
-        right: &str,
-    ) -> Result<u64, Refusal> {
-        let (left, right) = (self.class_number(left)?, self.class_number(right)?);
+        left: u64,
+        right: u64,
+    ) -> u64 {
         let answer = self.ask(|columns, work| query(columns, left, right, work));
-        accepted(answer.refusal, answer.value)
+        answered(answer.refusal, answer.value)
     }
 
-    /// A call with the columns and the working slice.
+    /// A call with the columns and a working slice.
     pub(crate) fn ask<T>(&self, query: impl FnOnce(ClassColumns, &mut [u64]) -> T) -> T {
-        let mut work = self.work.lock().unwrap_or_else(PoisonError::into_inner);
-        query(self.columns(), &mut work)
-    }
-}
-
-impl Clone for ClassTable {
-    fn clone(&self) -> Self {
-        Self {
-            names: self.names.clone(),
-            flags: self.flags.clone(),
-            class: self.class.clone(),
-            at: self.at.clone(),
-            len: self.len.clone(),
-            parents: self.parents.clone(),
-            work: working_slice(),
-        }
+        with_work(|work| query(self.columns(), work))
     }
 }
 
@@ -321,12 +316,27 @@ impl fmt::Debug for ClassTable {
 #[derive(Clone, Copy)]
 pub struct Ancestors<'t> {
     names: &'t Names,
+    /// The class itself, where the table does not name it: java/lang/Object alone is above it.
+    absent: Option<&'t str>,
     count: u64,
     lowest: u64,
     words: [u64; 16],
 }
 
 impl<'t> Ancestors<'t> {
+    /// Those of a class that the table does not name.
+    fn of_absent(names: &'t Names, object: u64, class: &'t str) -> Self {
+        let mut words = [0; 16];
+        words[object as usize / 64] = 1 << (object % 64);
+        Self {
+            names,
+            absent: Some(class),
+            count: 2,
+            lowest: object,
+            words,
+        }
+    }
+
     /// How many there are; never 0.
     #[allow(clippy::len_without_is_empty)]
     pub fn len(&self) -> usize {
@@ -335,32 +345,41 @@ impl<'t> Ancestors<'t> {
 
     /// The first one in the order of names.
     pub fn lowest(&self) -> &'t str {
-        let name = self.names.name(self.lowest);
-        name.expect("a class is among its ancestors")
+        let name = self.names.name_at(self.lowest);
+        let name = name.expect("a class is among its ancestors");
+        self.absent.map_or(name, |absent| absent.min(name))
     }
 
+    /// Whether a class is among them.
     pub fn contains(&self, class: &str) -> bool {
         let number = self.names.find(class);
-        number.is_some_and(|number| self.has(number))
+        self.absent == Some(class) || number.is_some_and(|number| has(&self.words, number))
     }
 
     /// Their names, ascending.
     pub fn names(&self) -> impl Iterator<Item = &'t str> + '_ {
-        self.numbers().filter_map(|number| self.names.name(number))
+        let (before, after) = match self.absent {
+            Some(class) if class < OBJECT => (Some(class), None),
+            class => (None, class),
+        };
+        let listed = self.places().filter_map(|place| self.names.name_at(place));
+        before.into_iter().chain(listed).chain(after)
     }
 
-    /// Their numbers, ascending.
-    pub fn numbers(&self) -> impl Iterator<Item = u64> + '_ {
-        (0..self.names.len() as u64).filter(|number| self.has(*number))
+    /// The numbers of those that the table names, ascending.
+    pub fn numbers(&self) -> impl Iterator<Item = ClassNumber> + '_ {
+        let mark = self.names.mark();
+        self.places()
+            .map(move |place| ClassNumber::new(place, mark))
     }
 
-    /// The set itself: bit i % 64 of word i / 64 is name i.
+    /// The set itself, of those that the table names: bit i % 64 of word i / 64 is name i.
     pub fn words(&self) -> &[u64; 16] {
         &self.words
     }
 
-    fn has(&self, number: u64) -> bool {
-        self.words[number as usize / 64] >> (number % 64) & 1 == 1
+    fn places(&self) -> impl Iterator<Item = u64> + '_ {
+        (0..self.names.len() as u64).filter(|place| has(&self.words, *place))
     }
 }
 
@@ -370,13 +389,27 @@ impl fmt::Debug for Ancestors<'_> {
     }
 }
 
-fn working_slice() -> Mutex<Box<[u64]>> {
-    Mutex::new(vec![0; WORK].into_boxed_slice())
+#[inline]
+pub(crate) fn has(words: &[u64; 16], number: u64) -> bool {
+    words[number as usize / 64] >> (number % 64) & 1 == 1
 }
 
-pub(crate) fn accepted<T>(refusal: u64, answer: T) -> Result<T, Refusal> {
-    match refusal {
-        0 => Ok(answer),
-        number => Err(Refusal::plain(number)),
+/// A call with a working slice. A thread keeps the one that it used last: every call leaves it zero, and what it holds
+/// is without effect.
+pub(crate) fn with_work<T>(call: impl FnOnce(&mut [u64]) -> T) -> T {
+    thread_local! {
+        static KEPT: Cell<Option<Box<[u64]>>> = const { Cell::new(None) };
     }
+    let kept = KEPT.try_with(Cell::take).ok().flatten();
+    let mut work = kept.unwrap_or_else(|| vec![0; WORK].into_boxed_slice());
+    let answer = call(&mut work);
+    // Where the thread is ending there is no place to keep it.
+    let _ = KEPT.try_with(|kept| kept.set(Some(work)));
+    answer
+}
+
+/// The answer of a query over a checked table about classes or types of it, which is never refused.
+pub(crate) fn answered<T>(refusal: u64, answer: T) -> T {
+    assert_eq!(refusal, 0, "a question that a checked table refuses");
+    answer
 }

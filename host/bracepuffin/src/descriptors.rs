@@ -16,6 +16,23 @@ impl PrimitiveType {
         char::from(letter[0])
     }
 
+    /// Its name as ty.rs prints it: the word of the language, and `Object` and `Array`.
+    pub fn name(self) -> &'static str {
+        match self {
+            Self::Void => "void",
+            Self::Boolean => "boolean",
+            Self::Byte => "byte",
+            Self::Short => "short",
+            Self::Char => "char",
+            Self::Int => "int",
+            Self::Long => "long",
+            Self::Float => "float",
+            Self::Double => "double",
+            Self::Object => "Object",
+            Self::Array => "Array",
+        }
+    }
+
     /// The category of a letter; none for what is no letter of one.
     pub fn from_descriptor(letter: char) -> Option<Self> {
         let mut all = Self::ALL.into_iter();
@@ -26,8 +43,10 @@ impl PrimitiveType {
 impl ArgType<'_> {
     /// The descriptor, written by the archive; '?' stands for an Unknown, as in ty.rs, and no reader takes it.
     ///
-    /// A class name of no bytes or more than 255 is refused (`Refusal::LENGTH`), since no table of names may hold it,
-    /// though a descriptor with a longer name can be read. ty.rs writes any name.
+    /// # Errors
+    ///
+    /// [`Refusal::Length`] for a class name of no bytes or more than 255, since no table of names may hold it, though a
+    /// descriptor with a longer name can be read. ty.rs writes any name.
     pub fn to_descriptor(&self) -> Result<String, Refusal> {
         let (name, len) = match self.base {
             Base::Object(name) => (name, [name.len() as u64]),
@@ -39,6 +58,22 @@ impl ArgType<'_> {
             name_len: &len,
         };
         names::written(alone, *self, name.len() + 2)
+    }
+}
+
+/// As ty.rs prints it: `int`, `String` for java/lang/String, `byte[][]`, `?` for an Unknown and `?Int` for one with a
+/// single category.
+impl fmt::Display for ArgType<'_> {
+    fn fmt(&self, formatter: &mut fmt::Formatter<'_>) -> fmt::Result {
+        match self.base {
+            Base::Primitive(category) => formatter.write_str(category.name())?,
+            Base::Object(name) => formatter.write_str(name.rsplit('/').next().unwrap_or(name))?,
+            Base::Unknown(categories) => match (categories.len(), categories.iter().next()) {
+                (1, Some(category)) => write!(formatter, "?{category:?}")?,
+                _ => formatter.write_char('?')?,
+            },
+        }
+        (0..self.dimensions).try_for_each(|_| formatter.write_str("[]"))
     }
 }
 

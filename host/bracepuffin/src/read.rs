@@ -13,28 +13,55 @@ use crate::{slices, Refusal};
 pub const PARAMETERS: usize = 255;
 
 /// The type of a descriptor, void included.
+///
+/// # Errors
+///
+/// The first fault in reading order, with its offset: refusals 11 to 15 and 18.
 #[inline]
 pub fn read_type(descriptor: &[u8]) -> Result<ArgType<'_>, Refusal> {
     type_of(descriptor, slices::read_type(descriptor))
 }
 
 /// The same for class names as the JVMS has them: no '.', no '[', no empty part beside a slash.
+///
+/// # Errors
+///
+/// Those of [`read_type`], then [`Refusal::Strict`].
 #[inline]
 pub fn read_type_strict(descriptor: &[u8]) -> Result<ArgType<'_>, Refusal> {
     type_of(descriptor, slices::read_type_strict(descriptor))
 }
 
 /// The parameters and the return type of a method's descriptor.
+///
+/// ```
+/// let method = bracepuffin::read_method(b"([Ljava/lang/String;I)V")?;
+/// assert_eq!(method.parameters[0].to_string(), "String[]");
+/// assert_eq!(method.to_string(), "([Ljava/lang/String;I)V");
+/// # Ok::<(), bracepuffin::Refusal>(())
+/// ```
+///
+/// # Errors
+///
+/// The first fault in reading order, with its offset: refusals 11 to 19.
 pub fn read_method(descriptor: &[u8]) -> Result<MethodDescriptor<'_>, Refusal> {
     Ok(read_method_into(descriptor, &mut Offsets::new())?.collect())
 }
 
 /// The same for class names as the JVMS has them.
+///
+/// # Errors
+///
+/// Those of [`read_method`], then [`Refusal::Strict`].
 pub fn read_method_strict(descriptor: &[u8]) -> Result<MethodDescriptor<'_>, Refusal> {
     Ok(read_method_strict_into(descriptor, &mut Offsets::new())?.collect())
 }
 
 /// A method's descriptor read without the heap: the offsets of the parameters are put where the caller says.
+///
+/// # Errors
+///
+/// Those of [`read_method`].
 #[inline]
 pub fn read_method_into<'a, 'o>(
     descriptor: &'a [u8],
@@ -49,6 +76,10 @@ pub fn read_method_into<'a, 'o>(
 }
 
 /// The same for class names as the JVMS has them.
+///
+/// # Errors
+///
+/// Those of [`read_method_strict`].
 #[inline]
 pub fn read_method_strict_into<'a, 'o>(
     descriptor: &'a [u8],
@@ -67,6 +98,7 @@ pub fn read_method_strict_into<'a, 'o>(
 pub struct Offsets([MaybeUninit<u64>; PARAMETERS + 1]);
 
 impl Offsets {
+    /// Room that holds nothing yet.
     pub const fn new() -> Self {
         Self([MaybeUninit::uninit(); PARAMETERS + 1])
     }
@@ -87,7 +119,9 @@ impl fmt::Debug for Offsets {
 /// A method's descriptor with its types, after `MethodDescriptor` of ty.rs.
 #[derive(Debug, Clone, PartialEq, Eq, PartialOrd, Ord, Hash)]
 pub struct MethodDescriptor<'a> {
+    /// The types of its parameters.
     pub parameters: Vec<ArgType<'a>>,
+    /// The type of its result.
     pub return_type: ArgType<'a>,
 }
 
@@ -97,6 +131,7 @@ pub struct Method<'a, 'o> {
     descriptor: &'a [u8],
     /// Where each parameter begins, and then the ')': a parameter ends where the next offset is.
     offsets: &'o [u64],
+    /// The type of its result.
     pub return_type: ArgType<'a>,
 }
 
@@ -113,12 +148,13 @@ impl<'a, 'o> Method<'a, 'o> {
         Some(between(self.descriptor, ends))
     }
 
-    /// The type of a parameter: its text is read again, alone.
+    /// The type of a parameter.
     #[inline]
     pub fn parameter(&self, number: usize) -> Option<ArgType<'a>> {
         self.parameter_text(number).map(accepted_type)
     }
 
+    /// The types of all parameters.
     #[inline]
     pub fn parameters(&self) -> Parameters<'a, 'o> {
         Parameters {
@@ -214,14 +250,10 @@ fn method_of<'a, 'o>(
 
 #[inline]
 fn accepted(number: u64, offset: u64, byte: u64) -> Result<(), Refusal> {
-    match number {
-        0 => Ok(()),
-        _ => Err(Refusal {
-            number,
-            offset,
-            byte,
-        }),
+    if number == 0 {
+        return Ok(());
     }
+    Refusal::of(number, offset, byte).map_or(Ok(()), Err)
 }
 
 #[inline]
@@ -232,10 +264,36 @@ fn base(tag: u64, category: u64, name: &[u8]) -> Base<'_> {
     object(name)
 }
 
-/// The type of a parameter's text. It was accepted with the whole, so it is a type when it is read alone.
+/// The type of a parameter's text. It was accepted with the whole, so it is '[' as often as there are dimensions, and
+/// then a letter, or a name between 'L' and ';': nothing is left to refuse, and the archive need not read it again.
 #[inline]
 fn accepted_type(text: &[u8]) -> ArgType<'_> {
-    read_type(text).expect("a parameter that was accepted is a type")
+    let dimensions = text.iter().take_while(|byte| **byte == b'[').count();
+    let base = match text[dimensions..] {
+        [letter] => Base::Primitive(primitive(letter)),
+        [b'L', ref name @ .., b';'] => object(name),
+        _ => unreachable!("a parameter that was accepted is a type"),
+    };
+    ArgType {
+        dimensions: dimensions as u8,
+        base,
+    }
+}
+
+/// The category of a parameter's letter.
+#[inline]
+fn primitive(letter: u8) -> PrimitiveType {
+    match letter {
+        b'Z' => PrimitiveType::Boolean,
+        b'B' => PrimitiveType::Byte,
+        b'S' => PrimitiveType::Short,
+        b'C' => PrimitiveType::Char,
+        b'I' => PrimitiveType::Int,
+        b'J' => PrimitiveType::Long,
+        b'F' => PrimitiveType::Float,
+        b'D' => PrimitiveType::Double,
+        _ => unreachable!("a parameter that was accepted is a type"),
+    }
 }
 
 /// The class of a name that was accepted.

@@ -1,14 +1,28 @@
 //! The relations of all pairs of a table, asked once a class instead of once a pair.
 
-use crate::classes::{ClassTable, Relation, OBJECT};
-use crate::{Names, Refusal};
+use std::sync::OnceLock;
 
-/// How each class of a table stands to each. Every call over a table checks and builds it, so this costs one or two
-/// calls a class, and an answer afterwards is the look at a bit.
+use crate::classes::{has, ClassTable, Relation, OBJECT};
+use crate::{ClassNumber, Refusal};
+
+/// How each class of a table stands to each. A call over a table checks and builds it, so a class is asked about once,
+/// when it is first needed, which costs one or two calls; an answer afterwards is the look at a bit. It may be shared
+/// between threads.
+///
+/// ```
+/// use bracepuffin::{ClassTableBuilder, Relation, Relations};
+///
+/// let mut classes = ClassTableBuilder::new();
+/// classes.add("a/Round", ["a/Shape"]);
+/// let table = classes.build()?;
+/// let relations = Relations::of(&table);
+/// assert_eq!(relations.relation("a/Round", "a/Shape"), Relation::Yes);
+/// # Ok::<(), bracepuffin::TableError>(())
+/// ```
 #[derive(Debug, Clone)]
 pub struct Relations<'t> {
-    names: &'t Names,
-    rows: Vec<Row>,
+    table: &'t ClassTable,
+    rows: Box<[OnceLock<Row>]>,
 }
 
 /// The ancestors of a class, and how it stands to each class that is none.
@@ -19,80 +33,61 @@ struct Row {
 }
 
 impl<'t> Relations<'t> {
-    /// Asks the ancestors of each class.
-    pub fn of(table: &'t ClassTable) -> Result<Self, Refusal> {
-        let mut recorded = [0; 16];
-        for class in table.columns().rec_class {
-            recorded[*class as usize / 64] |= 1 << (class % 64);
+    /// The relations of this table, none of them asked for yet.
+    pub fn of(table: &'t ClassTable) -> Self {
+        let rows = (0..table.names().len()).map(|_| OnceLock::new());
+        Self {
+            table,
+            rows: rows.collect(),
         }
-        let object = table.class_number(OBJECT)?;
-        let names = table.names();
-        let classes = 0..names.len() as u64;
-        let rows = classes.map(|class| row(table, class, &recorded, object));
-        Ok(Self {
-            names,
-            rows: rows.collect::<Result<_, _>>()?,
-        })
     }
 
-    /// How `value` stands to `expected`, by their names.
-    pub fn relation(&self, value: &str, expected: &str) -> Result<Relation, Refusal> {
-        let number = |name| self.names.find(name);
-        let (Some(value), Some(expected)) = (number(value), number(expected)) else {
-            return Err(Refusal::plain(Refusal::ABSENT));
-        };
-        self.relation_of(value, expected)
+    /// How `value` stands to `expected`, by their names: [`ClassTable::relation`].
+    pub fn relation(&self, value: &str, expected: &str) -> Relation {
+        let names = self.table.names();
+        match (names.find(value), names.find(expected)) {
+            (Some(value), Some(expected)) => self.between(value, expected),
+            _ if value == expected || expected == OBJECT => Relation::Yes,
+            (Some(value), None) => self.row(value).other,
+            (None, _) => Relation::Unknown,
+        }
     }
 
     /// How `value` stands to `expected`, by their numbers.
+    ///
+    /// # Errors
+    ///
+    /// [`Refusal::Number`] for a number of another table.
     #[inline]
-    pub fn relation_of(&self, value: u64, expected: u64) -> Result<Relation, Refusal> {
+    pub fn relation_of(
+        &self,
+        value: ClassNumber,
+        expected: ClassNumber,
+    ) -> Result<Relation, Refusal> {
+        let mark = self.table.names().mark();
+        let (value, expected) = (value.within(mark), expected.within(mark));
         let count = self.rows.len() as u64;
         if value >= count || expected >= count {
-            return Err(Refusal::plain(Refusal::NUMBER));
+            return Err(Refusal::Number);
         }
-        let row = &self.rows[value as usize];
-        Ok(match bit(&row.ancestors, expected) {
+        Ok(self.between(value, expected))
+    }
+
+    #[inline]
+    fn between(&self, value: u64, expected: u64) -> Relation {
+        let row = self.row(value);
+        match has(&row.ancestors, expected) {
             true => Relation::Yes,
             false => row.other,
+        }
+    }
+
+    #[inline]
+    fn row(&self, class: u64) -> &Row {
+        self.rows[class as usize].get_or_init(|| {
+            let ancestors = *self.table.ancestors_of(class).words();
+            let other = self.table.relation_to_others(class, &ancestors);
+            Row { ancestors, other }
         })
     }
-}
-
-/// To a class that is no ancestor the answer is always the same: Unknown where a class without a record is reached,
-/// else No. The set says what is reached but for java/lang/Object, which stands in every set; where nothing but that
-/// is unrecorded, one such class is asked about.
-fn row(table: &ClassTable, class: u64, recorded: &[u64; 16], object: u64) -> Result<Row, Refusal> {
-    let ancestors = *table.ancestors_of(class)?.words();
-    let mut unrecorded = [0; 16];
-    for place in 0..16 {
-        unrecorded[place] = ancestors[place] & !recorded[place];
-    }
-    let object_too = bit(&unrecorded, object);
-    unrecorded[object as usize / 64] &= !(1 << (object % 64));
-    let other = if unrecorded != [0; 16] {
-        Relation::Unknown
-    } else if object_too {
-        to_any_other(table, class, &ancestors)?
-    } else {
-        Relation::No
-    };
-    Ok(Row { ancestors, other })
-}
-
-fn to_any_other(
-    table: &ClassTable,
-    class: u64,
-    ancestors: &[u64; 16],
-) -> Result<Relation, Refusal> {
-    let mut classes = 0..table.names().len() as u64;
-    match classes.find(|other| !bit(ancestors, *other)) {
-        Some(other) => table.relation_of(class, other),
-        None => Ok(Relation::No),
-    }
-}
-
-#[inline]
-fn bit(words: &[u64; 16], number: u64) -> bool {
-    words[number as usize / 64] >> (number % 64) & 1 == 1
 }

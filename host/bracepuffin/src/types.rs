@@ -10,16 +10,27 @@ use PrimitiveType::*;
 #[derive(Clone, Copy, Debug, Eq, Hash, Ord, PartialEq, PartialOrd)]
 #[repr(u8)]
 pub enum PrimitiveType {
+    /// No value.
     Void = 0,
+    /// `boolean`.
     Boolean = 1,
+    /// `byte`.
     Byte = 2,
+    /// `short`.
     Short = 3,
+    /// `char`.
     Char = 4,
+    /// `int`.
     Int = 5,
+    /// `long`.
     Long = 6,
+    /// `float`.
     Float = 7,
+    /// `double`.
     Double = 8,
+    /// A class that is not named.
     Object = 9,
+    /// An array of which nothing is known.
     Array = 10,
 }
 
@@ -53,6 +64,7 @@ impl PrimitiveType {
 /// What the dimensions of a type stand over.
 #[derive(Debug, Clone, Copy, PartialEq, Eq, PartialOrd, Ord, Hash)]
 pub enum Base<'a> {
+    /// A category.
     Primitive(PrimitiveType),
     /// A class by its name, which is borrowed from the descriptor or the table.
     Object(&'a str),
@@ -107,6 +119,7 @@ impl Categories {
         (self.0 >> (4 * (DIGITS - 1)) & 0xf) as usize
     }
 
+    /// Whether there is none.
     pub fn is_empty(self) -> bool {
         self.len() == 0
     }
@@ -130,19 +143,30 @@ impl fmt::Debug for Categories {
 /// A type. It is copied freely: nothing in it is on the heap.
 #[derive(Debug, Clone, Copy, PartialEq, Eq, Hash)]
 pub struct ArgType<'a> {
+    /// How often it is an array.
     pub dimensions: u8,
+    /// Of what.
     pub base: Base<'a>,
 }
 
 impl<'a> ArgType<'a> {
+    /// `void`.
     pub const VOID: ArgType<'static> = ArgType::primitive(PrimitiveType::Void);
+    /// `boolean`.
     pub const BOOLEAN: ArgType<'static> = ArgType::primitive(PrimitiveType::Boolean);
+    /// `byte`.
     pub const BYTE: ArgType<'static> = ArgType::primitive(PrimitiveType::Byte);
+    /// `short`.
     pub const SHORT: ArgType<'static> = ArgType::primitive(PrimitiveType::Short);
+    /// `char`.
     pub const CHAR: ArgType<'static> = ArgType::primitive(PrimitiveType::Char);
+    /// `int`.
     pub const INT: ArgType<'static> = ArgType::primitive(PrimitiveType::Int);
+    /// `long`.
     pub const LONG: ArgType<'static> = ArgType::primitive(PrimitiveType::Long);
+    /// `float`.
     pub const FLOAT: ArgType<'static> = ArgType::primitive(PrimitiveType::Float);
+    /// `double`.
     pub const DOUBLE: ArgType<'static> = ArgType::primitive(PrimitiveType::Double);
 
     /// A category as a type; ty.rs has the variant for it.

@@ -5,7 +5,7 @@ use std::path::{Path, PathBuf};
 use std::process::Command;
 use std::{env, fs};
 
-use bracepuffin::{Refusal, PARAMETERS, TYPE_BYTES, WORK};
+use bracepuffin::{ffi, PARAMETERS, TYPE_BYTES, WORK};
 
 const PRINTED: &str = "\
 [Ljava/lang/String;: word 0101000000000001
@@ -19,6 +19,7 @@ bp_distance: 1
 bp_cast: 0
 bp_assignable: 1
 bp_join: word 0002215000000000
+bp_check_table: refusal 6, part 2, row 1
 bp_read_method: refusal 13, offset 3
 I: word 0000000000000005
 bp_lookup: refusal 23, offset 0
@@ -27,22 +28,29 @@ bp_distance: refusal 6, offset 0
 
 const WARNINGS: [&str; 4] = ["-Wall", "-Wextra", "-Werror", "-pedantic"];
 
-/// The header's names of refusals with the numbers that `Refusal` has for them.
+/// The header's names of refusals with the numbers that the declarations in Rust have for them.
 macro_rules! refusals {
-    ($($name:ident)*) => { [$((concat!("BP_REFUSED_", stringify!($name)), Refusal::$name)),*] };
+    ($($name:ident)*) => { [$((stringify!($name), ffi::$name)),*] };
 }
 
-const REFUSALS: [(&str, u64); 19] = refusals! {
-    LENGTH NAME_ORDER NUMBER TYPE ROOM NO_OBJECT UTF8 UNEXPECTED_END UNEXPECTED_BYTE VOID_NOT_ALLOWED EMPTY_OBJECT
-    TRAILING_INPUT MISSING_METHOD_START MISSING_METHOD_END TOO_MANY_DIMENSIONS TOO_MANY_PARAMETERS SHORT ABSENT STRICT
+const REFUSALS: [(&str, u64); 21] = refusals! {
+    BP_REFUSED_LENGTH BP_REFUSED_NAME_ORDER BP_REFUSED_NUMBER BP_REFUSED_TYPE BP_REFUSED_ROOM BP_REFUSED_NO_OBJECT
+    BP_REFUSED_UTF8 BP_REFUSED_UNEXPECTED_END BP_REFUSED_UNEXPECTED_BYTE BP_REFUSED_VOID_NOT_ALLOWED
+    BP_REFUSED_EMPTY_OBJECT BP_REFUSED_TRAILING_INPUT BP_REFUSED_MISSING_METHOD_START BP_REFUSED_MISSING_METHOD_END
+    BP_REFUSED_TOO_MANY_DIMENSIONS BP_REFUSED_TOO_MANY_PARAMETERS BP_REFUSED_DEEP BP_REFUSED_BOUNDS BP_REFUSED_SHORT BP_REFUSED_ABSENT BP_REFUSED_STRICT
 };
 
 const METHOD_BYTES: usize = 2 + (PARAMETERS + 1) * TYPE_BYTES;
 
 /// What the header's macros are.
-const MACROS: [(&str, u64); 9] = [
+const MACROS: [(&str, u64); 14] = [
     ("BP_PARAMS", PARAMETERS as u64),
     ("BP_WORK", WORK as u64),
+    ("BP_BOUNDS", ffi::BP_BOUNDS as u64),
+    ("BP_PART_COLUMNS", ffi::BP_PART_COLUMNS),
+    ("BP_PART_NAMES", ffi::BP_PART_NAMES),
+    ("BP_PART_RECORDS", ffi::BP_PART_RECORDS),
+    ("BP_PART_OBJECT", ffi::BP_PART_OBJECT),
     ("BP_TYPE_BYTES", TYPE_BYTES as u64),
     ("BP_METHOD_BYTES", METHOD_BYTES as u64),
     ("BP_UNREACHED", u64::MAX >> 2),
@@ -108,6 +116,55 @@ fn the_header_is_c_and_cpp() {
         command.args(WARNINGS).arg("-I").arg(include());
         run(command.arg(&source));
     }
+}
+
+/// A literal null is warned of; the forms over structs take it.
+#[test]
+fn a_null_is_warned_of() {
+    let source = Path::new(env!("CARGO_TARGET_TMPDIR")).join("null.c");
+    for (call, warned) in [
+        ("bp_read_type(NULL, 0).refusal", true),
+        ("bp_lookup_of(&none, NULL, 0).refusal", false),
+    ] {
+        let text = format!("BpNames none;\nuint64_t asked(void) {{ return {call}; }}\n");
+        fs::write(&source, format!("#include \"bracepuffin.h\"\n{text}")).expect("written");
+        let mut command = Command::new(compiler(&["cc", "gcc"], ""));
+        command.arg("-fsyntax-only").args(WARNINGS);
+        let output = command.arg("-I").arg(include()).arg(&source).output();
+        let accepted = output.expect("the command starts").status.success();
+        assert_eq!(accepted, !warned, "{call}");
+    }
+}
+
+/// A file that includes the header and calls nothing, linked with the archive: with the header of another version, the
+/// linker names what is missing.
+#[test]
+fn the_header_of_another_version_does_not_link() {
+    let header = fs::read_to_string(include().join("bracepuffin.h")).expect("the header");
+    for version in ["bp_abi_1", "bp_abi_0"] {
+        let folder = Path::new(env!("CARGO_TARGET_TMPDIR")).join(version);
+        fs::create_dir_all(&folder).expect("a folder");
+        let header = header.replace("bp_abi_1", version);
+        fs::write(folder.join("bracepuffin.h"), header).expect("written");
+        let source = folder.join("main.c");
+        let text = "#include \"bracepuffin.h\"\nint main(void) { return 0; }\n";
+        fs::write(&source, text).expect("written");
+        let mut command = Command::new(compiler(&["cc", "gcc", "x86_64-linux-gnu-gcc"], "x86_64"));
+        command.args(["-O2", "-I"]).arg(&folder).arg(&source);
+        command.arg(env!("BRACEPUFFIN_ARCHIVE"));
+        let output = command.arg("-o").arg(folder.join("main")).output();
+        let output = output.expect("the command starts");
+        let errors = String::from_utf8_lossy(&output.stderr);
+        assert_eq!(output.status.success(), version == "bp_abi_1", "{errors}");
+        assert_eq!(
+            errors.contains("bp_abi_0"),
+            version == "bp_abi_0",
+            "{errors}"
+        );
+    }
+    // The Rust side asks for it too.
+    // SAFETY: a function without parameters.
+    assert_eq!(unsafe { ffi::bp_abi_1() }, 1);
 }
 
 #[test]

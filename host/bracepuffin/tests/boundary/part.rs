@@ -1,7 +1,7 @@
 //! Writers of `Names`, which lend the names that the words use, against the boundary over the whole table.
 
-use bracepuffin::ffi::BpWritten;
-use bracepuffin::{slices, Names, Refusal, TYPE_BYTES};
+use bracepuffin::ffi::{BpWritten, BP_REFUSED_ROOM, BP_REFUSED_SHORT, BP_REFUSED_TYPE};
+use bracepuffin::{slices, Names, Refusal, TypeWord, TYPE_BYTES};
 use judge::cases::{any_names, any_word};
 use judge::rng::Rng;
 
@@ -54,10 +54,11 @@ fn same(
     assert_eq!(lent, expected);
     let expected = match written.refusal {
         0 => Ok(text(&expected[..written.length as usize])),
-        number => Err(Refusal::plain(number)),
+        number => Err(number),
     };
+    let answer = answer.map_err(|refusal| refusal.number());
     assert_eq!(answer, expected);
-    answer.map_err(|refusal| refusal.number)
+    answer
 }
 
 fn text(bytes: &[u8]) -> String {
@@ -69,7 +70,10 @@ fn write_type(names: &Names, word: u64, room: usize) -> Result<String, u64> {
     same(
         room,
         |out| slices::write_type(names.columns(), word, out),
-        |out| names.write_type_into(word, out).map(str::to_owned),
+        |out| {
+            let word = names.word_from_bits(word);
+            names.write_type_into(word, out).map(str::to_owned)
+        },
     )
 }
 
@@ -78,10 +82,17 @@ fn write_method(names: &Names, params: &[u64], result: u64, room: usize) -> Resu
         room,
         |out| slices::write_method(names.columns(), params, result, out),
         |out| {
-            let written = names.write_method_into(params, result, out);
+            let (params, result) = typed(names, params, result);
+            let written = names.write_method_into(&params, result, out);
             written.map(str::to_owned)
         },
     )
+}
+
+/// The same bits as words of the table.
+fn typed(names: &Names, params: &[u64], result: u64) -> (Vec<TypeWord>, TypeWord) {
+    let words = params.iter().map(|bits| names.word_from_bits(*bits));
+    (words.collect(), names.word_from_bits(result))
 }
 
 /// A room that is just enough, just too short, or any.
@@ -98,7 +109,9 @@ fn types_over_the_name_of_their_class() {
         for word in [legal(&mut rng, &names), any(&mut rng, &names)] {
             let written = write_type(&names, word, TYPE_BYTES + 3);
             assert_eq!(
-                names.write_type(word).map_err(|refusal| refusal.number),
+                names
+                    .write_type(names.word_from_bits(word))
+                    .map_err(|refusal| refusal.number()),
                 written
             );
             for room in rooms(&mut rng, &written) {
@@ -122,19 +135,16 @@ fn methods_over_the_names_of_their_classes() {
             }
             let (result, params) = words.split_last().expect("the result");
             let written = write_method(&names, params, *result, words.len() * TYPE_BYTES + 3);
-            assert_eq!(
-                names
-                    .write_method(params, *result)
-                    .map_err(|refusal| refusal.number),
-                written
-            );
+            let (typed_params, typed_result) = typed(&names, params, *result);
+            let owned = names.write_method(&typed_params, typed_result);
+            assert_eq!(owned.map_err(|refusal| refusal.number()), written);
             for room in rooms(&mut rng, &written) {
                 let again = write_method(&names, params, *result, room);
                 seen[match again {
                     Ok(_) => 0,
-                    Err(Refusal::ROOM) => 1,
-                    Err(Refusal::TYPE) => 2,
-                    Err(Refusal::SHORT) => 3,
+                    Err(BP_REFUSED_ROOM) => 1,
+                    Err(BP_REFUSED_TYPE) => 2,
+                    Err(BP_REFUSED_SHORT) => 3,
                     Err(number) => panic!("refused {number}"),
                 }] += 1;
             }
@@ -155,7 +165,7 @@ fn methods_whose_classes_all_differ() {
                 let written: String = params.iter().map(name).collect();
                 let expected = match params.len() {
                     ..=255 => Ok(format!("({written}){}", name(result))),
-                    _ => Err(Refusal::ROOM),
+                    _ => Err(BP_REFUSED_ROOM),
                 };
                 assert_eq!(write_method(&names, params, *result, 2000), expected);
                 words.reverse();

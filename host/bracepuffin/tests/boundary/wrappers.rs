@@ -1,16 +1,9 @@
 //! The types and errors of the Rust crate.
 
 use bracepuffin::{read_method, read_method_into, read_method_strict, read_method_strict_into};
-use bracepuffin::{read_type, read_type_strict};
-use bracepuffin::{ArgType, Base, Names, Offsets, PrimitiveType, Refusal};
-
-fn refused(number: u64, offset: u64, byte: u64) -> Refusal {
-    Refusal {
-        number,
-        offset,
-        byte,
-    }
-}
+use bracepuffin::{read_type, read_type_strict, slices};
+use bracepuffin::{ArgType, Base, Names, Offsets, Place, PrimitiveType, Refusal, TypeWord};
+use judge::cases::REAL_METHODS;
 
 #[test]
 fn types() {
@@ -67,9 +60,18 @@ fn methods() {
         read_method(b"()V").map(|method| method.parameters.len()),
         Ok(0)
     );
-    assert_eq!(read_method(b"(I"), Err(refused(17, 2, 0)));
-    assert_eq!(read_method(b"()"), Err(refused(11, 2, 0)));
-    assert_eq!(read_method_strict(b"(La.b;)V"), Err(refused(24, 1, 0)));
+    assert_eq!(
+        read_method(b"(I"),
+        Err(Refusal::MissingMethodEnd { offset: 2 })
+    );
+    assert_eq!(
+        read_method(b"()"),
+        Err(Refusal::UnexpectedEnd { offset: 2 })
+    );
+    assert_eq!(
+        read_method_strict(b"(La.b;)V"),
+        Err(Refusal::Strict { offset: 1 })
+    );
     assert!(read_method_strict(b"(La/b;)V").is_ok());
 }
 
@@ -128,7 +130,7 @@ fn methods_without_the_heap() {
     assert_eq!(method.parameters().last(), Some(ArgType::LONG));
     assert_eq!(method.return_type, ArgType::VOID);
     let strict = read_method_strict_into(b"(La/;)V", &mut offsets);
-    assert_eq!(strict.err(), Some(refused(24, 1, 0)));
+    assert_eq!(strict.err(), Some(Refusal::Strict { offset: 1 }));
 }
 
 #[test]
@@ -144,96 +146,218 @@ fn names_outlive_what_was_read() {
 }
 
 #[test]
+fn parameters_as_they_are_read_alone() {
+    for text in REAL_METHODS {
+        let mut offsets = Offsets::new();
+        let method = read_method_into(text.as_bytes(), &mut offsets).expect("a method");
+        for (number, ty) in method.parameters().enumerate() {
+            let alone = method.parameter_text(number).expect("its text");
+            assert_eq!(read_type(alone), Ok(ty), "{text}");
+            assert_eq!(method.parameter(number), Some(ty));
+        }
+    }
+}
+
+#[test]
 fn tables_take_names_in_any_order() {
     let names = Names::new(["b", "a", "java/lang/Object", "a", "a/b"]).expect("a table");
     assert_eq!(names.len(), 4);
     assert!(!names.is_empty());
-    let listed: Vec<_> = (0..5).map(|class| names.name(class)).collect();
-    let expected = [
-        Some("a"),
-        Some("a/b"),
-        Some("b"),
-        Some("java/lang/Object"),
-        None,
-    ];
-    assert_eq!(listed, expected);
-    assert_eq!(names.class_number("b"), Ok(2));
+    let listed = ["a", "a/b", "b", "java/lang/Object"];
+    assert_eq!(names.iter().collect::<Vec<_>>(), listed);
+    assert_eq!(format!("{names:?}"), format!("{listed:?}"));
+    for (class, name) in names.classes().zip(listed) {
+        assert_eq!(names.name(class), Some(name));
+        assert_eq!(names.class_number(name), Ok(class));
+    }
+    let class = names.class_number("b").expect("in the table");
     assert_eq!(
-        names.class_number("c"),
-        Err(Refusal::plain(Refusal::ABSENT))
+        (class.get(), format!("{class:?}")),
+        (2, "ClassNumber(2)".into())
     );
-    assert_eq!(names.class_number(""), Err(Refusal::plain(Refusal::ABSENT)));
-    assert_eq!(names.name(u64::MAX), None);
+    assert_eq!(names.class_number("c"), Err(Refusal::Absent));
+    assert_eq!(names.class_number(""), Err(Refusal::Absent));
     let nothing: [&str; 0] = [];
     assert!(Names::new(nothing).is_ok_and(|names| names.is_empty()));
 }
 
+/// What one table gives is nothing in another, though the same names may stand in both; a clone is the same table.
+#[test]
+fn words_and_numbers_of_another_table() {
+    let names = Names::new(["a", "b"]).expect("a table");
+    let same = Names::new(["b", "a"]).expect("a table");
+    let other = Names::new(["b", "c"]).expect("a table");
+    assert_eq!(names, same);
+    assert_ne!(names, other);
+    let class = names.class_number("b").expect("in the table");
+    let word = names.word(ArgType::object("b")).expect("in the table");
+    let deep = ArgType::object("b").array().expect("one dimension");
+    let deep = names.word(deep).expect("in the table");
+    let int = names.word(ArgType::INT).expect("a type");
+    let clone = names.clone();
+    assert_eq!(
+        (clone.name(class), clone.type_of(word)),
+        (Some("b"), Some(ArgType::object("b")))
+    );
+    assert_eq!(
+        clone.write_method(&[word, deep], int).as_deref(),
+        Ok("(Lb;[Lb;)I")
+    );
+    for table in [same, other] {
+        assert_eq!((table.name(class), table.type_of(word)), (None, None));
+        for foreign in [word, deep] {
+            assert_eq!(table.write_type(foreign), Err(Refusal::Type));
+            assert_eq!(table.write_type_into(foreign, &mut []), Err(Refusal::Type));
+            assert_eq!(table.write_method(&[int, foreign], int), Err(Refusal::Type));
+            assert_eq!(table.write_method(&[int], foreign), Err(Refusal::Type));
+            assert_eq!(table.write_method(&[foreign; 256], int), Err(Refusal::Room));
+        }
+        // A word without a class is the same everywhere.
+        assert_eq!(table.word(ArgType::INT), Ok(int));
+        assert_eq!(table.write_type(int).as_deref(), Ok("I"));
+        assert_eq!(table.type_of(int), Some(ArgType::INT));
+    }
+}
+
 #[test]
 fn tables_that_are_refused() {
-    let number = |names: Vec<Vec<u8>>| Names::new(names).err().map(|refusal| refusal.number);
-    assert_eq!(number(vec![b"a".to_vec(), vec![]]), Some(Refusal::LENGTH));
-    assert_eq!(number(vec![vec![b'n'; 256]]), Some(Refusal::LENGTH));
-    assert_eq!(number(vec![vec![0xff]]), Some(Refusal::UTF8));
-    let many = |count: u32| {
-        (0..count)
-            .map(|name| name.to_string().into_bytes())
-            .collect()
+    let refusal = |names: Vec<Vec<u8>>| Names::new(names).err().map(|error| error.refusal());
+    assert_eq!(refusal(vec![b"a".to_vec(), vec![]]), Some(Refusal::Length));
+    assert_eq!(refusal(vec![vec![b'n'; 256]]), Some(Refusal::Length));
+    assert_eq!(refusal(vec![vec![0xff]]), Some(Refusal::Utf8));
+    assert_eq!(refusal(many(1024)), None);
+    assert_eq!(refusal(many(1025)), Some(Refusal::Room));
+}
+
+/// That many names that ascend.
+fn many(count: u32) -> Vec<Vec<u8>> {
+    let names = (0..count).map(|name| format!("{name:04}").into_bytes());
+    names.collect()
+}
+
+#[test]
+fn which_name_is_refused() {
+    let error = |names: Vec<Vec<u8>>| Names::new(names).expect_err("a table that is refused");
+    let place = |name: &str, row, of| Place::Name {
+        name: name.to_string(),
+        row,
+        of,
     };
-    assert_eq!(number(many(1024)), None);
-    assert_eq!(number(many(1025)), Some(Refusal::ROOM));
+    let utf8 = error(vec![vec![b'b', 0xff], b"a".to_vec(), b"c".to_vec()]);
+    assert_eq!(utf8.place(), &place("b\u{fffd}", 1, 3));
+    assert_eq!(
+        utf8.to_string(),
+        "name is not well-formed UTF-8: name 2 of 3, \"b\u{fffd}\""
+    );
+    assert_eq!(error(many(1500)).place(), &place("1024", 1024, 1500));
+    let long = (0..200).map(|name| format!("{name:03}{}", "n".repeat(197)).into_bytes());
+    // 122 names of 200 bytes fit.
+    let long = error(long.collect());
+    assert!(matches!(
+        long.place(),
+        Place::Name {
+            row: 122,
+            of: 200,
+            ..
+        }
+    ));
+    assert_eq!(Refusal::from(long), Refusal::Room);
 }
 
 #[test]
 fn words_and_descriptors() {
     let names = Names::new(["java/lang/String", "a"]).expect("a table");
     let read = |text: &'static str| read_type(text.as_bytes()).expect("a type");
+    let bits = |text| names.word(read(text)).map(TypeWord::bits);
+    assert_eq!(bits("[Ljava/lang/String;"), Ok(0x0101_0000_0000_0001));
+    assert_eq!(bits("[[J"), Ok(0x0200_0000_0000_0006));
+    assert_eq!(bits("Lb;"), Err(Refusal::Absent));
+    let word = |bits| names.word_from_bits(bits);
+    let array = word(0x0101_0000_0000_0001);
+    assert_eq!(array.to_string(), "0101000000000001");
+    assert_eq!(format!("{array:?}"), "TypeWord(0101000000000001)");
     assert_eq!(
-        names.word(read("[Ljava/lang/String;")),
-        Ok(0x0101_0000_0000_0001)
-    );
-    assert_eq!(names.word(read("[[J")), Ok(0x0200_0000_0000_0006));
-    assert_eq!(
-        names.word(read("Lb;")),
-        Err(Refusal::plain(Refusal::ABSENT))
-    );
-    assert_eq!(
-        names.write_type(0x0101_0000_0000_0001).as_deref(),
+        names.write_type(array).as_deref(),
         Ok("[Ljava/lang/String;")
     );
+    assert_eq!(names.write_type(word(u64::MAX)), Err(Refusal::Type));
     assert_eq!(
-        names.write_type(u64::MAX),
-        Err(Refusal::plain(Refusal::TYPE))
+        names.write_method(&[word(5); 256], word(0)),
+        Err(Refusal::Room)
     );
+    assert_eq!(names.write_type_into(word(5), &mut []), Err(Refusal::Short));
+    assert_eq!(names.write_type_into(word(5), &mut [0; 1]), Ok("I"));
     assert_eq!(
-        names.write_method(&[5; 256], 0),
-        Err(Refusal::plain(Refusal::ROOM))
+        names.write_method_into(&[word(5)], word(0), &mut [0; 4]),
+        Ok("(I)V")
     );
-    assert_eq!(
-        names.write_type_into(5, &mut []),
-        Err(Refusal::plain(Refusal::SHORT))
-    );
-    assert_eq!(names.write_type_into(5, &mut [0; 1]), Ok("I"));
-    assert_eq!(names.write_method_into(&[5], 0, &mut [0; 4]), Ok("(I)V"));
 }
 
+/// One of each, with its number, and the words that it prints.
 #[test]
 fn refusals_in_words() {
-    let text = |number| refused(number, 7, 0x3b).to_string();
-    let mut all: Vec<String> = (1..=24).map(text).collect();
-    assert!(all.iter().all(|text| !text.contains("no such refusal")));
-    assert_eq!(text(12), "unexpected descriptor byte 0x3b at 7");
-    assert_eq!(text(18), "more than 255 array dimensions at 7");
-    assert_eq!(text(16), "method descriptor must start with '('");
-    assert_eq!(text(23), "name is not in the table");
-    let with_offset: Vec<u64> = (1..=24)
-        .filter(|number| text(*number).ends_with(" at 7"))
-        .collect();
-    assert_eq!(with_offset, [11, 12, 13, 14, 15, 17, 18, 19, 24]);
-    assert_eq!(all.iter().filter(|text| text.contains("0x3b")).count(), 1);
-    all.sort();
-    all.dedup();
-    assert_eq!(all.len(), 24);
-    assert_eq!(text(25), "no such refusal");
+    let offset = 7;
+    let all = [
+        (3, Refusal::Length),
+        (5, Refusal::NameOrder),
+        (6, Refusal::Number),
+        (7, Refusal::Type),
+        (8, Refusal::Room),
+        (9, Refusal::NoObject),
+        (10, Refusal::Utf8),
+        (11, Refusal::UnexpectedEnd { offset }),
+        (12, Refusal::UnexpectedByte { offset, byte: 0x3b }),
+        (13, Refusal::VoidNotAllowed { offset }),
+        (14, Refusal::EmptyObject { offset }),
+        (15, Refusal::TrailingInput { offset }),
+        (16, Refusal::MissingMethodStart),
+        (17, Refusal::MissingMethodEnd { offset }),
+        (18, Refusal::TooManyDimensions { offset }),
+        (19, Refusal::TooManyParameters { offset }),
+        (20, Refusal::Deep),
+        (21, Refusal::Bounds),
+        (22, Refusal::Short),
+        (23, Refusal::Absent),
+        (24, Refusal::Strict { offset }),
+        (99, Refusal::Other { number: 99 }),
+    ];
+    let mut texts = Vec::new();
+    for (number, refusal) in all {
+        assert_eq!(refusal.number(), number);
+        let has_offset = [11, 12, 13, 14, 15, 17, 18, 19, 24].contains(&number);
+        assert_eq!(refusal.offset(), has_offset.then_some(7));
+        assert_eq!(refusal.byte(), (number == 12).then_some(0x3b));
+        let text = refusal.to_string();
+        assert!(text.starts_with(refusal.reason()));
+        assert_eq!(text.ends_with(" at 7"), has_offset);
+        assert_eq!(text.contains("0x3b"), number == 12);
+        texts.push(text);
+    }
+    assert_eq!(texts[8], "unexpected descriptor byte 0x3b at 7");
+    assert_eq!(texts[12], "method descriptor must start with '('");
+    texts.sort();
+    texts.dedup();
+    assert_eq!(texts.len(), all.len());
+}
+
+/// The refusal that the boundary gives, number, offset and byte, is the one of the type.
+#[test]
+fn refusals_of_readers() {
+    for text in [
+        "", "[", "[[x", "[V", "L;", "La", "II", "L\u{e9}", "La.b;", "V", "[[[La/b;",
+    ] {
+        let d = text.as_bytes();
+        for (read, raw) in [
+            (read_type(d).err(), slices::read_type(d)),
+            (read_type_strict(d).err(), slices::read_type_strict(d)),
+        ] {
+            assert_eq!(read.map_or(0, |refusal| refusal.number()), raw.refusal);
+            let offset = read.and_then(|refusal| refusal.offset());
+            assert_eq!(offset.unwrap_or(0) as u64, raw.offset);
+            let byte = read.and_then(|refusal| refusal.byte());
+            assert_eq!(u64::from(byte.unwrap_or(0)), raw.byte);
+        }
+    }
 }
 
 #[test]
@@ -243,4 +367,7 @@ fn a_refusal_is_an_error() {
         error.to_string(),
         "class name with '.', '[' or an empty part at 0"
     );
+    let table: Box<dyn std::error::Error> = Names::new([""]).expect_err("an empty name").into();
+    let source = table.source().map(ToString::to_string);
+    assert_eq!(source, Some(Refusal::Length.to_string()));
 }

@@ -1,6 +1,6 @@
 //! Writing against `to_descriptor` and `Display` of the Rust; its refusals; there and back.
 
-use bracepuffin::{slices, Names};
+use bracepuffin::{slices, Names, TypeWord};
 use judge::cases::{any_method, any_names, any_table, any_word};
 use judge::paper::Table;
 use judge::rng::Rng;
@@ -128,6 +128,7 @@ fn the_longest_descriptors() {
         Err(22)
     );
     let names = Names::new([&name]).expect("a sound table");
+    let word = names.word_from_bits(word);
     assert_eq!(names.write_type(word).as_ref(), Ok(&text));
     assert_eq!(names.write_method(&[word; 255], word).as_ref(), Ok(&method));
 }
@@ -176,7 +177,7 @@ fn read_then_written_is_the_same_bytes() {
             .collect();
         classes.push("another");
         let names = Names::new(classes).expect("a sound table");
-        let words: Vec<u64> = types()
+        let words: Vec<TypeWord> = types()
             .map(|ty| names.word(*ty).expect("in the table"))
             .collect();
         let (result, params) = words.split_last().expect("the return type");
@@ -203,7 +204,7 @@ fn written_then_read_is_the_same_type() {
         let names = Names::new(&names).expect("a sound table");
         let text = write_type(&table, word, 600).expect("a legal word");
         let read = bracepuffin::read_type(text.as_bytes()).expect("a descriptor");
-        assert_eq!(names.word(read), Ok(word), "{text}");
+        assert_eq!(names.word(read), Ok(names.word_from_bits(word)), "{text}");
     }
 }
 

@@ -6,6 +6,7 @@
 //!
 //! BRACEPUFFIN_CASES sets the number of random cases as in the other tests.
 
+mod check;
 mod every;
 mod facts;
 mod lent;

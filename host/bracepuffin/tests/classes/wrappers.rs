@@ -1,7 +1,8 @@
 //! The class tables of the Rust crate.
 
 use bracepuffin::{
-    ClassTable, ClassTableBuilder, Distance, ReferenceTypeInfo, Refusal, Relation, Relations,
+    ClassTable, ClassTableBuilder, Distance, Place, ReferenceTypeInfo, Refusal, Relation,
+    Relations, TableError, OBJECT,
 };
 use dexdec::hierarchy::{ClassHierarchyIndex, SubtypeRelation, TypeHierarchy};
 use judge::class_cases::{any_classes, layered_classes};
@@ -10,42 +11,34 @@ use judge::rng::Rng;
 
 use crate::cases;
 
-const PLAIN: ReferenceTypeInfo = ReferenceTypeInfo {
-    is_interface: false,
-    is_final: false,
-};
-const INTERFACE: ReferenceTypeInfo = ReferenceTypeInfo {
-    is_interface: true,
-    ..PLAIN
-};
-const FINAL: ReferenceTypeInfo = ReferenceTypeInfo {
-    is_final: true,
-    ..PLAIN
-};
-
-fn absent<T>() -> Result<T, Refusal> {
-    Err(Refusal::plain(Refusal::ABSENT))
-}
-
-/// The example of the crate's first page and of the manual.
+/// The example of the manual.
 #[test]
-fn a_small_program() -> Result<(), Refusal> {
+fn a_small_program() -> Result<(), TableError> {
     let mut classes = ClassTableBuilder::new();
-    classes.add_declared_type("a/Shape", ["java/lang/Object"], INTERFACE);
-    classes.add_declared_type("a/Round", ["java/lang/Object", "a/Shape"], FINAL);
-    classes.add_declared_type("a/Square", ["a/Base", "a/Shape"], PLAIN);
+    classes.add_declared_type(
+        "a/Shape",
+        ["java/lang/Object"],
+        ReferenceTypeInfo::INTERFACE,
+    );
+    classes.add_declared_type(
+        "a/Round",
+        ["java/lang/Object", "a/Shape"],
+        ReferenceTypeInfo::FINAL,
+    );
+    classes.add_declared_type("a/Square", ["a/Base", "a/Shape"], ReferenceTypeInfo::PLAIN);
     classes.add("java/lang/Object", []);
     let table = classes.build()?;
-    assert_eq!(table.relation("a/Round", "a/Shape")?, Relation::Yes);
-    assert_eq!(table.relation("a/Round", "a/Square")?, Relation::No);
-    assert_eq!(table.relation("a/Square", "a/Round")?, Relation::Unknown);
-    assert_eq!(table.supertype("a/Round", "a/Square")?, Some("a/Shape"));
-    assert_eq!(table.distance("a/Round", "a/Shape")?, Distance::Steps(1));
-    assert!(!table.cast("a/Round", "a/Square")?);
-    let above = table.ancestors("a/Square")?;
+    assert_eq!(table.relation("a/Round", "a/Shape"), Relation::Yes);
+    assert!(table.is_subtype("a/Round", "a/Shape"));
+    assert_eq!(table.relation("a/Round", "a/Square"), Relation::No);
+    assert_eq!(table.relation("a/Square", "a/Round"), Relation::Unknown);
+    assert_eq!(table.supertype("a/Round", "a/Square"), "a/Shape");
+    assert_eq!(table.distance("a/Round", "a/Shape"), Distance::Steps(1));
+    assert!(!table.cast("a/Round", "a/Square"));
+    let above = table.ancestors("a/Square");
     let names: Vec<&str> = above.names().collect();
     assert_eq!(names, ["a/Base", "a/Shape", "a/Square", "java/lang/Object"]);
-    assert_eq!(table.relation("a/Round", "b"), absent());
+    assert_eq!(table.relation("a/Round", "b"), Relation::No);
     Ok(())
 }
 
@@ -54,45 +47,73 @@ fn ancestors_and_distances() {
     let mut classes = ClassTableBuilder::new();
     classes.add("b", ["c"]).name("a");
     let table = classes.build().expect("a table");
-    let above = table.ancestors("b").expect("ancestors");
+    let above = table.ancestors("b");
     assert_eq!((above.len(), above.lowest()), (3, "b"));
     assert!(above.contains("c") && above.contains("java/lang/Object"));
     assert!(!above.contains("a") && !above.contains("x"));
-    assert_eq!(above.numbers().collect::<Vec<_>>(), [1, 2, 3]);
+    let numbers: Vec<u64> = above.numbers().map(|class| class.get()).collect();
+    assert_eq!(numbers, [1, 2, 3]);
     assert_eq!(above.words()[0], 0b1110);
     assert_eq!(format!("{above:?}"), r#"{"b", "c", "java/lang/Object"}"#);
-    assert_eq!(table.distance("b", "c"), Ok(Distance::Steps(1)));
-    assert_eq!(table.distance("c", "b"), Ok(Distance::NoAncestor));
+    assert_eq!(table.distance("b", "c"), Distance::Steps(1));
+    assert_eq!(table.distance("c", "b"), Distance::NoAncestor);
     let object = table.distance("b", "java/lang/Object");
-    assert_eq!(object, Ok(Distance::UnreachedObject));
+    assert_eq!(object, Distance::UnreachedObject);
 }
 
+/// Classes that the table does not name are answered; they have no number.
 #[test]
 fn names_that_are_absent() {
     let table = ClassTableBuilder::new().build().expect("a table");
     assert_eq!(table.names().len(), 1);
-    let object = "java/lang/Object";
-    for (left, right) in [("a", object), (object, "a"), ("a", "a")] {
-        assert_eq!(table.relation(left, right), absent());
-        assert_eq!(table.distance(left, right), absent());
-        assert_eq!(table.supertype(left, right), absent());
-        assert_eq!(table.cast(left, right), absent());
+    assert_eq!(table.relation("a", OBJECT), Relation::Yes);
+    assert_eq!(table.relation("a", "a"), Relation::Yes);
+    assert_eq!(table.relation("a", "b"), Relation::Unknown);
+    assert_eq!(table.relation(OBJECT, "a"), Relation::Unknown);
+    assert_eq!(table.distance("a", OBJECT), Distance::UnreachedObject);
+    assert_eq!(table.distance("a", "a"), Distance::Steps(0));
+    assert_eq!(table.distance(OBJECT, "a"), Distance::NoAncestor);
+    assert_eq!(table.supertype("a", "b"), OBJECT);
+    assert_eq!(table.supertype("a", "a"), "a");
+    assert!(table.cast("a", OBJECT) && table.cast(OBJECT, "a") && !table.cast("a", "b"));
+    for (class, expected) in [("a", ["a", OBJECT]), ("z", [OBJECT, "z"])] {
+        let above = table.ancestors(class);
+        assert_eq!(above.names().collect::<Vec<_>>(), expected);
+        assert_eq!((above.len(), above.lowest()), (2, expected[0]));
+        assert!(above.contains(class) && above.contains(OBJECT) && !above.contains("b"));
+        assert_eq!((above.numbers().count(), above.words()[0]), (1, 1));
     }
-    assert!(table.ancestors("a").is_err());
-    assert_eq!(table.class_number(object), Ok(0));
+    assert_eq!(table.class_number("a"), Err(Refusal::Absent));
     assert_eq!(table.class_number("").ok(), None);
+    assert_eq!(table.class_number(OBJECT).map(|class| class.get()), Ok(0));
+}
+
+/// Every class of the table is above this one, and java/lang/Object, which has no record, is reached or is not.
+#[test]
+fn a_class_that_is_absent_below_one_with_everything_above_it() {
+    let mut classes = ClassTableBuilder::new();
+    classes.add("a", []);
+    let table = classes.build().expect("a table");
+    assert_eq!(table.relation("a", "x"), Relation::No);
+    classes.add("a", [OBJECT]);
+    let table = classes.build().expect("a table");
+    assert_eq!(table.relation("a", "x"), Relation::Unknown);
+    classes.add(OBJECT, ["a"]);
+    let table = classes.build().expect("a table");
+    assert_eq!(table.relation("a", "x"), Relation::No);
+    assert_eq!(Relations::of(&table).relation("a", "x"), Relation::No);
 }
 
 #[test]
 fn tables_that_are_refused() {
-    let refused = |classes: &ClassTableBuilder| classes.build().err().map(|refusal| refusal.number);
+    let refused = |classes: &ClassTableBuilder| classes.build().err().map(|error| error.refusal());
     let long = "n".repeat(256);
     let mut classes = ClassTableBuilder::new();
     assert_eq!(refused(&classes), None);
-    assert_eq!(refused(classes.clone().name("")), Some(Refusal::LENGTH));
+    assert_eq!(refused(classes.clone().name("")), Some(Refusal::Length));
     assert_eq!(
         refused(classes.clone().add(&long, [])),
-        Some(Refusal::LENGTH)
+        Some(Refusal::Length)
     );
     let names: Vec<String> = (0..1024).map(|number| number.to_string()).collect();
     for name in &names[..1023] {
@@ -101,7 +122,7 @@ fn tables_that_are_refused() {
     assert_eq!(refused(&classes), None);
     assert_eq!(
         refused(classes.clone().name(&names[1023])),
-        Some(Refusal::ROOM)
+        Some(Refusal::Room)
     );
     // 4,096 pairs, in records of more parents than one row has.
     for class in 0..4 {
@@ -110,7 +131,22 @@ fn tables_that_are_refused() {
     }
     assert_eq!(refused(&classes), None);
     assert_eq!(refused(classes.clone().add(&names[0], ["5"])), None);
-    assert_eq!(refused(classes.add(&names[5], ["5"])), Some(Refusal::ROOM));
+    let error = classes
+        .add(&names[5], ["5"])
+        .build()
+        .expect_err("a pair too many");
+    assert_eq!(error.refusal(), Refusal::Room);
+    // Classes 0 to 3 have five rows each and one; 5 comes after them.
+    let place = Place::Record {
+        class: "5".to_string(),
+        row: 24,
+        of: 25,
+    };
+    assert_eq!(error.place(), &place);
+    assert_eq!(
+        error.to_string(),
+        "one entry too many: record 25 of 25, of \"5\""
+    );
 }
 
 #[test]
@@ -119,17 +155,50 @@ fn a_table_is_shared_and_cloned() {
     let mut classes = ClassTableBuilder::new();
     classes.add("a", ["b"]);
     let table = classes.build().expect("a table");
+    let relations = Relations::of(&table);
     shared(&table);
+    shared(&relations);
     std::thread::scope(|scope| {
         for _ in 0..4 {
-            scope.spawn(|| assert_eq!(table.relation("a", "b"), Ok(Relation::Yes)));
+            scope.spawn(|| {
+                for _ in 0..10 {
+                    assert_eq!(table.relation("a", "b"), Relation::Yes);
+                    assert_eq!(relations.relation("a", "b"), Relation::Yes);
+                }
+            });
         }
     });
-    assert_eq!(table.clone().relation("b", "a"), Ok(Relation::Unknown));
+    let clone = table.clone();
+    assert_eq!(clone.relation("b", "a"), Relation::Unknown);
+    // A clone is the same table.
+    let class = clone.class_number("b").expect("in the table");
+    assert_eq!(table.names().name(class), Some("b"));
     assert_eq!(
         format!("{table:?}"),
         "ClassTable { names: 3, records: 1, .. }"
     );
+}
+
+/// A thread asks while its own data is being taken down.
+#[test]
+fn a_question_at_the_end_of_a_thread() {
+    struct Asks(ClassTable);
+    impl Drop for Asks {
+        fn drop(&mut self) {
+            assert_eq!(self.0.relation("a", "b"), Relation::Yes);
+        }
+    }
+    thread_local! {
+        static LAST: std::cell::RefCell<Option<Asks>> = const { std::cell::RefCell::new(None) };
+    }
+    let asked = std::thread::spawn(|| {
+        let mut classes = ClassTableBuilder::new();
+        classes.add("a", ["b"]);
+        let table = classes.build().expect("a table");
+        LAST.with(|last| *last.borrow_mut() = Some(Asks(table.clone())));
+        table.relation("a", "b")
+    });
+    assert_eq!(asked.join().expect("no panic"), Relation::Yes);
 }
 
 /// The wrapper's table and the index of hierarchy.rs from the same records.
@@ -170,20 +239,28 @@ fn relation(index: &ClassHierarchyIndex, value: &str, expected: &str) -> Relatio
 fn every_query_by_name() {
     let mut rng = Rng::new(1, "class tables by name");
     for _ in 0..cases(60) {
-        let (table, index, names) = both(&any_classes(&mut rng, 6));
+        let (table, index, mut names) = both(&any_classes(&mut rng, 6));
+        // And two that the table does not name, before and after java/lang/Object.
+        names.extend(["b/Absent".to_string(), "zz/Absent".to_string()]);
         for left in &names {
-            let above = table.ancestors(left).expect("ancestors");
+            let above = table.ancestors(left);
             assert_eq!(
                 above.names().collect::<Vec<_>>(),
                 index.ancestor_names(left)
             );
+            let distances = dexdec::hierarchy::distances(&index, left);
             for right in &names {
-                let expected = relation(&index, left, right);
-                assert_eq!(table.relation(left, right), Ok(expected));
+                assert_eq!(table.relation(left, right), relation(&index, left, right));
                 let expected = index.least_common_supertype(left, right);
-                assert_eq!(table.supertype(left, right), Ok(expected.as_deref()));
+                assert_eq!(Some(table.supertype(left, right)), expected.as_deref());
                 let expected = index.is_cast_convertible(left, right);
-                assert_eq!(table.cast(left, right), Ok(expected));
+                assert_eq!(table.cast(left, right), expected);
+                let expected = match distances.get(right) {
+                    None => Distance::NoAncestor,
+                    Some(steps) if *steps == usize::MAX / 4 => Distance::UnreachedObject,
+                    Some(steps) => Distance::Steps(*steps as u64),
+                };
+                assert_eq!(table.distance(left, right), expected);
             }
         }
     }
@@ -197,22 +274,29 @@ fn relations_of_all_pairs() {
     tables.push(layered_classes(&mut rng, 90, 0));
     tables.push(layered_classes(&mut rng, 90, 20));
     for classes in tables {
-        let (table, index, names) = both(&classes);
-        let relations = Relations::of(&table).expect("a sound table");
-        for (value, left) in (0..).zip(&names) {
-            for (expected, right) in (0..).zip(&names) {
+        let (table, index, mut names) = both(&classes);
+        let relations = Relations::of(&table);
+        for (value, left) in table.names().classes().zip(&names) {
+            for (expected, right) in table.names().classes().zip(&names) {
                 let found = relations.relation_of(value, expected);
                 assert_eq!(found, Ok(relation(&index, left, right)), "{classes:?}");
-                if names.len() < 10 {
-                    assert_eq!(relations.relation(left, right), found);
-                    assert_eq!(table.relation(left, right), found);
-                }
             }
         }
-        let past = names.len() as u64;
-        let refused = Err(Refusal::plain(Refusal::NUMBER));
-        assert_eq!(relations.relation_of(past, 0), refused);
-        assert_eq!(relations.relation_of(0, past), refused);
-        assert_eq!(relations.relation("java/lang/Object", "?"), absent());
+        names.push("b/Absent".to_string());
+        if names.len() < 11 {
+            for (left, right) in names
+                .iter()
+                .flat_map(|left| names.iter().map(move |right| (left, right)))
+            {
+                let found = relations.relation(left, right);
+                assert_eq!(found, relation(&index, left, right));
+                assert_eq!(table.relation(left, right), found);
+            }
+        }
+        let other = ClassTableBuilder::new().build().expect("a table");
+        let foreign = other.class_number(OBJECT).expect("in the table");
+        let own = table.class_number(OBJECT).expect("in the table");
+        assert_eq!(relations.relation_of(foreign, own), Err(Refusal::Number));
+        assert_eq!(relations.relation_of(own, foreign), Err(Refusal::Number));
     }
 }

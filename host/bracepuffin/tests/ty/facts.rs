@@ -1,6 +1,6 @@
 //! What is asked of a type alone, the types that have a name of their own, and words there and back.
 
-use bracepuffin::{ArgType, ClassTableBuilder, PrimitiveType};
+use bracepuffin::{ArgType, ClassTableBuilder, PrimitiveType, TypeWord};
 use judge::cases::any_word;
 use judge::rng::Rng;
 
@@ -9,7 +9,7 @@ use crate::{names, owned_names, types, words, NAMES};
 /// By word, which both have.
 fn same(ours: ArgType, theirs: &dexdec::ArgType) -> bool {
     let word = words::word(theirs, &owned_names());
-    word.is_some_and(|word| names().word(ours) == Ok(word))
+    word.is_some_and(|word| names().word(ours).map(TypeWord::bits) == Ok(word))
 }
 
 #[test]
@@ -66,11 +66,12 @@ fn what_is_asked_of_a_type() {
 fn words_of_a_table_of_names() {
     let names = names();
     for word in words() {
+        let word = names.word_from_bits(word);
         let ty = names.type_of(word).expect("a word of a type");
         assert_eq!(names.word(ty), Ok(word));
     }
     for word in [11, 1 << 48 | 9, 2 << 48 | 1, 3 << 48, u64::MAX] {
-        assert_eq!(names.type_of(word), None);
+        assert_eq!(names.type_of(names.word_from_bits(word)), None);
     }
 }
 
@@ -86,9 +87,11 @@ fn random_words() {
     let mut rng = Rng::new(1, "words of types");
     for _ in 0..20_000 {
         let word = any_word(&mut rng, NAMES.len() + 1);
-        let ours = names.type_of(word);
-        assert_eq!(ours, table.type_of(word));
-        assert_eq!(ours.is_some(), names.write_type(word).is_ok());
+        let ours = names.type_of(names.word_from_bits(word));
+        let of_table = table.names().word_from_bits(word);
+        assert_eq!(ours, table.type_of(of_table));
+        let written = names.write_type(names.word_from_bits(word));
+        assert_eq!(ours.is_some(), written.is_ok());
         match words::parse(word, &owned_names()) {
             Ok(theirs) => assert!(ours.is_some_and(|ours| same(ours, &theirs)), "{word:016x}"),
             Err(_) => assert_eq!(ours, None, "{word:016x}"),

@@ -60,7 +60,8 @@ fn words() -> Vec<u64> {
 /// A type of the crate and the same of ty.rs, of each word.
 fn types(names: &Names) -> Vec<(ArgType<'_>, dexdec::ArgType)> {
     let both = |word| {
-        let ours = names.type_of(word).expect("a word of a type");
+        let ours = names.type_of(names.word_from_bits(word));
+        let ours = ours.expect("a word of a type");
         let theirs = words::parse(word, &owned_names()).expect("a word of a type");
         (ours, theirs)
     };

@@ -3,7 +3,7 @@
 use std::str::FromStr;
 
 use bracepuffin::{read_method, read_type, ArgType, MethodDescriptor, Names, PrimitiveType};
-use bracepuffin::{read_method_strict, read_type_strict, Base, Refusal};
+use bracepuffin::{read_method_strict, read_type_strict, Base, Refusal, TypeWord};
 use judge::cases::{any_method, any_type, each_string, REAL_METHODS, REAL_TYPES};
 use judge::rng::Rng;
 
@@ -51,9 +51,8 @@ fn names_that_no_table_holds() {
         assert_eq!(deep.to_descriptor(), Ok(expected));
     }
     for length in [0, 256, 257, 70_000] {
-        let refusal = Refusal::plain(Refusal::LENGTH);
         let refused = ArgType::object(&name(length)).to_descriptor();
-        assert_eq!(refused, Err(refusal), "{length}");
+        assert_eq!(refused, Err(Refusal::Length), "{length}");
     }
     let long = format!("([L{};)L{};", name(256), name(70_000));
     let method = read_method(long.as_bytes()).expect("a method");
@@ -88,7 +87,7 @@ fn written(method: &MethodDescriptor) -> Result<String, Refusal> {
     });
     let names = Names::new(names)?;
     let words = method.parameters.iter().map(|ty| names.word(*ty));
-    let words = words.collect::<Result<Vec<u64>, Refusal>>()?;
+    let words = words.collect::<Result<Vec<TypeWord>, Refusal>>()?;
     names.write_method(&words, names.word(method.return_type)?)
 }
 

@@ -1,0 +1,230 @@
+//! The report: tables of every row, plots, what a small question costs, and where the boundary is behind the Rust.
+
+use std::fmt::Write;
+use std::fs;
+use std::io;
+use std::path::Path;
+
+use crate::growth::{self, Growth};
+use crate::measure::{Effort, Row, Times};
+use crate::plot::{duration, svg};
+use crate::small::{self, Cost};
+use crate::{classes, descriptors, processor, types};
+
+/// A part: its name on the command line, its title, its rows, and a word on what stands behind the figures.
+struct Part {
+    name: &'static str,
+    title: &'static str,
+    rows: fn(Effort) -> Vec<Row>,
+    why: &'static str,
+}
+
+const PARTS: [Part; 3] = [
+    Part {
+        name: "descriptors",
+        title: "Descriptors",
+        rows: descriptors::rows,
+        why: "A write through the boundary checks all names that it is lent; the wrapper lends those that the words \
+              use. A reader or writer of the wrapper that gives a `Vec` or a `String` asks for memory, as the Rust does.",
+    },
+    Part {
+        name: "classes",
+        title: "Class tables",
+        rows: classes::rows,
+        why: "A call keeps nothing, so each one checks its table and builds it anew, while the Rust keeps its index and \
+              its distances between calls. Whoever asks much of one table asks the ancestors of each class once \
+              (`Relations`). Of all pairs, the Rust is asked twenty rows, and its time scaled up to all.",
+    },
+    Part {
+        name: "types",
+        title: "Joins and assignability",
+        rows: types::rows,
+        why: "As with class tables; of two primitives nothing but the table is left to pay for.",
+    },
+];
+
+/// The tables alone, or that of one part.
+pub fn tables(effort: Effort, part: Option<&str>) -> String {
+    let mut text = String::new();
+    for Part {
+        name, title, rows, ..
+    } in PARTS
+    {
+        if part.map_or(true, |part| part == name) {
+            text += &format!("## {title}\n\n{}\n", table(&rows(effort)));
+        }
+    }
+    if part.map_or(true, |part| part == "small") {
+        text += &small_table(&small::costs(effort));
+    }
+    text
+}
+
+/// Writes PERFORMANCE.md into a folder, and its plots into `performance` there.
+pub fn write(effort: Effort, folder: &Path) -> io::Result<()> {
+    let growths = growth::all(effort);
+    fs::create_dir_all(folder.join("performance"))?;
+    for growth in &growths {
+        let file = folder.join("performance").join(growth.name);
+        fs::write(file.with_extension("svg"), svg(growth))?;
+    }
+    let parts = PARTS.map(|part| (part.title, (part.rows)(effort), part.why));
+    let text = text(&parts, &growths, &small::costs(effort));
+    fs::write(folder.join("PERFORMANCE.md"), text)
+}
+
+/// A part that was measured: its title, its rows, the word on them.
+type Measured = (&'static str, Vec<Row>, &'static str);
+
+fn text(parts: &[Measured], growths: &[Growth], costs: &[Cost]) -> String {
+    let mut text = format!(
+        "# Performance\n\n\
+         Written by `cargo run --release -p bench -- report` in `host/`, on {}.\n",
+        processor::name()
+    );
+    if let Some(reason) = processor::unfit() {
+        text += &format!("\n**These figures say nothing: {reason}.**\n");
+    }
+    text += "\nEach row is timed in turns in one run: the Rust of docs/src, the boundary over slices, the Rust wrapper. A \
+             time is that of the best turn, with the middle one and the one that nine in ten stay below; a ratio is the \
+             Rust's best time divided by ours, so above 1 is faster than the Rust. Where the linker puts a loop can move \
+             a row by half.\n";
+    for (title, rows, why) in parts {
+        text += &format!("\n## {title}\n\n{}\n{why}\n", table(rows));
+    }
+    text += "\n## As work grows\n";
+    for growth in growths {
+        text += &format!("\n![{0}](performance/{1}.svg)\n", growth.title, growth.name);
+    }
+    text += &format!("\n## What a small question costs\n\n{}", small_table(costs));
+    text += "\nEvery query must leave its working slice of 64 KB zero, whatever it was asked: the last row is what that \
+             alone costs, and no call can cost less.\n";
+    text + &behind(parts)
+}
+
+/// The rows in which the boundary or the wrapper needs more time than the Rust.
+fn behind(parts: &[Measured]) -> String {
+    let mut text = String::from("\n## Where the Rust is faster\n\n");
+    let rows = parts.iter().flat_map(|(_, rows, _)| rows);
+    let slower = rows.filter(|row| row.ratios().iter().any(|ratio| *ratio < 1.0));
+    let mut none = true;
+    for row in slower {
+        let [boundary, wrapper] = row.ratios().map(ratio);
+        _ = writeln!(
+            text,
+            "- {}: boundary {boundary}, wrapper {wrapper}",
+            row.what
+        );
+        none = false;
+    }
+    if none {
+        text += "Nowhere.\n";
+    }
+    text
+}
+
+fn table(rows: &[Row]) -> String {
+    let mut text = String::from(
+        "| what | Rust | boundary | Rust / boundary | wrapper | Rust / wrapper |\n|---|---|---|---|---|---|\n",
+    );
+    for row in rows {
+        let [over_boundary, over_wrapper] = row.ratios().map(ratio);
+        _ = writeln!(
+            text,
+            "| {} | {} | {} | {over_boundary} | {} | {over_wrapper} |",
+            row.what,
+            spread(row.rust),
+            spread(row.boundary),
+            spread(row.wrapper)
+        );
+    }
+    text
+}
+
+fn small_table(costs: &[Cost]) -> String {
+    let mut text = String::from("| what | time |\n|---|---|\n");
+    for (what, times) in costs {
+        _ = writeln!(text, "| {what} | {} |", spread(*times));
+    }
+    text
+}
+
+fn spread(times: Times) -> String {
+    let [best, middle, most] = [times.best, times.middle, times.most].map(duration);
+    format!("{best} ({middle}, {most})")
+}
+
+/// With a digit that says something.
+fn ratio(ratio: f64) -> String {
+    let digits = if ratio < 0.1 { 3 } else { 1 };
+    format!("{ratio:.digits$}")
+}
+
+#[cfg(test)]
+mod tests {
+    use super::*;
+    use crate::growth::Series;
+
+    fn times(best: f64) -> Times {
+        Times {
+            best,
+            middle: best * 1.5,
+            most: best * 2.0,
+        }
+    }
+
+    fn row(what: &str, rust: f64, boundary: f64) -> Row {
+        Row {
+            what: what.to_string(),
+            rust: times(rust),
+            boundary: times(boundary),
+            wrapper: times(boundary),
+        }
+    }
+
+    #[test]
+    fn what_is_written() {
+        let parts = [(
+            "Part",
+            vec![row("fast", 40.0, 10.0), row("slow", 1.0, 2000.0)],
+            "Why.",
+        )];
+        let growth = Growth {
+            name: "size",
+            title: "As it grows",
+            unit: "things",
+            series: vec![Series {
+                label: "one",
+                points: vec![(10.0, times(5.0)), (1000.0, times(50_000.0))],
+            }],
+        };
+        let plot = svg(&growth);
+        assert!(plot.starts_with("<svg ") && plot.ends_with("</svg>\n"));
+        for tag in ["text", "polyline", "circle", "line", "rect"] {
+            assert!(plot.contains(&format!("<{tag} ")), "{tag}");
+        }
+        assert_eq!(plot.matches("<circle").count(), 2);
+        assert!(!plot.contains("NaN") && !plot.contains("inf"));
+        let text = text(&parts, &[growth], &[("nothing", times(3.0))]);
+        assert!(text.contains("| fast | 40 ns (60 ns, 80 ns) | 10 ns (15 ns, 20 ns) | 4.0 |"));
+        assert!(text.contains("![As it grows](performance/size.svg)"));
+        assert!(text.contains("- slow: boundary 0.001, wrapper 0.001"));
+        assert!(!text.contains("- fast"));
+    }
+
+    /// The whole of it, with next to no effort.
+    #[test]
+    fn a_report_in_a_folder() {
+        let folder = std::env::temp_dir().join(format!("bracepuffin-{}", std::process::id()));
+        write(Effort::LEAST, &folder).expect("a folder that can be written");
+        let text = fs::read_to_string(folder.join("PERFORMANCE.md")).expect("the report");
+        assert!(text.contains("24 names, all pairs"));
+        for name in ["names", "pairs", "layers"] {
+            let plot = folder.join("performance").join(name).with_extension("svg");
+            assert!(fs::read_to_string(plot)
+                .expect("a plot")
+                .contains("<polyline"));
+        }
+        fs::remove_dir_all(&folder).expect("what was written");
+    }
+}

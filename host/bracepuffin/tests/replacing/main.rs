@@ -1,0 +1,229 @@
+//! dexdec's own calls replaced by the wrapper's, as a host of it would: `Replaced` has the public functions of
+//! `ClassHierarchyIndex`, is a `TypeHierarchy` for lattice.rs, and is compared with the index on random tables, on all
+//! their classes and on some that no record names.
+//!
+//! What is private in lattice.rs is reached through `dexdec::lattice`; `TypeLattice::solve` itself runs over both.
+//! `ClassHierarchyIndex::layered` has no counterpart, and `freeze_distances` needs none: `Replaced` is never mutated.
+
+mod lattices;
+mod parts;
+#[path = "../shared/mod.rs"]
+#[allow(dead_code)]
+mod shared;
+
+use bracepuffin::{ArgType, ClassTable, ClassTableBuilder, ReferenceTypeInfo, Relation, Relations};
+use dexdec::hierarchy::{self, ClassHierarchyIndex, SubtypeRelation, TypeHierarchy};
+use judge::class_cases::{any_classes, layered_classes};
+use judge::classes::Classes;
+use judge::rng::Rng;
+
+use shared::cases;
+
+/// The wrapper in dexdec's clothes. Relations are kept a class; all else is a call.
+struct Replaced<'t> {
+    table: &'t ClassTable,
+    relations: Relations<'t>,
+}
+
+impl<'t> Replaced<'t> {
+    fn over(table: &'t ClassTable) -> Self {
+        let relations = Relations::of(table);
+        Self { table, relations }
+    }
+
+    fn is_cast_convertible(&self, source: &str, target: &str) -> bool {
+        self.table.cast(source, target)
+    }
+}
+
+impl TypeHierarchy for Replaced<'_> {
+    fn subtype_relation(&self, value: &str, expected: &str) -> SubtypeRelation {
+        match self.relations.relation(value, expected) {
+            Relation::Yes => SubtypeRelation::Yes,
+            Relation::No => SubtypeRelation::No,
+            Relation::Unknown => SubtypeRelation::Unknown,
+        }
+    }
+
+    fn least_common_supertype(&self, left: &str, right: &str) -> Option<String> {
+        Some(self.table.supertype(left, right).to_string())
+    }
+
+    fn ancestor_names(&self, class: &str) -> Vec<String> {
+        let above = self.table.ancestors(class);
+        above.names().map(str::to_string).collect()
+    }
+}
+
+fn relation(index: &ClassHierarchyIndex, value: &str, expected: &str) -> Relation {
+    match index.subtype_relation(value, expected) {
+        SubtypeRelation::Yes => Relation::Yes,
+        SubtypeRelation::No => Relation::No,
+        SubtypeRelation::Unknown => Relation::Unknown,
+    }
+}
+
+/// A record as both sides are given it.
+#[derive(Debug)]
+struct Given {
+    class: String,
+    parents: Vec<String>,
+    info: Option<ReferenceTypeInfo>,
+}
+
+/// The records of a table, by name.
+fn records(classes: &Classes) -> Vec<Given> {
+    let names = classes.names().expect("a sound table");
+    let name = |number: &u64| names[*number as usize].clone();
+    let rows = 0..classes.flags.len();
+    let given = rows.map(|row| {
+        let (at, len) = (classes.at[row] as usize, classes.len[row] as usize);
+        let flags = classes.flags[row];
+        let info = ReferenceTypeInfo {
+            is_interface: flags & 2 != 0,
+            is_final: flags & 4 != 0,
+        };
+        Given {
+            class: name(&classes.class[row]),
+            parents: classes.parents[at..at + len].iter().map(name).collect(),
+            info: (flags != 0).then_some(info),
+        }
+    });
+    given.collect()
+}
+
+fn builder(records: &[Given]) -> ClassTableBuilder<'_> {
+    let mut builder = ClassTableBuilder::new();
+    for record in records {
+        let parents = record.parents.iter().map(String::as_str);
+        match record.info {
+            None => builder.add(&record.class, parents),
+            Some(info) => builder.add_declared_type(&record.class, parents, info),
+        };
+    }
+    builder
+}
+
+fn index(records: &[Given]) -> ClassHierarchyIndex {
+    let mut index = ClassHierarchyIndex::default();
+    for record in records {
+        let (class, parents) = (record.class.clone(), record.parents.clone());
+        match record.info {
+            None => index.add(class, parents),
+            Some(info) => {
+                let info = hierarchy::ReferenceTypeInfo {
+                    is_interface: info.is_interface,
+                    is_final: info.is_final,
+                };
+                index.add_declared_type(class, parents, info);
+            }
+        }
+    }
+    index
+}
+
+/// The names of a table, and some that it does not have: before and after all others, those that lattice.rs knows, and
+/// one that is too long for any table.
+fn asked(rng: &mut Rng, classes: &Classes, most: usize) -> Vec<String> {
+    let mut names = classes.names().expect("a sound table");
+    while names.len() > most {
+        names.swap_remove(rng.below(names.len() as u64) as usize);
+    }
+    let absent = ["a", "java/io/Serializable", "java/lang/Cloneable", "zz", ""];
+    names.extend(absent.map(str::to_string));
+    names.push("java/lang/Object".to_string());
+    names.push("n".repeat(300));
+    names
+}
+
+#[test]
+fn the_calls_of_the_index() {
+    let mut rng = Rng::new(1, "calls of the index");
+    let mut tables: Vec<Classes> = (0..cases(25)).map(|_| any_classes(&mut rng, 7)).collect();
+    tables.push(layered_classes(&mut rng, 40, 0));
+    tables.push(layered_classes(&mut rng, 40, 9));
+    for classes in tables {
+        let records = records(&classes);
+        let table = builder(&records).build().expect("a sound table");
+        let (ours, mut theirs) = (Replaced::over(&table), index(&records));
+        let asked = asked(&mut rng, &classes, 8);
+        if rng.below(2) == 0 {
+            theirs.freeze_distances();
+        }
+        for left in &asked {
+            let expected = theirs.ancestor_names(left);
+            assert_eq!(ours.ancestor_names(left), expected, "{left}");
+            for right in &asked {
+                let pair = (left, right);
+                let expected = theirs.subtype_relation(left, right);
+                assert_eq!(ours.subtype_relation(left, right), expected, "{pair:?}");
+                let expected = theirs.is_subtype(left, right);
+                assert_eq!(table.is_subtype(left, right), expected, "{pair:?}");
+                let expected = theirs.least_common_supertype(left, right);
+                assert_eq!(
+                    ours.least_common_supertype(left, right),
+                    expected,
+                    "{pair:?}"
+                );
+                let expected = theirs.is_cast_convertible(left, right);
+                assert_eq!(ours.is_cast_convertible(left, right), expected, "{pair:?}");
+            }
+        }
+    }
+}
+
+/// `extend_declared_types` of both.
+#[test]
+fn many_declared_types_at_once() {
+    let declared = [
+        ("a", vec!["b", "c"], ReferenceTypeInfo::FINAL),
+        ("b", vec![], ReferenceTypeInfo::INTERFACE),
+        ("a", vec!["java/lang/Object"], ReferenceTypeInfo::PLAIN),
+    ];
+    let mut builder = ClassTableBuilder::new();
+    builder.extend_declared_types(declared.clone());
+    let table = builder.build().expect("a sound table");
+    let mut index = ClassHierarchyIndex::default();
+    index.extend_declared_types(declared.map(|(class, parents, info)| {
+        let info = hierarchy::ReferenceTypeInfo {
+            is_interface: info.is_interface,
+            is_final: info.is_final,
+        };
+        let parents = parents.into_iter().map(str::to_string).collect();
+        (class.to_string(), parents, info)
+    }));
+    for left in ["a", "b", "c", "d"] {
+        for right in ["a", "b", "c", "d"] {
+            assert_eq!(
+                table.cast(left, right),
+                index.is_cast_convertible(left, right)
+            );
+            assert_eq!(table.is_subtype(left, right), index.is_subtype(left, right));
+        }
+    }
+}
+
+/// A type of dexdec as the wrapper has it.
+fn ours(ty: &dexdec::ArgType) -> ArgType<'_> {
+    let mut dimensions = 0;
+    let mut base = ty;
+    while let dexdec::ArgType::Array(element) = base {
+        dimensions += 1;
+        base = element;
+    }
+    let category = |category: &dexdec::PrimitiveType| {
+        let number = words::category_number(*category);
+        bracepuffin::PrimitiveType::ALL[number as usize]
+    };
+    let base = match base {
+        dexdec::ArgType::Primitive(primitive) => ArgType::primitive(category(primitive)),
+        dexdec::ArgType::Object(name) => ArgType::object(name),
+        dexdec::ArgType::Unknown(list) => {
+            let list: Vec<_> = list.iter().map(category).collect();
+            let list = bracepuffin::Categories::new(&list);
+            ArgType::unknown_of(list.expect("no repeats"))
+        }
+        dexdec::ArgType::Array(_) => unreachable!("dimensions were taken off"),
+    };
+    ArgType { dimensions, ..base }
+}
