@@ -4,17 +4,20 @@ use mathlib.Core.Path.{_≡_, refl, sym, ap, ap₂, _∙_, subst}
 use mathlib.Core.Bool.{Bool, true, false, cond, _||_, true≢false, or-true}
 use mathlib.Core.List.{List, List·Memᴰ}
 use mathlib.Core.Logic.{_⊎_, inl, inr, ⊎-elim}
-use Prim.Native.Nat.{ℕ, _+_, _*_, _≤_, _<_, max}
+use Prim.Native.Nat.{ℕ, _+_, _*_, _/_, _%_, _≤_, _<_}
 use native.Mathlib.Decide.{decLt, ℕ-discrete}
 use native.Mathlib.Omega.{arith}
-use lib.ListN.{length, replicate, length-replicate}
+use lib.Dec.{eqb}
+use lib.ListN.{length, replicate, getD, length-replicate}
+use lib.Seq.{ext-getD}
 use Rattle.order.specs.Truth.{implied-both}
 use Rattle.sets.specs.Sets.{at, member, insert, remove, unite, members, first}
 use Rattle.sets.specs.Laws.{at-ext, at-empty, member-empty, member-none, member-ext, member-unite, at-unite, length-unite, words-unite, length-remove, at-remove-same, at-remove-other, member-cong, lowest-member, lowest-none}
-use Rattle.view.specs.View.{View, insertAll, reached, reach}
+use Rattle.view.specs.View.{View, insertAll, reached, reach, ancestor, allRecorded, complete, relation}
+use Rattle.view.specs.declared.Relation.the-variants.{Yes, No, Unknown}
 use Rattle.view.specs.Grow.{Formed, empty-formed, insert-formed, insertAll-formed, insertAll-keeps, insertAll-has, insertAll-only, member-le, member-insert-same, member-insert-only}
 use Rattle.view.specs.Reach.{Good, reach-refl, reach-below, reach-trans, reach-parent, reach-induction, reached-formed}
-use Rattle.ancestry.specs.Rows.{rowsRoom, row, Joined, Through}
+use Rattle.ancestry.specs.Rows.{rowsRoom, row, row-word, Joined, Through}
 
 -- the rows of a set: what each of its classes reaches, and nothing for the others
 pub record Rows (v : View) (s rows : List ℕ) : Type 0 where
@@ -280,3 +283,42 @@ module _ (v : View) (g : Good v) (s : List ℕ) (size-s : length s ≡ 16) (insi
               ∙ ap (λ (b : Bool). cond b (unite (row rows c) (row rows k)) (row rows c)) (ap (λ (w : List ℕ). member w k) (st .none c l n) ∙ member-empty 16 k)
               ∙ st .none c l n
           outside c l n (no u) = q .past c (omega arith) ∙ st .none c l n
+
+-- THERE IS ONE SLICE of rows
+pub rows-unique : (v : View) (s a b : List ℕ) → Rows v s a → Rows v s b → a ≡ b
+rows-unique v s a b p q =
+    ext-getD 0 a b (p .size ∙ sym (q .size))
+    (λ i h.
+    let n = p .size in
+    let e : i ≡ 16 * (i / 16) + i % 16 = omega arith in
+    ap (λ (k : ℕ). getD a k 0) e ∙ sym (row-word a (i / 16) (i % 16) (omega arith)) ∙ ap (λ (w : List ℕ). getD w (i % 16) 0) (same (i / 16) (omega arith) (member s (i / 16)) refl)
+    ∙ row-word b (i / 16) (i % 16) (omega arith)
+    ∙ ap (λ (k : ℕ). getD b k 0) (sym e))
+  where
+    same : (c : ℕ) → c < 1024 → (t : Bool) → member s c ≡ t → row a c ≡ row b c
+    same c h true m = p .has c m ∙ sym (q .has c m)
+    same c h false m = p .none c h m ∙ sym (q .none c h m)
+
+-- ---- what a row tells
+
+module _ (v : View) (s rows : List ℕ) (rs : Rows v s rows) (c : ℕ) (m : member s c ≡ true) where
+  -- whether a class is reached is a digit of it
+  pub row-reach : (y : ℕ) → member (row rows c) y ≡ reach v c y
+  unfolding reach
+  row-reach y = ap (λ (w : List ℕ). member w y) (rs .has c m)
+
+  -- and so is whether it is an ancestor, but for Object
+  pub row-ancestor : (y : ℕ) → ancestor v c y ≡ (eqb c y || (eqb y (v .object) || member (row rows c) y))
+  unfolding ancestor
+  row-ancestor y = ap (λ (b : Bool). eqb c y || (eqb y (v .object) || b)) (sym (row-reach y))
+
+  -- whether all above it is recorded is asked of its members
+  pub row-complete : complete v c ≡ allRecorded v (members (at (row rows c)) 0 1024)
+  unfolding complete
+  row-complete = ap (λ (w : List ℕ). allRecorded v (members (at w) 0 1024)) (sym (rs .has c m))
+
+  -- HOW IT STANDS TO ANOTHER CLASS, by its row alone
+  pub row-relation : (y : ℕ)
+      → relation v c y ≡ cond (eqb c y || (eqb y (v .object) || member (row rows c) y)) Yes (cond (allRecorded v (members (at (row rows c)) 0 1024)) No Unknown)
+  unfolding relation
+  row-relation y = ap₂ (λ (a b : Bool). cond a Yes (cond b No Unknown)) (row-ancestor y) row-complete

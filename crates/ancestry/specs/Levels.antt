@@ -10,7 +10,7 @@ use native.Mathlib.Numerals.{add-one}
 use native.Mathlib.Omega.{arith}
 use lib.Dec.{eqb}
 use lib.ListN.{length, replicate, getD, set, length-set, length-replicate, getD-replicate}
-use lib.Seq.{getD-set-same, getD-set-other}
+use lib.Seq.{getD-set-same, getD-set-other, ext-getD}
 use Rattle.sets.specs.Sets.{at, member, insert, remove, subtract, members, first}
 use Rattle.sets.specs.Bits.{first-le}
 use Rattle.sets.specs.Laws.{length-subtract, members-only, members-all, lowest-member, lowest-none}
@@ -29,6 +29,11 @@ written out k (c ∷ cs) = written (set out c k) k cs
 pub record Distances (v : View) (x : ℕ) (out : List ℕ) : Type 0 where
   pub size : length out ≡ 1024
   pub is : (c : ℕ) → c < 1024 → getD out c 0 ≡ distanceOr (distance v x c)
+
+-- there is one such list
+pub distances-unique : (v : View) (x : ℕ) (a b : List ℕ) → Distances v x a → Distances v x b → a ≡ b
+distances-unique v x a b p q =
+    ext-getD 0 a b (p .size ∙ sym (q .size)) (λ c h. let n = p .size in p .is c (omega arith) ∙ sym (q .is c (omega arith)))
 
 -- on the way: the front is the level that is to be written next
 pub record Leveling (v : View) (x : ℕ) (seen front out : List ℕ) (k : ℕ) : Type 0 where

@@ -45,7 +45,7 @@ pub row-length : (rows : List ℕ) (c : ℕ) → length rows ≡ rowsRoom → c 
 unfolding mark
 row-length rows c l h = simp (length-take, length-drop) (omega arith)
 
-row-word : (rows : List ℕ) (c j : ℕ) → j < 16 → getD (row rows c) j 0 ≡ getD rows (16 * c + j) 0
+pub row-word : (rows : List ℕ) (c j : ℕ) → j < 16 → getD (row rows c) j 0 ≡ getD rows (16 * c + j) 0
 unfolding mark
 row-word rows c j h = getD-take 16 (drop (16 * c) rows) j 0 h ∙ getD-drop (16 * c) rows j 0
 

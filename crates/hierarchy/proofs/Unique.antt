@@ -3,6 +3,10 @@ use mathlib.Core.Path.{_≡_, sym, _∙_}
 use borrow.Fn.Kinds.{Dens, resT, endedOf}
 use denote.Triple.Clauses.{AtExit}
 use contract.Lifetimes.{Lfts}
+use Rattle.hierarchy.proofs.with_parents.Reads as with-parents-reads
+use Rattle.hierarchy.proofs.with_parents.Kinds as with-parents-kinds
+use Rattle.hierarchy.proofs.expand.Reads as expand-reads
+use Rattle.hierarchy.proofs.expand.Kinds as expand-kinds
 use Rattle.hierarchy.proofs.reached.Reads as reached-reads
 use Rattle.hierarchy.proofs.reached.Kinds as reached-kinds
 use Rattle.hierarchy.proofs.ancestors.Reads as ancestors-reads
@@ -17,6 +21,14 @@ use Rattle.hierarchy.proofs.reaches.Reads as reaches-reads
 use Rattle.hierarchy.proofs.reaches.Kinds as reaches-kinds
 use Rattle.hierarchy.proofs.distance_or_far.Reads as distance-or-far-reads
 use Rattle.hierarchy.proofs.distance_or_far.Kinds as distance-or-far-kinds
+
+pub with-parents-one : (κs : Lfts 2) (a : Dens κs with-parents-kinds.ps) (r₁ r₂ : resT with-parents-kinds.r κs .Denot) (x₁ x₂ : AtExit (endedOf 2 with-parents-kinds.ps with-parents-kinds.r) κs)
+    → with-parents-reads.Post κs a r₁ x₁ → with-parents-reads.Post κs a r₂ x₂ → r₁ ≡ r₂
+with-parents-one κs a r₁ r₂ x₁ x₂ p q = λ i. record { words = (p ∙ sym q) i }
+
+pub expand-one : (κs : Lfts 2) (a : Dens κs expand-kinds.ps) (r₁ r₂ : resT expand-kinds.r κs .Denot) (x₁ x₂ : AtExit (endedOf 2 expand-kinds.ps expand-kinds.r) κs)
+    → expand-reads.Post κs a r₁ x₁ → expand-reads.Post κs a r₂ x₂ → r₁ ≡ r₂
+expand-one κs a r₁ r₂ x₁ x₂ p q = λ i. record { words = (p ∙ sym q) i }
 
 pub reached-one : (κs : Lfts 2) (a : Dens κs reached-kinds.ps) (r₁ r₂ : resT reached-kinds.r κs .Denot) (x₁ x₂ : AtExit (endedOf 2 reached-kinds.ps reached-kinds.r) κs)
     → reached-reads.Post κs a r₁ x₁ → reached-reads.Post κs a r₂ x₂ → r₁ ≡ r₂

@@ -1,18 +1,20 @@
 -- What is left of a set without the classes that reach a class, by rows, as the loops meet it. Over any view.
 use mathlib.Core.Path.{_≡_, refl, sym, ap, _∙_, subst}
-use mathlib.Core.Bool.{Bool, true, false, cond, and-eq-true-iff}
+use mathlib.Core.Bool.{Bool, true, false, cond, true≢false, and-eq-true-iff}
 use mathlib.Core.List.{List, [], _∷_, List·Memᴰ, List·Memᴰ·head, List·Memᴰ·tail}
+use mathlib.Core.Logic.{⊎-elim}
 use Prim.Native.Nat.{ℕ, _≤_, _<_}
+use native.Mathlib.Nat.{eq-or-lt-of-le}
 use native.Mathlib.Decide.{decLt}
 use native.Mathlib.Omega.{arith}
 use lib.ListN.{length}
 use Rattle.sets.specs.Sets.{at, member, remove, intersect, members, first}
 use Rattle.sets.specs.Bits.{first-le}
-use Rattle.sets.specs.Laws.{member-intersect, members-only, lowest-member}
+use Rattle.sets.specs.Laws.{member-intersect, members-only, lowest-member, lowest-none}
 use Rattle.view.specs.View.{View, reached, reach}
 use Rattle.view.specs.Reach.{Good, reach-refl, reach-below, reach-trans}
 use Rattle.view.specs.Frontier.{members-pop, members-none}
-use Rattle.view.specs.Lows.{strip, Lowing}
+use Rattle.view.specs.Lows.{strip, Lowing, remove-only}
 use Rattle.ancestry.specs.Rows.{row}
 use Rattle.ancestry.specs.Spread.{Spread}
 use Rattle.ancestry.specs.Closure.{Rows}
@@ -75,3 +77,19 @@ module _ (v : View) (g : Good v) (all above : List ℕ) (inside : (c : ℕ) → 
 
   pub above-rows : (rows : List ℕ) → Rows v above rows → (c : ℕ) → member all c ≡ true → row rows c ≡ reached v c
   above-rows rows q c m = q .has c (sp .has c c m (reach-refl v g c (inside c m)))
+
+-- ---- the least of a set with more than one class is a class
+
+pub least-lt : (s rest : List ℕ) (b c : ℕ) → length s ≡ 16 → b ≡ first (at s) 1024 → rest ≡ remove s b → c ≡ first (at rest) 1024 → (c ≡ 1024 → ⊥) → b < 1024
+least-lt s rest b c l e q f n = go (decLt b 1024)
+  where
+    go : Dec (b < 1024) → b < 1024
+    go (yes h) = h
+    go (no h) =
+        let u = first-le (at rest) 1024 in
+        let w = first-le (at s) 1024 in
+        let k = subst (λ (x : ℕ). member rest x ≡ true) (sym f) (lowest-member rest 1024 (let z : (first (at rest) 1024 ≡ 1024 → ⊥) = λ z. n (f ∙ z) in lower z)) in
+        absurd (true≢false (sym (remove-only s b c (subst (λ (x : List ℕ). member x c ≡ true) q k) .1) ∙ lowest-none s l (let z : first (at s) 1024 ≡ 1024 = omega arith in z) c))
+      where
+        lower : (first (at rest) 1024 ≡ 1024 → ⊥) → first (at rest) 1024 < 1024
+        lower z = ⊎-elim (λ e. absurd (z e)) (λ h. h) (eq-or-lt-of-le (first-le (at rest) 1024))

@@ -1,5 +1,6 @@
 // The least common supertype, from hierarchy.rs, over the class tables as `hierarchy` reads them.
 use ancestry::ROWS;
+use ancestry::distances;
 use ancestry::fill;
 use ancestry::is_in;
 use ancestry::row_of;
@@ -22,10 +23,14 @@ ghost use Rattle.view.specs.Lows.{strip, Lows, LowestOf};
 ghost use Rattle.view.specs.Pick.{before, NearestOf};
 ghost use Rattle.tables.specs.Table.{namesRoom, viewOf};
 ghost use Rattle.ancestry.specs.Rows.{rowsRoom, row};
+ghost use Rattle.ancestry.specs.Levels.{Distances};
 ghost use Rattle.supertype.specs.Sources.{Upward};
 ghost use Rattle.supertype.specs.Stripped.{stripRows};
 
-// How many classes are walked from, each by itself, before rows are made for them.
+// usize::MAX / 4, the distance of an Object that is not reached.
+const FAR: u64 = 4611686018427387903;
+
+// How many classes are walked from, or to, each by itself; of more of them all is prepared at once.
 const FEW: u64 = 8;
 
 // The set, without c where `taken`.
@@ -231,8 +236,8 @@ fn first_of(a: Candidate, b: Candidate) -> Candidate
     b
 }
 
-// The nearest of a set. Of one class no distance is asked.
-fn nearest_of(pairs: &[u64], marks: &[u64], t: Tables, left: u64, right: u64, s: Set) -> u64
+// The nearest of a set, each class walked to. Of one class no distance is asked.
+fn nearest_of_few(pairs: &[u64], marks: &[u64], t: Tables, left: u64, right: u64, s: Set) -> u64
     requires { ⌜ (t .names ≤ namesRoom) × (length (s .words) ≡ 16) ⌝ }
     ensures { λ r. ⌜ NearestOf (viewOf (now (pairs .entry)) (now (marks .entry)) t) left right (s .words) r ⌝ }
 {
@@ -249,6 +254,85 @@ fn nearest_of(pairs: &[u64], marks: &[u64], t: Tables, left: u64, right: u64, s:
         c = rest.lowest();
     }
     best.class
+}
+
+// A class with its distances, as two walks wrote them.
+fn noted(
+    pairs: &[u64],
+    marks: &[u64],
+    t: Tables,
+    left: u64,
+    right: u64,
+    from_left: &[u64],
+    from_right: &[u64],
+    c: u64,
+) -> Candidate
+    requires { ⌜ (t .names ≤ namesRoom) × (t .object < t .names) × (left < t .names) × (right < t .names) × (c < namesRoom) × Distances (viewOf (now pairs) (now marks) t) left (now «from_left») × Distances (viewOf (now pairs) (now marks) t) right (now «from_right») ⌝ }
+    ensures { λ r. ⌜ (r .class ≡ c) × (r .greater ≡ greater (viewOf (now (pairs .entry)) (now (marks .entry)) t) left right c) × (r .sum ≡ sum (viewOf (now (pairs .entry)) (now (marks .entry)) t) left right c) ⌝ }
+{
+    let i = c as usize;
+    let l = from_left[i];
+    let r = from_right[i];
+    Candidate {
+        class: c,
+        greater: larger(l, r),
+        sum: l + r,
+    }
+}
+
+// The nearest of a set, with the distances at hand.
+fn nearest_noted(
+    pairs: &[u64],
+    marks: &[u64],
+    t: Tables,
+    left: u64,
+    right: u64,
+    from_left: &[u64],
+    from_right: &[u64],
+    s: Set,
+) -> u64
+    requires { ⌜ (t .names ≤ namesRoom) × (t .object < t .names) × (left < t .names) × (right < t .names) × (length (s .words) ≡ 16) × Distances (viewOf (now pairs) (now marks) t) left (now «from_left») × Distances (viewOf (now pairs) (now marks) t) right (now «from_right») ⌝ }
+    ensures { λ r. ⌜ NearestOf (viewOf (now (pairs .entry)) (now (marks .entry)) t) left right (s .words) r ⌝ }
+{
+    let least = s.lowest();
+    let mut rest = s.without(least);
+    let mut c = rest.lowest();
+    if c == 1024 {
+        return least;
+    }
+    let mut best = noted(pairs, marks, t, left, right, from_left, from_right, least);
+    while c < 1024 {
+        best = first_of(
+            noted(pairs, marks, t, left, right, from_left, from_right, c),
+            best,
+        );
+        rest = rest.without(c);
+        c = rest.lowest();
+    }
+    best.class
+}
+
+// The nearest of a set, by one walk from each side.
+fn nearest_of_many(pairs: &[u64], marks: &[u64], t: Tables, left: u64, right: u64, s: Set) -> u64
+    requires { ⌜ (t .names ≤ namesRoom) × (t .object < t .names) × (left < t .names) × (right < t .names) × (length (s .words) ≡ 16) ⌝ }
+    ensures { λ r. ⌜ NearestOf (viewOf (now (pairs .entry)) (now (marks .entry)) t) left right (s .words) r ⌝ }
+{
+    let mut from_left = [FAR; 1024];
+    let mut from_right = [FAR; 1024];
+    distances(pairs, marks, t, left, &mut from_left);
+    distances(pairs, marks, t, right, &mut from_right);
+    nearest_noted(pairs, marks, t, left, right, &from_left, &from_right, s)
+}
+
+// The nearest of a set.
+fn nearest_of(pairs: &[u64], marks: &[u64], t: Tables, left: u64, right: u64, s: Set) -> u64
+    requires { ⌜ (t .names ≤ namesRoom) × (t .object < t .names) × (left < t .names) × (right < t .names) × (length (s .words) ≡ 16) ⌝ }
+    ensures { λ r. ⌜ NearestOf (viewOf (now (pairs .entry)) (now (marks .entry)) t) left right (s .words) r ⌝ }
+{
+    if s.count() < FEW {
+        return nearest_of_few(pairs, marks, t, left, right, s);
+    }
+    nearest_of_many(pairs, marks, t, left, right, s)
 }
 
 // The least common supertype: least_common_supertype. All ones for none.

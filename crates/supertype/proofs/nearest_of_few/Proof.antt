@@ -1,4 +1,4 @@
--- `nearest_of` meets its contract: `best` is the nearest but for the rest, and c is the least of the rest.
+-- `nearest_of_few` meets its contract: `best` is the nearest but for the rest, and c is the least of the rest.
 use borrow.Author.Needs.{needs}
 use native.Mathlib.Omega.{arith}
 use mathlib.Core.Path.{_≡_, sym, ap, _∙_, subst}
@@ -11,8 +11,8 @@ use Rattle.tables.specs.Table.{viewOf}
 use Rattle.view.specs.Pick.{Nearing, nearing-start, nearing-next, nearing-end}
 use Rattle.supertype.proofs.Candidates.{Measured, measured-of, first-nearer, first-measured}
 use Rattle.view.specs.Frontier.{left-less}
-use Rattle.supertype.proofs.nearest_of.Statement.{statement}
-use Rattle.supertype.proofs.nearest_of.Tie as tie
+use Rattle.supertype.proofs.nearest_of_few.Statement.{statement}
+use Rattle.supertype.proofs.nearest_of_few.Tie as tie
 
 abbrev Inv-loop : tie.InvT-loop
 Inv-loop pairs marks t left right least rest₀ c₀ best₀ rest c best =
@@ -95,8 +95,8 @@ returns-2 c =
     nearing-end (viewOf (a .pairs .now) (a .marks .now) (a .t)) (a .left) (a .right) (c .before .before .before .before .before .before .lowest .result) (c .before .before .before .before .before .without .result .words) (l .best .class) (l .rest .words) (l .inv .1) (a .s .words) (c .before .before .before .before .before .before .before .before .before .pre .1) (c .before .before .before .before .before .before .lowest .ensures)
     (c .before .before .before .before .before .without .ensures) (let q : first (at (l .rest .words)) 1024 ≡ 1024 = omega arith in q)
 
-pub nearest-of-spec : {M : Type 1} → statement M
-nearest-of-spec =
+pub nearest-of-few-spec : {M : Type 1} → statement M
+nearest-of-few-spec =
     tie.close
     (tie.spec
     Inv-loop
