@@ -1,5 +1,5 @@
 -- THE RUNS ARE THE PROBLEM OF THE COLUMNS: kind by kind the same refusal, and the entries hold what the rows have made. Assumes nothing.
-use mathlib.Core.Path.{_≡_, refl, sym, ap, ap₂, _∙_, subst}
+use mathlib.Core.Path.{_≡_, refl, sym, ap, _∙_, subst}
 use mathlib.Core.Bool.{Bool, true, false, cond}
 use mathlib.Core.List.{List, [], _∷_, _++_, map, append-assoc, append-nil}
 use Prim.Native.Nat.{ℕ, _-_, _^_, _≤_, _<_}

@@ -103,6 +103,13 @@ module _ (components : ℕ) (vs : List ℕ) (k : ℕ) (e : k ≡ countRefusal co
   unfolding headRefusal
   head-variables z m f = f ∙ rw (← e, z)
 
+-- what is told of a row, and how many entries there are then
+pub adds-told : {s : Ran} {a a′ : List ℕ} {r : Added} → Adds s a a′ r → r .refusal ≡ s .refusal
+adds-told h = ap (λ (x : Added). x .refusal) (h .added-is)
+
+pub adds-many : {s : Ran} {a a′ : List ℕ} {r : Added} → Adds s a a′ r → r .count ≡ length (s .entries)
+adds-many h = ap (λ (x : Added). x .count) (h .added-is)
+
 -- ---- bounds
 
 module _ (names components : ℕ) (cs ks ws : List ℕ) (i : ℕ) (l : List ℕ) where
@@ -110,14 +117,16 @@ module _ (names components : ℕ) (cs ks ws : List ℕ) (i : ℕ) (l : List ℕ)
   unfolding boundRun
   bounds-end h = rw (drop-of-length-le cs {i = i} h)
 
-  module _ (h : i < length cs) (j : i < length ks) (m : i < length ws) (s : Ran) (e : s ≡ boundRow names components (getD cs i 0) (getD ks i 0) (getD ws i 0) l) where
-    pub bounds-stop : (s .refusal ≡ 0 → ⊥) → boundRun names components (drop i cs) (drop i ks) (drop i ws) l ≡ s
+  module _ (h : i < length cs) (j : i < length ks) (m : i < length ws) (a a′ : List ℕ) (r : Added) (d : Adds (boundRow names components (getD cs i 0) (getD ks i 0) (getD ws i 0) l) a a′ r) where
+    pub bounds-stop : (r .refusal ≡ 0 → ⊥) → boundRun names components (drop i cs) (drop i ks) (drop i ws) l ≡ boundRow names components (getD cs i 0) (getD ks i 0) (getD ws i 0) l
     unfolding boundRun
-    bounds-stop z = rw (drop-cons cs i 0 h, drop-cons ks i 0 j, drop-cons ws i 0 m, ← e, ne-eqb (s .refusal) 0 z)
+    bounds-stop z = rw (drop-cons cs i 0 h, drop-cons ks i 0 j, drop-cons ws i 0 m, ne-eqb (boundRow names components (getD cs i 0) (getD ks i 0) (getD ws i 0) l .refusal) 0 (λ y. z (adds-told d ∙ y)))
 
-    pub bounds-step : s .refusal ≡ 0 → boundRun names components (drop i cs) (drop i ks) (drop i ws) l ≡ boundRun names components (drop (i + 1) cs) (drop (i + 1) ks) (drop (i + 1) ws) (s .entries)
+    pub bounds-step : r .refusal ≡ 0
+        → boundRun names components (drop i cs) (drop i ks) (drop i ws) l
+        ≡ boundRun names components (drop (i + 1) cs) (drop (i + 1) ks) (drop (i + 1) ws) (boundRow names components (getD cs i 0) (getD ks i 0) (getD ws i 0) l .entries)
     unfolding boundRun
-    bounds-step z = rw (add-one i, drop-cons cs i 0 h, drop-cons ks i 0 j, drop-cons ws i 0 m, ← e, z)
+    bounds-step z = rw (add-one i, drop-cons cs i 0 h, drop-cons ks i 0 j, drop-cons ws i 0 m, sym (adds-told d) ∙ z)
 
 -- ---- pairs
 
@@ -126,14 +135,14 @@ module _ (components room : ℕ) (xs ys : List ℕ) (i : ℕ) (l : List ℕ) whe
   unfolding pairRun
   pairs-end h = rw (drop-of-length-le xs {i = i} h)
 
-  module _ (h : i < length xs) (j : i < length ys) (s : Ran) (e : s ≡ pairRow components room (getD xs i 0) (getD ys i 0) l) where
-    pub pairs-stop : (s .refusal ≡ 0 → ⊥) → pairRun components room (drop i xs) (drop i ys) l ≡ s
+  module _ (h : i < length xs) (j : i < length ys) (a a′ : List ℕ) (r : Added) (d : Adds (pairRow components room (getD xs i 0) (getD ys i 0) l) a a′ r) where
+    pub pairs-stop : (r .refusal ≡ 0 → ⊥) → pairRun components room (drop i xs) (drop i ys) l ≡ pairRow components room (getD xs i 0) (getD ys i 0) l
     unfolding pairRun
-    pairs-stop z = rw (drop-cons xs i 0 h, drop-cons ys i 0 j, ← e, ne-eqb (s .refusal) 0 z)
+    pairs-stop z = rw (drop-cons xs i 0 h, drop-cons ys i 0 j, ne-eqb (pairRow components room (getD xs i 0) (getD ys i 0) l .refusal) 0 (λ y. z (adds-told d ∙ y)))
 
-    pub pairs-step : s .refusal ≡ 0 → pairRun components room (drop i xs) (drop i ys) l ≡ pairRun components room (drop (i + 1) xs) (drop (i + 1) ys) (s .entries)
+    pub pairs-step : r .refusal ≡ 0 → pairRun components room (drop i xs) (drop i ys) l ≡ pairRun components room (drop (i + 1) xs) (drop (i + 1) ys) (pairRow components room (getD xs i 0) (getD ys i 0) l .entries)
     unfolding pairRun
-    pairs-step z = rw (add-one i, drop-cons xs i 0 h, drop-cons ys i 0 j, ← e, z)
+    pairs-step z = rw (add-one i, drop-cons xs i 0 h, drop-cons ys i 0 j, sym (adds-told d) ∙ z)
 
 -- ---- what a row leaves of sorted entries
 
@@ -223,13 +232,6 @@ module _ (room n : ℕ) (a₀ a a′ : List ℕ) (s : Ran) (r : Added) (h : n �
     ordered = subst Sorted (sym (adds-entries d)) (st .ordered);
     front = whole ∙ ap (λ (x : List ℕ). filled x a₀) (sym (adds-entries d));
   }
-
--- what is told of it
-pub adds-told : {s : Ran} {a a′ : List ℕ} {r : Added} → Adds s a a′ r → r .refusal ≡ s .refusal
-adds-told h = ap (λ (x : Added). x .refusal) (h .added-is)
-
-pub adds-many : {s : Ran} {a a′ : List ℕ} {r : Added} → Adds s a a′ r → r .count ≡ length (s .entries)
-adds-many h = ap (λ (x : Added). x .count) (h .added-is)
 
 -- the run's end
 pub adds-end : (n : ℕ) (a₀ a : List ℕ) → n ≤ length a → a ≡ filled (take n a) a₀ → Adds (taken (take n a)) a₀ a (added 0 n)

@@ -1,6 +1,6 @@
 -- A ROW ON KEPT SLICES IS THE PROBLEM'S ROW: the same refusal, the entries that it leaves hold the problem after it, and they are kept again.
 -- One law a kind of row. Assumes nothing.
-use mathlib.Core.Path.{_≡_, refl, sym, ap, ap₂, _∙_, subst}
+use mathlib.Core.Path.{_≡_, refl, sym, ap, _∙_, subst}
 use mathlib.Core.Bool.{Bool, true, false, cond, not, _&&_}
 use mathlib.Core.List.{List, [], _∷_, _++_, map}
 use Prim.Native.Nat.{ℕ, _+_, _-_, _*_, _^_, _≤_, _<_}

@@ -11,7 +11,7 @@ use Rattle.rows.specs.Rows.{filled}
 use Rattle.problemrows.specs.ProblemRows.{boundRow}
 use Rattle.problemrows.specs.Laws.{adds-by}
 use Rattle.problemcolumns.specs.Runs.{boundRun}
-use Rattle.problemcolumns.specs.Steps.{bounds-end, bounds-stop, bounds-step, bound-stays, adds-last, adds-told, turned, adds-end}
+use Rattle.problemcolumns.specs.Steps.{bounds-end, bounds-stop, bounds-step, bound-stays, adds-last, turned, adds-end}
 use Rattle.problemcolumns.proofs.add_bounds.Statement.{statement}
 use Rattle.problemcolumns.proofs.add_bounds.Tie as tie
 
@@ -74,8 +74,7 @@ returns c =
     let e = take (l .n) (l .bounds) in
     let one = boundRow (a .names) (a .components) (getD (a .bnd-comp .now) i 0) (getD (a .bnd-kind .now) i 0) (getD (a .bnd-type .now) i 0) e in
     let stays = bound-stays (a .names) (a .components) (getD (a .bnd-comp .now) i 0) (getD (a .bnd-kind .now) i 0) (getD (a .bnd-type .now) i 0) e (l .inv .6) (let t = length-take-le (l .n) (l .bounds) (omega (arith, l .inv .3, l .inv .4)) in omega (arith, t, l .inv .3)) in
-    let told = adds-told (row .ensures) in
-    adds-by (l .inv .8 ∙ bounds-stop (a .names) (a .components) (a .bnd-comp .now) (a .bnd-kind .now) (a .bnd-type .now) i e h (omega (arith, h, l .inv .1)) (omega (arith, h, l .inv .2)) one refl (λ y. c .if1 .taken (told ∙ y)))
+    adds-by (l .inv .8 ∙ bounds-stop (a .names) (a .components) (a .bnd-comp .now) (a .bnd-kind .now) (a .bnd-type .now) i e h (omega (arith, h, l .inv .1)) (omega (arith, h, l .inv .2)) _ _ (row .result) (row .ensures) (c .if1 .taken))
     (adds-last 4096 (l .n) (a .bounds .now) (l .bounds) _ one (row .result) (l .inv .3) (l .inv .4) (l .inv .5) (l .inv .7) stays (row .ensures))
 
 add-i : tie.Need-add-i Inv-loop μ-loop
@@ -95,7 +94,6 @@ loop-again c =
     let e = take (l .n) (l .bounds) in
     let one = boundRow (a .names) (a .components) (getD (a .bnd-comp .now) i 0) (getD (a .bnd-kind .now) i 0) (getD (a .bnd-type .now) i 0) e in
     let stays = bound-stays (a .names) (a .components) (getD (a .bnd-comp .now) i 0) (getD (a .bnd-kind .now) i 0) (getD (a .bnd-type .now) i 0) e (l .inv .6) (let t = length-take-le (l .n) (l .bounds) (omega (arith, l .inv .3, l .inv .4)) in omega (arith, t, l .inv .3)) in
-    let told = adds-told (row .ensures) in
     let turn = turned 4096 (l .n) (a .bounds .now) (l .bounds) _ one (row .result) (l .inv .3) (l .inv .4) (l .inv .5) (l .inv .7) stays (row .ensures) in (
       omega (arith, h),
       l .inv .1,
@@ -105,7 +103,7 @@ loop-again c =
       turn .as-long,
       turn .ordered,
       turn .front,
-      l .inv .8 ∙ bounds-step (a .names) (a .components) (a .bnd-comp .now) (a .bnd-kind .now) (a .bnd-type .now) i e h (omega (arith, h, l .inv .1)) (omega (arith, h, l .inv .2)) one refl (sym told ∙ c .if1 .left)
+      l .inv .8 ∙ bounds-step (a .names) (a .components) (a .bnd-comp .now) (a .bnd-kind .now) (a .bnd-type .now) i e h (omega (arith, h, l .inv .1)) (omega (arith, h, l .inv .2)) _ _ (row .result) (row .ensures) (c .if1 .left)
           ∙ ap (boundRun (a .names) (a .components) (drop (i + 1) (a .bnd-comp .now)) (drop (i + 1) (a .bnd-kind .now)) (drop (i + 1) (a .bnd-type .now))) (sym (turn .entries)),
     )
 

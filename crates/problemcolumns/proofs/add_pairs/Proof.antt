@@ -11,7 +11,7 @@ use Rattle.rows.specs.Rows.{filled}
 use Rattle.problemrows.specs.ProblemRows.{pairRow}
 use Rattle.problemrows.specs.Laws.{adds-by}
 use Rattle.problemcolumns.specs.Runs.{pairRun}
-use Rattle.problemcolumns.specs.Steps.{pairs-end, pairs-stop, pairs-step, pair-stays, adds-last, adds-told, turned, adds-end}
+use Rattle.problemcolumns.specs.Steps.{pairs-end, pairs-stop, pairs-step, pair-stays, adds-last, turned, adds-end}
 use Rattle.problemcolumns.proofs.add_pairs.Statement.{statement}
 use Rattle.problemcolumns.proofs.add_pairs.Tie as tie
 
@@ -68,8 +68,7 @@ returns c =
     let e = take (l .n) (l .pairs) in
     let one = pairRow (a .components) (a .room) (getD (a .firsts .now) i 0) (getD (a .seconds .now) i 0) e in
     let stays = pair-stays (a .room) e (l .inv .5) (let t = length-take-le (l .n) (l .pairs) (omega (arith, l .inv .2, l .inv .3)) in omega (arith, t, l .inv .2)) (a .components) (getD (a .firsts .now) i 0) (getD (a .seconds .now) i 0) in
-    let told = adds-told (row .ensures) in
-    adds-by (l .inv .7 ∙ pairs-stop (a .components) (a .room) (a .firsts .now) (a .seconds .now) i e h (omega (arith, h, l .inv .1)) one refl (λ y. c .if1 .taken (told ∙ y)))
+    adds-by (l .inv .7 ∙ pairs-stop (a .components) (a .room) (a .firsts .now) (a .seconds .now) i e h (omega (arith, h, l .inv .1)) _ _ (row .result) (row .ensures) (c .if1 .taken))
     (adds-last (a .room) (l .n) (a .pairs .now) (l .pairs) _ one (row .result) (l .inv .2) (l .inv .3) (l .inv .4) (l .inv .6) stays (row .ensures))
 
 add-i : tie.Need-add-i Inv-loop μ-loop
@@ -89,7 +88,6 @@ loop-again c =
     let e = take (l .n) (l .pairs) in
     let one = pairRow (a .components) (a .room) (getD (a .firsts .now) i 0) (getD (a .seconds .now) i 0) e in
     let stays = pair-stays (a .room) e (l .inv .5) (let t = length-take-le (l .n) (l .pairs) (omega (arith, l .inv .2, l .inv .3)) in omega (arith, t, l .inv .2)) (a .components) (getD (a .firsts .now) i 0) (getD (a .seconds .now) i 0) in
-    let told = adds-told (row .ensures) in
     let turn = turned (a .room) (l .n) (a .pairs .now) (l .pairs) _ one (row .result) (l .inv .2) (l .inv .3) (l .inv .4) (l .inv .6) stays (row .ensures) in (
       omega (arith, h),
       l .inv .1,
@@ -98,7 +96,7 @@ loop-again c =
       turn .as-long,
       turn .ordered,
       turn .front,
-      l .inv .7 ∙ pairs-step (a .components) (a .room) (a .firsts .now) (a .seconds .now) i e h (omega (arith, h, l .inv .1)) one refl (sym told ∙ c .if1 .left)
+      l .inv .7 ∙ pairs-step (a .components) (a .room) (a .firsts .now) (a .seconds .now) i e h (omega (arith, h, l .inv .1)) _ _ (row .result) (row .ensures) (c .if1 .left)
           ∙ ap (pairRun (a .components) (a .room) (drop (i + 1) (a .firsts .now)) (drop (i + 1) (a .seconds .now))) (sym (turn .entries)),
     )
 

@@ -52,7 +52,9 @@ returns-2 c =
     let passed = head-passed (a .names) (columns s) (sym (c .before .before .before .before .before .before .before .before .before .before .before .before .before .before .before .before .before .check-head .ensures) ∙ c .before .before .before .before .before .before .before .before .before .before .before .before .before .before .before .before .if1 .left) in
     let entries = c .before .before .before .before .before .before .before .before .before .before .build-entries in
     entered-taken (a .names) (columns s) (s .pre .0) (words-fit (a .bnd-type .now) (λ i. omega (arith, c .before .before .before .before .before .before .before .before .before .before .before .before .before .before .before .before .before .before .before .before .before .before .before .before .before .before .before .before .before .before .before .shared-slice-known4 .given i .fits))) (passed .0) (passed .1)
-    (a .bounds .now) _ (a .flows .now) _ (a .uppers .now) _ (a .reads .now) _ (a .writes .now) _ (entries .result) (entries .ensures)
+    (a .bounds .now) (entries .last .1 .1 .1 .1 .1 .1 .1 .1 .1 .1 .1 .1 .1 .1 .0) (a .flows .now) (entries .last .1 .1 .1 .1 .1 .1 .1 .1 .1 .1 .1 .1 .1 .1 .1 .0)
+    (a .uppers .now) (entries .last .1 .1 .1 .1 .1 .1 .1 .1 .1 .1 .1 .1 .1 .1 .1 .1 .0) (a .reads .now) (entries .last .1 .1 .1 .1 .1 .1 .1 .1 .1 .1 .1 .1 .1 .1 .1 .1 .1 .0)
+    (a .writes .now) (entries .last .1 .1 .1 .1 .1 .1 .1 .1 .1 .1 .1 .1 .1 .1 .1 .1 .1 .1 .0) (entries .result) (entries .ensures)
 
 pub build-problem-spec : {M : Type 1} → statement M
 build-problem-spec =
