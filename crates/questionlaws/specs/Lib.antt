@@ -3,3 +3,5 @@ pub mod Accepted
 pub mod Loops
 pub mod Refusals
 pub mod Examples
+pub mod FirstRow
+pub mod Checked

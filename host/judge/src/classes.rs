@@ -52,31 +52,53 @@ impl Classes {
 
     /// The names, if all rows are sound; else the first refusal in row order.
     pub fn names(&self) -> Result<Vec<String>, u64> {
+        self.checked().map_err(|[number, ..]| number)
+    }
+
+    /// The names; else the refusal, the part it is about (0 columns, 1 names, 2 records) and the row.
+    fn checked(&self) -> Result<Vec<String>, [u64; 3]> {
         let records = self.flags.len();
         let equal = self.class.len() == records && self.at.len() == records;
         if self.names.at.len() != self.names.len.len() || !equal || self.len.len() != records {
-            return Err(3);
+            return Err([3, 0, 0]);
         }
-        let names = self.names.names()?;
+        let of_names = |(number, row): (u64, usize)| [number, 1, row as u64];
+        let names = self.names.checked().map_err(of_names)?;
         let mut pairs = BTreeSet::new();
         for row in 0..records {
-            let parents = self.parents_of(row).ok_or(3_u64)?;
-            if self.len[row] > MAX_PARENTS {
-                return Err(3);
-            }
-            let is_class = |number: &u64| *number < names.len() as u64;
-            if !is_flags(self.flags[row]) || !is_class(&self.class[row]) {
-                return Err(6);
-            }
-            if !parents.iter().all(is_class) {
-                return Err(6);
-            }
-            pairs.extend(parents.iter().map(|parent| (self.class[row], *parent)));
-            if pairs.len() > MAX_PAIRS {
-                return Err(8);
-            }
+            let record = self.record(row, names.len() as u64, &mut pairs);
+            record.map_err(|number| [number, 2, row as u64])?;
         }
         Ok(names)
+    }
+
+    /// One record over that many names, after the pairs of those before it.
+    fn record(&self, row: usize, names: u64, pairs: &mut BTreeSet<(u64, u64)>) -> Result<(), u64> {
+        let parents = self.parents_of(row).ok_or(3_u64)?;
+        if self.len[row] > MAX_PARENTS {
+            return Err(3);
+        }
+        let is_class = |number: &u64| *number < names;
+        if !is_flags(self.flags[row]) || !is_class(&self.class[row]) {
+            return Err(6);
+        }
+        if !parents.iter().all(is_class) {
+            return Err(6);
+        }
+        pairs.extend(parents.iter().map(|parent| (self.class[row], *parent)));
+        match pairs.len() > MAX_PAIRS {
+            true => Err(8),
+            false => Ok(()),
+        }
+    }
+
+    /// What the check of the table says: refusal, part and row; 9 and part 3 where no name is java/lang/Object.
+    pub fn check(&self) -> [u64; 3] {
+        match self.checked() {
+            Ok(names) if names.iter().any(|name| name == OBJECT) => [0, 0, 0],
+            Ok(_) => [9, 3, 0],
+            Err(fault) => fault,
+        }
     }
 
     /// What a query about these numbers is refused with a working slice of that many words: 22, the table, 6, 9.

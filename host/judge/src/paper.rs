@@ -243,22 +243,27 @@ impl Table {
         if self.at.len() != self.len.len() {
             return Err(3);
         }
+        self.checked().map_err(|(number, _)| number)
+    }
+
+    /// Of columns of equal length: the names, or the first refusal and its row.
+    pub fn checked(&self) -> Result<Vec<String>, (u64, usize)> {
         let mut names: Vec<String> = Vec::new();
         let mut bytes = 0;
         for row in 0..self.at.len() {
-            let name = self.name(row).ok_or(3_u64)?;
+            let name = self.name(row).ok_or((3, row))?;
             bytes += name.len() as u64;
             if !(1..=MAX_NAME).contains(&self.len[row]) {
-                return Err(3);
+                return Err((3, row));
             }
             if valid_up_to(name) < name.len() {
-                return Err(10);
+                return Err((10, row));
             }
             if names.last().is_some_and(|last| last.as_bytes() >= name) {
-                return Err(5);
+                return Err((5, row));
             }
             if row >= MAX_NAMES || bytes > MAX_NAME_BYTES {
-                return Err(8);
+                return Err((8, row));
             }
             names.push(String::from_utf8(name.to_vec()).expect("well-formed"));
         }
