@@ -5,3 +5,4 @@ pub mod Refusals
 pub mod Examples
 pub mod FirstRow
 pub mod Checked
+pub mod CheckExamples
