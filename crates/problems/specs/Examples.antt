@@ -47,10 +47,10 @@ pub pair-examples : (rowRefusal 3 (flow 1 0) twoComponents ≡ 0) × (rowRefusal
 unfolding rowRefusal rowChecks firstRefusal twoComponents full countFrom insert comparePairs compareNumbers
 pair-examples = (refl, refl, refl, refl, refl, refl, refl, refl, refl, refl, refl, refl)
 
--- columns of two components with one variable, one bound, one flow and one write
-unfoldable pub small : ℕ → ℕ → ℕ → ℕ → Columns
-small v w f d = record {
-  components = 2;
+-- columns with one variable, one bound, one flow and one write
+unfoldable pub small : ℕ → ℕ → ℕ → ℕ → ℕ → Columns
+small n v w f d = record {
+  components = n;
   variables = v ∷ [];
   boundComponents = 0 ∷ [];
   boundKinds = 4 ∷ [];
@@ -65,8 +65,9 @@ small v w f d = record {
   writeValues = d ∷ [];
 }
 
--- in order of kind: what is wrong with a variable comes before a bound's type, and this before what is wrong with a flow or a write
-pub column-examples : (problem 3 (small 1 (2 ^ 48 + 2) 1 1) .refusal ≡ 0) × (problem 3 (small 2 (2 ^ 48 + 3) 1 1) .refusal ≡ 6)
-    × (problem 3 (small 1 (2 ^ 48 + 3) 2 1) .refusal ≡ 7) × (problem 3 (small 1 (2 ^ 48 + 2) 2 1) .refusal ≡ 6) × (problem 3 (small 1 (2 ^ 48 + 2) 1 2) .refusal ≡ 6)
+-- in order of kind: the count comes first; what is wrong with a variable comes before a bound's type, and this before what is wrong with a flow or a write
+pub column-examples : (problem 3 (small 2 1 (2 ^ 48 + 2) 1 1) .refusal ≡ 0) × (problem 3 (small 513 600 (2 ^ 48 + 3) 600 600) .refusal ≡ 8)
+    × (problem 3 (small 2 2 (2 ^ 48 + 3) 1 1) .refusal ≡ 6) × (problem 3 (small 2 1 (2 ^ 48 + 3) 2 1) .refusal ≡ 7)
+    × (problem 3 (small 2 1 (2 ^ 48 + 2) 2 1) .refusal ≡ 6) × (problem 3 (small 2 1 (2 ^ 48 + 2) 1 2) .refusal ≡ 6)
 unfolding problem problemIn problemRows problemRow variableRows boundRows pairRows withRow noProblem rowRefusal rowChecks firstRefusal small legalWord legalBase insert
-column-examples = (refl, refl, refl, refl, refl)
+column-examples = (refl, refl, refl, refl, refl, refl)
