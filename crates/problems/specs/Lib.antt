@@ -7,3 +7,4 @@ pub mod Exact
 pub mod Stored
 pub mod Own
 pub mod Kept
+pub mod Examples

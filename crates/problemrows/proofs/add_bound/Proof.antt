@@ -12,14 +12,14 @@ returns : tie.Need-returns
 returns c =
     let s = c .before .before in
     let a = s .args in
-    adds-by (bound-outside (a .names) (a .components) (a .component) (a .kind) (a .word) (take (a .n) (a .bounds .now)) (c .if1 .taken))
+    adds-by (bound-outside (a .names) (a .components) (a .component) (a .kind) (a .word) (take (a .n) (a .bounds .now)) (omega (arith, c .if1 .taken)))
     (adds-refused 6 (a .n) (a .bounds .now) (omega (arith, s .pre .2, s .pre .3)))
 
 returns-2 : tie.Need-returns-2
 returns-2 c =
     let s = c .before .before .before in
     let a = s .args in
-    adds-by (bound-kind (a .names) (a .components) (a .component) (a .kind) (a .word) (take (a .n) (a .bounds .now)) (c .before .if1 .left) (c .if2 .taken))
+    adds-by (bound-kind (a .names) (a .components) (a .component) (a .kind) (a .word) (take (a .n) (a .bounds .now)) (omega (arith, c .before .if1 .left)) (omega (arith, c .if2 .taken)))
     (adds-refused 6 (a .n) (a .bounds .now) (omega (arith, s .pre .2, s .pre .3)))
 
 is-legal-requires : tie.Need-is-legal-requires
@@ -40,14 +40,14 @@ returns-3 c =
     let s = c .before .before .before .before .before .before .before .before .before in
     let a = s .args in
     let legal = sym (c .before .before .before .before .before .is-legal .ensures) ∙ c .before .before .before .before .if3 .taken in
-    adds-by (bound-inside (a .names) (a .components) (a .component) (a .kind) (a .word) (take (a .n) (a .bounds .now)) (c .before .before .before .before .before .before .before .if1 .left) (c .before .before .before .before .before .before .if2 .left) legal)
+    adds-by (bound-inside (a .names) (a .components) (a .component) (a .kind) (a .word) (take (a .n) (a .bounds .now)) (omega (arith, c .before .before .before .before .before .before .before .if1 .left)) (omega (arith, c .before .before .before .before .before .before .if2 .left)) legal)
     (c .before .before .put-bound .ensures)
 
 returns-4 : tie.Need-returns-4
 returns-4 c =
     let s = c .before .before .before .before .before in
     let a = s .args in
-    adds-by (bound-type (a .names) (a .components) (a .component) (a .kind) (a .word) (take (a .n) (a .bounds .now)) (c .before .before .before .if1 .left) (c .before .before .if2 .left) (sym (c .before .is-legal .ensures) ∙ c .if3 .left))
+    adds-by (bound-type (a .names) (a .components) (a .component) (a .kind) (a .word) (take (a .n) (a .bounds .now)) (omega (arith, c .before .before .before .if1 .left)) (omega (arith, c .before .before .if2 .left)) (sym (c .before .is-legal .ensures) ∙ c .if3 .left))
     (adds-refused 7 (a .n) (a .bounds .now) (omega (arith, s .pre .2, s .pre .3)))
 
 pub add-bound-spec : {M : Type 1} → statement M

@@ -10,14 +10,14 @@ returns : tie.Need-returns
 returns c =
     let s = c .before .before in
     let a = s .args in
-    adds-by (pair-first (a .components) (a .room) (a .first) (a .second) (take (a .n) (a .pairs .now)) (c .if1 .taken))
+    adds-by (pair-first (a .components) (a .room) (a .first) (a .second) (take (a .n) (a .pairs .now)) (omega (arith, c .if1 .taken)))
     (adds-refused 6 (a .n) (a .pairs .now) (omega (arith, s .pre .1, s .pre .2)))
 
 returns-2 : tie.Need-returns-2
 returns-2 c =
     let s = c .before .before .before in
     let a = s .args in
-    adds-by (pair-second (a .components) (a .room) (a .first) (a .second) (take (a .n) (a .pairs .now)) (c .before .if1 .left) (c .if2 .taken))
+    adds-by (pair-second (a .components) (a .room) (a .first) (a .second) (take (a .n) (a .pairs .now)) (omega (arith, c .before .if1 .left)) (omega (arith, c .if2 .taken)))
     (adds-refused 6 (a .n) (a .pairs .now) (omega (arith, s .pre .1, s .pre .2)))
 
 mul-put-entry : tie.Need-mul-put-entry
@@ -36,7 +36,7 @@ returns-3 : tie.Need-returns-3
 returns-3 c =
     let s = c .before .before .before .before .before .before .before in
     let a = s .args in
-    adds-by (pair-inside (a .components) (a .room) (a .first) (a .second) (take (a .n) (a .pairs .now)) (c .before .before .before .before .before .if1 .left) (c .before .before .before .before .if2 .left))
+    adds-by (pair-inside (a .components) (a .room) (a .first) (a .second) (take (a .n) (a .pairs .now)) (omega (arith, c .before .before .before .before .before .if1 .left)) (omega (arith, c .before .before .before .before .if2 .left)))
     (c .before .before .put-entry .ensures)
 
 pub add-pair-spec : {M : Type 1} → statement M
