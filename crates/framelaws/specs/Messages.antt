@@ -1,0 +1,513 @@
+-- ROWS AS MESSAGES: a list of messages in order of kind, taken one after the other until one is refused, comes to what the columns of
+-- the same rows come to: the same refusal, the same tables, the same problem. Assumes nothing.
+use mathlib.Core.Path.{_≡_, refl, sym, ap, ap₂, _∙_, subst}
+use mathlib.Core.Bool.{Bool, true, false, cond, not, _&&_, _||_}
+use mathlib.Core.List.{List, [], _∷_, _++_}
+use Prim.Native.Nat.{ℕ, zero, _≤_, _<_}
+use native.Mathlib.Omega.{arith}
+use lib.Dec.{eqb}
+use lib.ListN.{length, take, drop}
+use borrow.Author.Tests.{eq-eqb, ne-eqb, le-ltb, eqb-true, eqb-false}
+use Rattle.checks.specs.Checks as checks
+use Rattle.checks.specs.Checks.{check}
+use Rattle.names.specs.Names.{checkName, nameOf}
+use Rattle.rows.specs.declared.Outcome.{Outcome}
+use Rattle.rows.specs.Rows.{noTables, nameRow, State, recordRefusal, recordRow, Ran}
+use Rattle.rows.specs.Laws.{name-refused, record-refused}
+use Rattle.columns.specs.Columns.{inside, nameRows, tableOf}
+use Rattle.columns.specs.Fold.{Row, misplaced, named, recorded, Reading, step, run, namesIn, recordsIn, ran, start, table-fold}
+use Rattle.columns.specs.Given as columns
+use Rattle.columns.specs.Given.{Given, noMarks}
+use Rattle.solving.specs.Solving.{Problem}
+use Rattle.problems.specs.Problems.{ProblemRow, counted, variable, bounded, flow, upperFlow, reading, writing, noProblem, withRow, rowRefusal, problemRow, problemRows, Placed, Columns, variableRows, boundRows, pairRows, problemIn, problem}
+use Rattle.frames.specs.Frames.{Store, emptyStore, rankOf, badOrder, Message, naming, recording, row, solving, asking, Relating, Supertyping, Casting, messageRefusal, withMessage}
+use Rattle.framelaws.specs.Reached.{order-says}
+
+-- ---- a message's kind
+
+unfoldable pub rowKind : ProblemRow → ℕ
+rowKind (counted n) = 3
+rowKind (variable c) = 4
+rowKind (bounded c k w) = 5
+rowKind (flow a b) = 6
+rowKind (upperFlow a b) = 7
+rowKind (reading a b) = 8
+rowKind (writing a b) = 9
+
+unfoldable pub messageKind : Message → ℕ
+messageKind (naming n) = 1
+messageKind (recording f c ps) = 2
+messageKind (row r) = rowKind r
+messageKind solving = 10
+messageKind (asking Relating a b) = 11
+messageKind (asking Supertyping a b) = 12
+messageKind (asking Casting a b) = 13
+
+-- ---- messages one after the other, until one is refused: ORDER, then as its row
+
+pub record Ended : Type 0 where
+  pub refusal : ℕ
+  pub store : Store
+
+unfoldable pub sendRefusal : Message → Store → ℕ
+sendRefusal m s = checks.firstRefusal (check (badOrder (messageKind m) (s .rank)) 4 ∷ check (not (eqb (messageRefusal m s) 0)) (messageRefusal m s) ∷ [])
+
+abbrev pub taking : Message → Store → Store
+taking m s = withMessage (rankOf (messageKind m)) m s
+
+unfoldable pub sendAll : List Message → Store → Ended
+sendAll [] s = record { refusal = 0; store = s }
+sendAll (m ∷ ms) s = cond (eqb (sendRefusal m s) 0) (sendAll ms (taking m s)) (record { refusal = sendRefusal m s; store = s })
+
+-- the same with no test of the order
+unfoldable pub takeAll : List Message → Store → Ended
+takeAll [] s = record { refusal = 0; store = s }
+takeAll (m ∷ ms) s = cond (eqb (messageRefusal m s) 0) (takeAll ms (taking m s)) (record { refusal = messageRefusal m s; store = s })
+
+-- ---- in order of kind the order refuses nothing
+
+abbrev pub InOrder : ℕ → List Message → Type 0
+InOrder r [] = Unit {0}
+InOrder r (m ∷ ms) = (badOrder (messageKind m) r ≡ false) × InOrder (rankOf (messageKind m)) ms
+
+rank-after : (k : ℕ) (m : Message) (s : Store) → withMessage k m s .rank ≡ k
+unfolding withMessage
+rank-after k (naming n) s = refl
+rank-after k (recording f c ps) s = refl
+rank-after k (row r) s = refl
+rank-after k solving s = refl
+rank-after k (asking q a b) s = refl
+
+send-row : (m : Message) (s : Store) → badOrder (messageKind m) (s .rank) ≡ false → sendRefusal m s ≡ messageRefusal m s
+unfolding sendRefusal checks.firstRefusal
+send-row m s e = rw e (go (eqb (messageRefusal m s) 0) refl)
+  where
+    go : (b : Bool) → eqb (messageRefusal m s) 0 ≡ b → cond (not b) (messageRefusal m s) 0 ≡ messageRefusal m s
+    go true q = sym (eqb-true (messageRefusal m s) 0 q)
+    go false q = refl
+
+pub send-take : (ms : List Message) (s : Store) → InOrder (s .rank) ms → sendAll ms s ≡ takeAll ms s
+unfolding sendAll takeAll
+send-take [] s o = refl
+send-take (m ∷ ms) s o =
+    let e = send-row m s (o .0) in
+    let ih = send-take ms (taking m s) (subst (λ (r : ℕ). InOrder r ms) (sym (rank-after (rankOf (messageKind m)) m s)) (o .1)) in
+    ap (λ (k : ℕ). cond (eqb k 0) (sendAll ms (taking m s)) (record { refusal = k; store = s })) e
+    ∙ ap (λ (u : Ended). cond (eqb (messageRefusal m s) 0) u (record { refusal = messageRefusal m s; store = s })) ih
+
+-- a lower rank refuses no more
+order-lower : (k r q : ℕ) → r ≤ q → badOrder k q ≡ false → badOrder k r ≡ false
+unfolding badOrder
+order-lower k r q l h =
+    let o = order-says k q h in
+    let z = o .0 in
+    ap₂ (λ (a b : Bool). a || b) (le-ltb (rankOf k) r (omega arith)) (go (eqb k 3) refl (eqb r 3) refl)
+  where
+    go : (a : Bool) → eqb k 3 ≡ a → (b : Bool) → eqb r 3 ≡ b → (a && b) ≡ false
+    go true ea true eb =
+        let o = order-says k q h in
+        let kk = eqb-true k 3 ea in
+        let z = o .0 in
+        let rr = ap rankOf kk in
+        absurd (o .1 kk (let w = eqb-true r 3 eb in omega arith))
+    go true ea false eb = refl
+    go false ea b eb = refl
+
+pub in-order-lower : (r q : ℕ) (ms : List Message) → r ≤ q → InOrder q ms → InOrder r ms
+in-order-lower r q [] l o = tt
+in-order-lower r q (m ∷ ms) l o = (order-lower (messageKind m) r q l (o .0), o .1)
+
+abbrev AllKind : ℕ → List Message → Type 0
+AllKind i [] = Unit {0}
+AllKind i (m ∷ ms) = (messageKind m ≡ i) × AllKind i ms
+
+own-order : (i r : ℕ) → (i ≡ 3 → ⊥) → r ≤ rankOf i → badOrder i r ≡ false
+unfolding badOrder
+own-order i r n l = ap₂ (λ (a b : Bool). a || b) (le-ltb (rankOf i) r l) (ap (λ (a : Bool). a && eqb r 3) (ne-eqb i 3 n))
+
+-- a block of one kind, but 03, before what may follow it
+block : (i : ℕ) (ms rest : List Message) (r : ℕ) → (i ≡ 3 → ⊥) → AllKind i ms → r ≤ rankOf i → InOrder (rankOf i) rest → InOrder r (ms ++ rest)
+block i [] rest r n a l o = in-order-lower r (rankOf i) rest l o
+block i (m ∷ ms) rest r n a l o = (
+  subst (λ (k : ℕ). badOrder k r ≡ false) (sym (a .0)) (own-order i r n l),
+  subst (λ (k : ℕ). InOrder (rankOf k) (ms ++ rest)) (sym (a .0)) (block i ms rest (rankOf i) n (a .1) (omega arith) o),
+)
+
+-- ---- the messages of columns
+
+abbrev pub messageFor : Row → Message
+messageFor misplaced = naming []
+messageFor (named n) = naming n
+messageFor (recorded f c ps) = recording f c ps
+
+unfoldable pub messagesFor : List Row → List Message
+messagesFor [] = []
+messagesFor (x ∷ xs) = messageFor x ∷ messagesFor xs
+
+unfoldable pub rowMessages : List ProblemRow → List Message
+rowMessages [] = []
+rowMessages (r ∷ rs) = row r ∷ rowMessages rs
+
+-- names, then records
+unfoldable pub tableMessages : Given → List Message
+tableMessages g = messagesFor (namesIn (g .names) (g .«name_at») (g .«name_len»)) ++ messagesFor (recordsIn (g .parents) (g .«rec_flags») (g .«rec_class») (g .«rec_at») (g .«rec_len»))
+
+-- and a problem's rows, in order of kind
+unfoldable pub allMessages : Given → Columns → List Message
+allMessages g c = tableMessages g ++ rowMessages (problemIn c)
+
+-- each row lies inside its slice
+abbrev pub Whole : List Row → Type 0
+Whole [] = Unit {0}
+Whole (misplaced ∷ xs) = ⊥
+Whole (named n ∷ xs) = Whole xs
+Whole (recorded f c ps ∷ xs) = Whole xs
+
+abbrev pub Placed-in : Given → Type 0
+Placed-in g = Whole (namesIn (g .names) (g .«name_at») (g .«name_len») ++ recordsIn (g .parents) (g .«rec_flags») (g .«rec_class») (g .«rec_at») (g .«rec_len»))
+
+-- ---- one row of a table
+
+-- the state and the last name are those of a reading
+pub record Shows (s : Store) (r : Reading) : Type 0 where
+  pub last-is : s .last ≡ r .last
+  pub classes-are : s .classes ≡ r .state
+
+module _ (s : Store) (r : Reading) (h : Shows s r) where
+  refusal-same : (x : Row) → Whole (x ∷ []) → messageRefusal (messageFor x) s ≡ step x r .refusal
+  unfolding messageRefusal step
+  refusal-same misplaced w = absurd w
+  refusal-same (named n) w = ap₂ (λ (l : List ℕ) (u : State). nameRow l n (u .tables) .refusal) (h .last-is) (h .classes-are)
+  refusal-same (recorded f c ps) w = ap (λ (u : State). recordRefusal (u .tables .names) (u .keys) f c ps) (h .classes-are)
+
+  taken-shows : (x : Row) → Whole (x ∷ []) → (k : ℕ) → step x r .refusal ≡ 0 → Shows (withMessage k (messageFor x) s) (step x r)
+  unfolding withMessage step
+  taken-shows misplaced w k z = absurd w
+  taken-shows (named n) w k z = record {
+    last-is = sym (ap (λ (b : Bool). cond b n (r .last)) (eq-eqb (nameRow (r .last) n (r .state .tables) .refusal) 0 z));
+    classes-are = ap₂ (λ (l : List ℕ) (u : State). record { tables = nameRow l n (u .tables) .tables; keys = u .keys; marks = u .marks }) (h .last-is) (h .classes-are);
+  }
+  taken-shows (recorded f c ps) w k z = record { last-is = h .last-is; classes-are = ap (λ (u : State). recordRow u f c ps) (h .classes-are) }
+
+  problem-stays : (x : Row) (k : ℕ) → withMessage k (messageFor x) s .problem ≡ s .problem
+  unfolding withMessage
+  problem-stays misplaced k = refl
+  problem-stays (named n) k = refl
+  problem-stays (recorded f c ps) k = refl
+
+  -- a refused row leaves the state
+  refused-state : (x : Row) → Whole (x ∷ []) → (step x r .refusal ≡ 0 → ⊥) → step x r .state ≡ r .state
+  unfolding step nameRow
+  refused-state misplaced w n = absurd w
+  refused-state (named name) w n =
+      let e = name-refused (r .last) name (r .state .tables) (nameRow (r .last) name (r .state .tables) .refusal) refusal-is n in
+      ap (λ (o : Outcome). record { tables = o .tables; keys = r .state .keys; marks = r .state .marks }) e
+    where
+      refusal-is : nameRow (r .last) name (r .state .tables) .refusal ≡ checkName (r .last) name (r .state .tables .names) (r .state .tables .bytes)
+      refusal-is = refl
+  refused-state (recorded f c ps) w n = record-refused (r .state) f c ps n
+
+whole-one : (x : Row) (xs : List Row) → Whole (x ∷ xs) → Whole (x ∷ []) × Whole xs
+whole-one misplaced xs w = absurd w
+whole-one (named n) xs w = (tt, w)
+whole-one (recorded f c ps) xs w = (tt, w)
+
+-- ---- all rows of a table
+
+pub record Came (e : Ended) (r : Reading) (p : Problem) : Type 0 where
+  pub refusal-is : e .refusal ≡ r .refusal
+  pub classes-are : e .store .classes ≡ r .state
+  pub problem-is : e .store .problem ≡ p
+
+pub table-came : (xs : List Row) (r : Reading) (s : Store) → Whole xs → r .refusal ≡ 0 → Shows s r → Came (takeAll (messagesFor xs) s) (run xs r) (s .problem)
+unfolding takeAll messagesFor run
+table-came [] r s w z h = record { refusal-is = sym z; classes-are = h .classes-are; problem-is = refl }
+table-came (x ∷ xs) r s w z h = go (eqb (messageRefusal (messageFor x) s) 0) refl (λ k. table-came xs (step x r) (taking (messageFor x) s) (parts .1) k)
+  where
+    parts : Whole (x ∷ []) × Whole xs
+    parts = whole-one x xs w
+
+    same : messageRefusal (messageFor x) s ≡ step x r .refusal
+    same = refusal-same s r h x (parts .0)
+
+    go : (b : Bool) → eqb (messageRefusal (messageFor x) s) 0 ≡ b
+        → ((step x r .refusal ≡ 0) → Shows (taking (messageFor x) s) (step x r) → Came (takeAll (messagesFor xs) (taking (messageFor x) s)) (run xs (step x r)) (taking (messageFor x) s .problem))
+        → Came (cond b (takeAll (messagesFor xs) (taking (messageFor x) s)) (record { refusal = messageRefusal (messageFor x) s; store = s }))
+        (cond (eqb (step x r .refusal) 0) (run xs (step x r)) (step x r)) (s .problem)
+    go true e ih =
+        let zero = sym same ∙ eqb-true (messageRefusal (messageFor x) s) 0 e in
+        rw (eq-eqb (step x r .refusal) 0 zero) (subst (Came (takeAll (messagesFor xs) (taking (messageFor x) s)) (run xs (step x r))) (problem-stays s r h x (rankOf (messageKind (messageFor x))))
+        (ih zero (taken-shows s r h x (parts .0) (rankOf (messageKind (messageFor x))) zero)))
+    go false e ih =
+        let n : step x r .refusal ≡ 0 → ⊥ = λ q. eqb-false (messageRefusal (messageFor x) s) 0 e (same ∙ q) in
+        rw (ne-eqb (step x r .refusal) 0 n) (record {
+          refusal-is = same;
+          classes-are = h .classes-are ∙ sym (refused-state s r h x (parts .0) n);
+          problem-is = refl;
+        })
+
+-- ---- the rows of a problem
+
+pub record Solvable (e : Ended) (o : Placed) (u : State) : Type 0 where
+  pub refusal-is : e .refusal ≡ o .refusal
+  pub problem-is : e .store .problem ≡ o .problem
+  pub classes-are : e .store .classes ≡ u
+
+pub problem-came : (rs : List ProblemRow) (s : Store) → Solvable (takeAll (rowMessages rs) s) (problemRows (s .classes .tables .names) rs (s .problem)) (s .classes)
+unfolding takeAll rowMessages problemRows problemRow messageRefusal withMessage
+problem-came [] s = record { refusal-is = refl; problem-is = refl; classes-are = refl }
+problem-came (r ∷ rs) s = go (eqb (rowRefusal (s .classes .tables .names) r (s .problem)) 0) refl (problem-came rs (taking (row r) s))
+  where
+    names : ℕ
+    names = s .classes .tables .names
+
+    go : (b : Bool) → eqb (rowRefusal (s .classes .tables .names) r (s .problem)) 0 ≡ b
+        → Solvable (takeAll (rowMessages rs) (taking (row r) s)) (problemRows (s .classes .tables .names) rs (problemRow (s .classes .tables .names) r (s .problem) .problem)) (s .classes)
+        → Solvable (cond b (takeAll (rowMessages rs) (taking (row r) s)) (record { refusal = rowRefusal (s .classes .tables .names) r (s .problem); store = s }))
+        (cond b (problemRows (s .classes .tables .names) rs (problemRow (s .classes .tables .names) r (s .problem) .problem)) (problemRow (s .classes .tables .names) r (s .problem))) (s .classes)
+    go true e ih = ih
+    go false e ih = record { refusal-is = refl; problem-is = sym (ap (λ (b : Bool). cond b (withRow r (s .problem)) (s .problem)) e); classes-are = refl }
+
+-- ---- one list after another
+
+pub take-append : (xs ys : List Message) (s : Store) → takeAll (xs ++ ys) s ≡ cond (eqb (takeAll xs s .refusal) 0) (takeAll ys (takeAll xs s .store)) (takeAll xs s)
+unfolding takeAll
+take-append [] ys s = refl
+take-append (m ∷ ms) ys s = go (eqb (messageRefusal m s) 0) refl (take-append ms ys (taking m s))
+  where
+    go : (b : Bool) → eqb (messageRefusal m s) 0 ≡ b
+        → takeAll (ms ++ ys) (taking m s) ≡ cond (eqb (takeAll ms (taking m s) .refusal) 0) (takeAll ys (takeAll ms (taking m s) .store)) (takeAll ms (taking m s))
+        → cond b (takeAll (ms ++ ys) (taking m s)) (record { refusal = messageRefusal m s; store = s })
+        ≡ cond (eqb (cond b (takeAll ms (taking m s)) (record { refusal = messageRefusal m s; store = s }) .refusal) 0)
+        (takeAll ys (cond b (takeAll ms (taking m s)) (record { refusal = messageRefusal m s; store = s }) .store))
+        (cond b (takeAll ms (taking m s)) (record { refusal = messageRefusal m s; store = s }))
+    go true e ih = ih
+    go false e ih = rw e
+
+messages-append : (xs ys : List Row) → messagesFor (xs ++ ys) ≡ messagesFor xs ++ messagesFor ys
+unfolding messagesFor
+messages-append [] ys = refl
+messages-append (x ∷ xs) ys = ap (λ (l : List Message). messageFor x ∷ l) (messages-append xs ys)
+
+-- ---- kinds
+
+append-assoc : (xs ys zs : List Message) → (xs ++ ys) ++ zs ≡ xs ++ (ys ++ zs)
+append-assoc [] ys zs = refl
+append-assoc (x ∷ xs) ys zs = ap (λ (l : List Message). x ∷ l) (append-assoc xs ys zs)
+
+rows-append : (xs ys : List ProblemRow) → rowMessages (xs ++ ys) ≡ rowMessages xs ++ rowMessages ys
+unfolding rowMessages
+rows-append [] ys = refl
+rows-append (x ∷ xs) ys = ap (λ (l : List Message). row x ∷ l) (rows-append xs ys)
+
+whole-right : (xs ys : List Row) → Whole (xs ++ ys) → Whole ys
+whole-right [] ys w = w
+whole-right (misplaced ∷ xs) ys w = absurd w
+whole-right (named n ∷ xs) ys w = whole-right xs ys w
+whole-right (recorded f c ps ∷ xs) ys w = whole-right xs ys w
+
+names-kind : (bytes ats lens : List ℕ) → AllKind 1 (messagesFor (namesIn bytes ats lens))
+unfolding messagesFor namesIn messageKind
+names-kind bytes [] lens = tt
+names-kind bytes (at ∷ ats) [] = tt
+names-kind bytes (at ∷ ats) (len ∷ lens) = (go (inside (length bytes) at len), names-kind bytes ats lens)
+  where
+    go : (b : Bool) → messageKind (messageFor (cond b (named (nameOf bytes at len)) misplaced)) ≡ 1
+    go true = refl
+    go false = refl
+
+records-kind : (parents fs cs ats ls : List ℕ) → Whole (recordsIn parents fs cs ats ls) → AllKind 2 (messagesFor (recordsIn parents fs cs ats ls))
+unfolding messagesFor recordsIn messageKind
+records-kind parents [] cs ats ls w = tt
+records-kind parents (f ∷ fs) [] ats ls w = tt
+records-kind parents (f ∷ fs) (c ∷ cs) [] ls w = tt
+records-kind parents (f ∷ fs) (c ∷ cs) (a ∷ ats) [] w = tt
+records-kind parents (f ∷ fs) (c ∷ cs) (a ∷ ats) (l ∷ ls) w = go (inside (length parents) a l) w (records-kind parents fs cs ats ls)
+  where
+    go : (b : Bool) → Whole (cond b (recorded f c (take l (drop a parents))) misplaced ∷ recordsIn parents fs cs ats ls)
+        → (Whole (recordsIn parents fs cs ats ls) → AllKind 2 (messagesFor (recordsIn parents fs cs ats ls)))
+        → (messageKind (messageFor (cond b (recorded f c (take l (drop a parents))) misplaced)) ≡ 2) × AllKind 2 (messagesFor (recordsIn parents fs cs ats ls))
+    go true v ih = (refl, ih v)
+    go false v ih = absurd v
+
+variables-kind : (cs : List ℕ) → AllKind 4 (rowMessages (variableRows cs))
+unfolding rowMessages variableRows messageKind rowKind
+variables-kind [] = tt
+variables-kind (c ∷ cs) = (refl, variables-kind cs)
+
+bounds-kind : (cs ks ws : List ℕ) → AllKind 5 (rowMessages (boundRows cs ks ws))
+unfolding rowMessages boundRows messageKind rowKind
+bounds-kind [] ks ws = tt
+bounds-kind (c ∷ cs) [] ws = tt
+bounds-kind (c ∷ cs) (k ∷ ks) [] = tt
+bounds-kind (c ∷ cs) (k ∷ ks) (w ∷ ws) = (refl, bounds-kind cs ks ws)
+
+pairs-kind : (i : ℕ) (make : ℕ → ℕ → ProblemRow) → ((a b : ℕ) → messageKind (row (make a b)) ≡ i) → (xs ys : List ℕ) → AllKind i (rowMessages (pairRows make xs ys))
+unfolding rowMessages pairRows
+pairs-kind i make e [] ys = tt
+pairs-kind i make e (x ∷ xs) [] = tt
+pairs-kind i make e (x ∷ xs) (y ∷ ys) = (e x y, pairs-kind i make e xs ys)
+
+append-nothing : (xs : List Message) → xs ++ [] ≡ xs
+append-nothing [] = refl
+append-nothing (x ∷ xs) = ap (λ (l : List Message). x ∷ l) (append-nothing xs)
+
+problem-order : (c : Columns) (r : ℕ) → r < 3 → InOrder r (rowMessages (problemIn c))
+unfolding problemIn rowMessages messageKind rowKind badOrder
+problem-order c r l = (
+  ap₂ (λ (a b : Bool). a || b) (le-ltb 3 r (omega arith)) (ne-eqb r 3 (λ e. omega arith)),
+  subst (InOrder 3) (sym (rows-append r4 t4))
+      (block 4 (rowMessages r4) (rowMessages t4) 3 (λ e. omega arith) (variables-kind (c .variables)) (omega arith)
+      (subst (InOrder 4) (sym (rows-append r5 t5))
+      (block 5 (rowMessages r5) (rowMessages t5) 4 (λ e. omega arith) (bounds-kind (c .boundComponents) (c .boundKinds) (c .boundWords)) (omega arith)
+      (subst (InOrder 5) (sym (rows-append r6 t6))
+      (block 6 (rowMessages r6) (rowMessages t6) 5 (λ e. omega arith) (pairs-kind 6 flow (λ a b. refl) (c .flowSources) (c .flowTargets)) (omega arith)
+      (subst (InOrder 6) (sym (rows-append r7 t7))
+      (block 7 (rowMessages r7) (rowMessages t7) 6 (λ e. omega arith) (pairs-kind 7 upperFlow (λ a b. refl) (c .upperSources) (c .upperTargets)) (omega arith)
+      (subst (InOrder 7) (sym (rows-append r8 r9))
+      (block 8 (rowMessages r8) (rowMessages r9) 7 (λ e. omega arith) (pairs-kind 8 reading (λ a b. refl) (c .readArrays) (c .readResults)) (omega arith)
+      (subst (InOrder 8) (append-nothing (rowMessages r9))
+      (block 9 (rowMessages r9) [] 8 (λ e. omega arith) (pairs-kind 9 writing (λ a b. refl) (c .writeArrays) (c .writeValues)) (omega arith) tt))))))))))),
+)
+  where
+    r4 : List ProblemRow
+    r4 = variableRows (c .variables)
+
+    r5 : List ProblemRow
+    r5 = boundRows (c .boundComponents) (c .boundKinds) (c .boundWords)
+
+    r6 : List ProblemRow
+    r6 = pairRows flow (c .flowSources) (c .flowTargets)
+
+    r7 : List ProblemRow
+    r7 = pairRows upperFlow (c .upperSources) (c .upperTargets)
+
+    r8 : List ProblemRow
+    r8 = pairRows reading (c .readArrays) (c .readResults)
+
+    r9 : List ProblemRow
+    r9 = pairRows writing (c .writeArrays) (c .writeValues)
+
+    t7 : List ProblemRow
+    t7 = r8 ++ r9
+
+    t6 : List ProblemRow
+    t6 = r7 ++ t7
+
+    t5 : List ProblemRow
+    t5 = r6 ++ t6
+
+    t4 : List ProblemRow
+    t4 = r5 ++ t5
+
+-- what follows a table's rows in order
+pub table-order : (g : Given) (rest : List Message) → Placed-in g → InOrder 2 rest → InOrder 0 (tableMessages g ++ rest)
+unfolding tableMessages
+table-order g rest w o =
+    subst (InOrder 0) (sym (append-assoc (messagesFor names) (messagesFor records) rest))
+    (block 1 (messagesFor names) (messagesFor records ++ rest) 0 (λ e. omega arith) (names-kind (g .names) (g .«name_at») (g .«name_len»)) (omega arith)
+    (block 2 (messagesFor records) rest 1 (λ e. omega arith)
+    (records-kind (g .parents) (g .«rec_flags») (g .«rec_class») (g .«rec_at») (g .«rec_len») (whole-right names records w)) (omega arith) o))
+  where
+    names : List Row
+    names = namesIn (g .names) (g .«name_at») (g .«name_len»)
+
+    records : List Row
+    records = recordsIn (g .parents) (g .«rec_flags») (g .«rec_class») (g .«rec_at») (g .«rec_len»)
+
+shows-start : Shows emptyStore (start noMarks)
+unfolding emptyStore
+shows-start = record { last-is = refl; classes-are = refl }
+
+empty-problem : emptyStore .problem ≡ noProblem
+unfolding emptyStore
+empty-problem = refl
+
+-- ---- THE TABLE
+
+-- what a table's messages come to is what its columns come to
+pub record TableCame (e : Ended) (g : Given) : Type 0 where
+  pub refusal-is : e .refusal ≡ columns.table g .refusal
+  pub classes-are : e .store .classes ≡ columns.table g .state
+  pub problem-is : e .store .problem ≡ noProblem
+
+pub table-sent : (g : Given) → Placed-in g → TableCame (takeAll (tableMessages g) emptyStore) g
+unfolding tableMessages columns.table
+table-sent g w =
+    let xs = namesIn (g .names) (g .«name_at») (g .«name_len») in
+    let ys = recordsIn (g .parents) (g .«rec_flags») (g .«rec_class») (g .«rec_at») (g .«rec_len») in
+    let came = table-came (xs ++ ys) (start noMarks) emptyStore w refl (empty-shows) in
+    let fold = table-fold (g .names) (g .«name_at») (g .«name_len») (g .parents) (g .«rec_flags») (g .«rec_class») (g .«rec_at») (g .«rec_len») noMarks in
+    subst (λ (ms : List Message). TableCame (takeAll ms emptyStore) g) (messages-append xs ys) (made came fold)
+  where
+    empty-shows : Shows emptyStore (start noMarks)
+    empty-shows = shows-start
+
+    made : Came (takeAll (messagesFor (namesIn (g .names) (g .«name_at») (g .«name_len») ++ recordsIn (g .parents) (g .«rec_flags») (g .«rec_class») (g .«rec_at») (g .«rec_len»))) emptyStore)
+        (run (namesIn (g .names) (g .«name_at») (g .«name_len») ++ recordsIn (g .parents) (g .«rec_flags») (g .«rec_class») (g .«rec_at») (g .«rec_len»)) (start noMarks)) (emptyStore .problem)
+        → tableOf (nameRows (g .names) (g .«name_at») (g .«name_len») [] noTables) (g .parents) (g .«rec_flags») (g .«rec_class») (g .«rec_at») (g .«rec_len») noMarks
+        ≡ ran (run (namesIn (g .names) (g .«name_at») (g .«name_len») ++ recordsIn (g .parents) (g .«rec_flags») (g .«rec_class») (g .«rec_at») (g .«rec_len»)) (start noMarks))
+        → TableCame (takeAll (messagesFor (namesIn (g .names) (g .«name_at») (g .«name_len») ++ recordsIn (g .parents) (g .«rec_flags») (g .«rec_class») (g .«rec_at») (g .«rec_len»))) emptyStore) g
+    made came fold = record {
+      refusal-is = came .refusal-is ∙ sym (ap (λ (u : Ran). u .refusal) fold);
+      classes-are = came .classes-are ∙ sym (ap (λ (u : Ran). u .state) fold);
+      problem-is = came .problem-is ∙ empty-problem;
+    }
+
+-- ---- THE TABLE AND THE PROBLEM
+
+pub record AllCame (e : Ended) (g : Given) (c : Columns) : Type 0 where
+  -- the refusal of the first row that is refused
+  pub refusal-is : e .refusal ≡ cond (eqb (columns.table g .refusal) 0) (problem (columns.table g .state .tables .names) c .refusal) (columns.table g .refusal)
+  -- and where the table is taken, the problem too
+  pub classes-are : columns.table g .refusal ≡ 0 → e .store .classes ≡ columns.table g .state
+  pub problem-is : columns.table g .refusal ≡ 0 → e .store .problem ≡ problem (columns.table g .state .tables .names) c .problem
+
+all-taken : (g : Given) (c : Columns) → Placed-in g → AllCame (takeAll (allMessages g c) emptyStore) g c
+unfolding allMessages problem
+all-taken g c w = subst (λ (e : Ended). AllCame e g c) (sym (take-append (tableMessages g) (rowMessages (problemIn c)) emptyStore)) (go (eqb (first .refusal) 0) refl)
+  where
+    first : Ended
+    first = takeAll (tableMessages g) emptyStore
+
+    came : TableCame first g
+    came = table-sent g w
+
+    names-are : first .store .classes .tables .names ≡ columns.table g .state .tables .names
+    names-are = ap (λ (u : State). u .tables .names) (came .classes-are)
+
+    rest : Solvable (takeAll (rowMessages (problemIn c)) (first .store)) (problemRows (columns.table g .state .tables .names) (problemIn c) noProblem) (first .store .classes)
+    rest =
+        subst (λ (o : Placed). Solvable (takeAll (rowMessages (problemIn c)) (first .store)) o (first .store .classes))
+        (ap₂ (λ (n : ℕ) (p : Problem). problemRows n (problemIn c) p) names-are (came .problem-is)) (problem-came (problemIn c) (first .store))
+
+    go : (b : Bool) → eqb (first .refusal) 0 ≡ b → AllCame (cond b (takeAll (rowMessages (problemIn c)) (first .store)) first) g c
+    go true e =
+        let z = sym (came .refusal-is) ∙ eqb-true (first .refusal) 0 e in
+        record {
+          refusal-is = rest .refusal-is ∙ sym (ap (λ (b : Bool). cond b (problemRows (columns.table g .state .tables .names) (problemIn c) noProblem .refusal) (columns.table g .refusal)) (eq-eqb (columns.table g .refusal) 0 z));
+          classes-are = λ q. rest .classes-are ∙ came .classes-are;
+          problem-is = λ q. rest .problem-is;
+        }
+    go false e =
+        let n : columns.table g .refusal ≡ 0 → ⊥ = λ q. eqb-false (first .refusal) 0 e (came .refusal-is ∙ q) in
+        record {
+          refusal-is = came .refusal-is ∙ sym (ap (λ (b : Bool). cond b (problemRows (columns.table g .state .tables .names) (problemIn c) noProblem .refusal) (columns.table g .refusal)) (ne-eqb (columns.table g .refusal) 0 n));
+          classes-are = λ q. absurd (n q);
+          problem-is = λ q. absurd (n q);
+        }
+
+-- ROWS SENT IN ORDER OF KIND COME TO WHAT THE COLUMNS COME TO: the same first refusal, else the same tables and the same problem
+pub all-sent : (g : Given) (c : Columns) → Placed-in g → AllCame (sendAll (allMessages g c) emptyStore) g c
+unfolding allMessages emptyStore
+all-sent g c w =
+    subst (λ (e : Ended). AllCame e g c)
+    (sym (send-take (allMessages g c) emptyStore (table-order g (rowMessages (problemIn c)) w (problem-order c 2 (omega arith)))))
+    (all-taken g c w)
+
+pub only-table-sent : (g : Given) → Placed-in g → TableCame (sendAll (tableMessages g) emptyStore) g
+unfolding emptyStore
+only-table-sent g w =
+    subst (λ (e : Ended). TableCame e g)
+    (sym (send-take (tableMessages g) emptyStore (subst (InOrder 0) (append-nothing (tableMessages g)) (table-order g [] w tt))))
+    (table-sent g w)

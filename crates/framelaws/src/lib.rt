@@ -1,0 +1,1 @@
+// No code: what holds of hex frames and of the program stands in specs/.

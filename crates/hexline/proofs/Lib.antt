@@ -1,0 +1,2 @@
+-- That the contracts allow one outcome each.
+pub mod Unique

@@ -1,0 +1,91 @@
+-- `put_variable` meets its contract: letter, number, word, LF. Assumes nothing.
+use borrow.Author.Needs.{needs}
+use mathlib.Core.Path.{_∙_}
+use native.Mathlib.Omega.{arith}
+use Rattle.lineout.specs.Printed.{decimal, wordText}
+use Rattle.lineout.specs.Laws.{decimal-short, word-short, line-two}
+use Rattle.lineout.proofs.put_variable.Statement.{statement}
+use Rattle.lineout.proofs.put_variable.Tie as tie
+use Rattle.lineout.proofs.put_variable.Reads as reads
+use Rattle.lineout.proofs.put_variable.Lts as lts
+use Rattle.lineout.proofs.put_byte.Reads as put-byte-reads
+use Rattle.lineout.proofs.put_decimal.Reads as put-decimal-reads
+use Rattle.lineout.proofs.put_letter.Reads as put-letter-reads
+use Rattle.lineout.proofs.put_word_or_dash.Reads as put-word-or-dash-reads
+
+put-letter-requires : tie.Need-put-letter-requires
+put-letter-requires c κs = search needs
+
+put-decimal-requires : tie.Need-put-decimal-requires
+put-decimal-requires c κs =
+    let s = c .before .before .before .before .before .before in
+    let p = s .pre in
+    let d = decimal-short (s .args .i) (omega arith) in
+    let a = c .before .before .before .put-letter .ensures .filled-is in
+    let k = c .before .before .before .put-letter .kept .0 in
+    omega arith
+
+put-byte-requires : tie.Need-put-byte-requires
+put-byte-requires c κs =
+    let s = c .before .before .before .before .before .before .before .before .before .before in
+    let p = s .pre in
+    let d = decimal-short (s .args .i) (omega arith) in
+    let a = c .before .before .before .before .before .before .before .put-letter .ensures .filled-is in
+    let b = c .before .before .before .put-decimal .ensures .filled-is in
+    let k = c .before .before .before .before .before .before .before .put-letter .kept .0 in
+    let l = c .before .before .before .put-decimal .kept .0 in
+    omega arith
+
+put-word-or-dash-requires : tie.Need-put-word-or-dash-requires
+put-word-or-dash-requires c κs =
+    let s = c .before .before .before .before .before .before .before .before .before .before .before .before .before .before in
+    let p = s .pre in
+    let d = decimal-short (s .args .i) (omega arith) in
+    let e = word-short (s .args .w) in
+    let a = c .before .before .before .before .before .before .before .before .before .before .before .put-letter .ensures .filled-is in
+    let b = c .before .before .before .before .before .before .before .put-decimal .ensures .filled-is in
+    let f = c .before .before .before .put-byte .ensures .filled-is in
+    let k = c .before .before .before .before .before .before .before .before .before .before .before .put-letter .kept .0 in
+    let l = c .before .before .before .before .before .before .before .put-decimal .kept .0 in
+    let m = c .before .before .before .put-byte .kept .0 in
+    omega arith
+
+put-byte-requires-2 : tie.Need-put-byte-requires-2
+put-byte-requires-2 c κs =
+    let s = c .before .before .before .before .before .before .before .before .before .before .before .before .before .before .before .before .before .before in
+    let p = s .pre in
+    let d = decimal-short (s .args .i) (omega arith) in
+    let e = word-short (s .args .w) in
+    let a = c .before .before .before .before .before .before .before .before .before .before .before .before .before .before .before .put-letter .ensures .filled-is in
+    let b = c .before .before .before .before .before .before .before .before .before .before .before .put-decimal .ensures .filled-is in
+    let f = c .before .before .before .before .before .before .before .put-byte .ensures .filled-is in
+    let g = c .before .before .before .put-word-or-dash .ensures .filled-is in
+    let k = c .before .before .before .before .before .before .before .before .before .before .before .before .before .before .before .put-letter .kept .0 in
+    let l = c .before .before .before .before .before .before .before .before .before .before .before .put-decimal .kept .0 in
+    let m = c .before .before .before .before .before .before .before .put-byte .kept .0 in
+    let n = c .before .before .before .put-word-or-dash .kept .0 in
+    omega arith
+
+same-length : tie.Need-same-length
+same-length c = c .before .before .put-byte2 .kept .0 ∙ c .before .before .before .before .before .before .put-word-or-dash .kept .0 ∙ c .before .before .before .before .before .before .before .before .before .before .put-byte .kept .0 ∙ c .before .before .before .before .before .before .before .before .before .before .before .before .before .before .put-decimal .kept .0 ∙ c .before .before .before .before .before .before .before .before .before .before .before .before .before .before .before .before .before .before .put-letter .kept .0
+
+returns : tie.Need-returns
+returns c =
+    let s = c .before .before .before .before .before .before .before .before .before .before .before .before .before .before .before .before .before .before .before .before .before in
+    let p = s .pre in
+    let d = decimal-short (s .args .i) (omega arith) in
+    let e = word-short (s .args .w) in
+    line-two 86 (decimal (s .args .i)) (wordText (s .args .w)) (s .args .filled) _ _ _ _ _ (s .args .out .now) _ _ _ _ _ (omega arith)
+    (c .before .before .before .before .before .before .before .before .before .before .before .before .before .before .before .before .before .before .put-letter .ensures) (c .before .before .before .before .before .before .before .before .before .before .before .before .before .before .put-decimal .ensures) (c .before .before .before .before .before .before .before .before .before .before .put-byte .ensures) (c .before .before .before .before .before .before .put-word-or-dash .ensures) (c .before .before .put-byte2 .ensures)
+
+pub put-variable-spec : {M : Type 1} → statement M
+put-variable-spec =
+    tie.close
+    (tie.spec
+    put-letter-requires
+    put-decimal-requires
+    put-byte-requires
+    put-word-or-dash-requires
+    put-byte-requires-2
+    same-length
+    returns)

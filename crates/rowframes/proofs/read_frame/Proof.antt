@@ -1,0 +1,48 @@
+-- `read_frame` meets its contract. Assumes nothing.
+use borrow.Author.Needs.{needs}
+use Rattle.framestate.specs.FrameState.{readNumbers}
+use Rattle.rowframes.specs.RowFrames.{row-frames, same-pair}
+use Rattle.rowframes.proofs.read_frame.Statement.{statement}
+use Rattle.rowframes.proofs.read_frame.Tie as tie
+use Rattle.rowframes.proofs.read_frame.Reads as reads
+use Rattle.rowframes.proofs.read_frame.Lts as lts
+use Rattle.rowframes.proofs.finish.Reads as finish-reads
+
+number-at-requires : tie.Need-number-at-requires
+number-at-requires c κs = search needs
+
+number-at-requires-2 : tie.Need-number-at-requires-2
+number-at-requires-2 c κs = search needs
+
+sub-add-pair : tie.Need-sub-add-pair
+sub-add-pair c = search needs
+
+add-pair-requires : tie.Need-add-pair-requires
+add-pair-requires c κs = search needs
+
+with-reads-requires : tie.Need-with-reads-requires
+with-reads-requires c κs = search needs
+
+finish-requires : tie.Need-finish-requires
+finish-requires c κs = search needs
+
+same-length : tie.Need-same-length
+same-length c = search needs
+
+returns : tie.Need-returns
+returns c =
+    let a = c .before .before .before .before .before .before .before .before .before .before .before .args in
+    row-frames _ _ _ _ (a .n) (readNumbers (a .n)) _ _ _ (same-pair _ _ _ _ _ _ _ (c .before .before .before .before .before .before .before .before .number-at .ensures .0) (c .before .before .before .before .before .before .before .number-at2 .ensures .0)) (c .before .before .before .before .add-pair .ensures) (c .before .with-reads .ensures) (c .finish .ensures)
+
+pub read-frame-spec : {M : Type 1} → statement M
+read-frame-spec =
+    tie.close
+    (tie.spec
+    number-at-requires
+    number-at-requires-2
+    sub-add-pair
+    add-pair-requires
+    with-reads-requires
+    finish-requires
+    same-length
+    returns)

@@ -1,0 +1,101 @@
+-- `record_frame` meets its contract: the parents are the numbers of the body from its fourth byte on. Assumes nothing.
+use borrow.Author.Needs.{needs}
+use mathlib.Core.Path.{_≡_, ap, _∙_}
+use mathlib.Core.List.{List}
+use Prim.Native.Nat.{ℕ, _-_}
+use native.Mathlib.Omega.{arith}
+use lib.ListN.{length, take, drop, length-drop}
+use lib.Seq.{take-all}
+use Rattle.rows.specs.Keys.{take-filled}
+use Rattle.hexline.specs.Hex.{numbersIn}
+use Rattle.hexline.specs.Laws.{numbers-length}
+use Rattle.rowframes.specs.RowFrames.{record-frames, same-record, part-front}
+use Rattle.rowframes.proofs.record_frame.Statement.{statement}
+use Rattle.rowframes.proofs.record_frame.Tie as tie
+use Rattle.rowframes.proofs.record_frame.Reads as reads
+use Rattle.rowframes.proofs.record_frame.Lts as lts
+use Rattle.rowframes.proofs.byte_at.Reads as byte-at-reads
+use Rattle.rowframes.proofs.finish.Reads as finish-reads
+
+sub-put-numbers : tie.Need-sub-put-numbers
+sub-put-numbers c = search needs
+
+part-put-numbers-start : tie.Need-part-put-numbers-start
+part-put-numbers-start c = search needs
+
+part-put-numbers-end : tie.Need-part-put-numbers-end
+part-put-numbers-end c = search needs
+
+slice-aggregate-put-numbers : tie.Need-slice-aggregate-put-numbers
+slice-aggregate-put-numbers c = search needs
+
+put-numbers-requires : tie.Need-put-numbers-requires
+put-numbers-requires c κs = search needs
+
+byte-at-requires : tie.Need-byte-at-requires
+byte-at-requires c κs = search needs
+
+number-at-requires : tie.Need-number-at-requires
+number-at-requires c κs = search needs
+
+sub-add-record : tie.Need-sub-add-record
+sub-add-record c = search needs
+
+part-add-record-start : tie.Need-part-add-record-start
+part-add-record-start c = search needs
+
+part-add-record-end : tie.Need-part-add-record-end
+part-add-record-end c =
+    let b = c .before .before .before .before .before .before .before .before .before .before .before .args .body .now in
+    let l = length-drop 3 b in
+    let e = take-all (length b - 3) (drop 3 b) (omega arith) in
+    let q = c .before .before .before .before .before .put-numbers .ensures .0 ∙ ap (λ (x : List ℕ). length (numbersIn x)) e in
+    let m = numbers-length (drop 3 b) (omega arith) in
+    let k = c .before .before .before .before .before .put-numbers .kept .1 .0 in
+    omega arith
+
+add-record-requires : tie.Need-add-record-requires
+add-record-requires c κs = search needs
+
+recorded-requires : tie.Need-recorded-requires
+recorded-requires c κs = search needs
+
+finish-requires : tie.Need-finish-requires
+finish-requires c κs = search needs
+
+same-length : tie.Need-same-length
+same-length c = search needs
+
+same-length-2 : tie.Need-same-length-2
+same-length-2 c = search needs
+
+returns : tie.Need-returns
+returns c =
+    let b = c .before .before .before .before .before .before .before .before .before .before .before .before .before .before .before .before .before .before .before .before .before .before .args .body .now in
+    let l = length-drop 3 b in
+    let e = take-all (length b - 3) (drop 3 b) (omega arith) in
+    let p = c .before .before .before .before .before .before .before .before .before .before .before .before .before .before .before .before .put-numbers in
+    record-frames _ _ _ _ _ (c .before .before .before .before .before .before .before .before .before .before .before .before .before .before .before .before .before .before .before .before .before .before .args .n) _ _ _
+    (same-record _ _ _ _ _ _ _ (c .before .before .before .before .before .before .before .before .before .before .before .before .before .before .byte-at .ensures .0) (c .before .before .before .before .before .before .before .before .before .before .before .before .before .number-at .ensures .0) (part-front (p .result) _ ∙ ap (take (p .result)) (p .ensures .1) ∙ take-filled _ _ (p .result) (p .ensures .0) ∙ ap numbersIn e))
+    (c .before .before .before .before .before .before .before .add-record .ensures) (c .before .recorded .ensures) (c .finish .ensures)
+
+pub record-frame-spec : {M : Type 1} → statement M
+record-frame-spec =
+    tie.close
+    (tie.spec
+    sub-put-numbers
+    part-put-numbers-start
+    part-put-numbers-end
+    slice-aggregate-put-numbers
+    put-numbers-requires
+    byte-at-requires
+    number-at-requires
+    sub-add-record
+    part-add-record-start
+    part-add-record-end
+    add-record-requires
+    recorded-requires
+    finish-requires
+    same-length
+    same-length-2
+    returns)
