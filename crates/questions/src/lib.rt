@@ -1,5 +1,6 @@
 // Questions over slices: the class table is built from its columns in local arrays, the two numbers are checked over its names, and the
 // question is put to the crate that answers it. The work that a caller lends holds nothing in between and is zero afterwards.
+use clearing::clear;
 use rows::Outcome;
 use sets::Set;
 use tables::MARKS;
@@ -11,7 +12,7 @@ use view::Relation;
 ghost use mathlib.Core.Path.{_≡_};
 ghost use mathlib.Core.Bool.{true, cond};
 ghost use mathlib.Core.List.{[], _∷_};
-ghost use lib.ListN.{length, replicate};
+ghost use lib.ListN.{length};
 ghost use Rattle.checks.specs.Checks.{firstRefusal};
 ghost use Rattle.ty.specs.Words.{allLegal};
 ghost use Rattle.view.specs.View.{relationNumber};
@@ -365,17 +366,6 @@ fn ask_table(
         &mut pairs,
         &mut marks,
     )
-}
-
-// Zero everywhere.
-fn clear(work: &mut [u64])
-    ensures { λ _. ⌜ now (work .exit) ≡ replicate (length (now (work .entry))) 0 ⌝ }
-{
-    let mut i: usize = 0;
-    while i < work.len() {
-        work[i] = 0;
-        i += 1;
-    }
 }
 
 // The answer to a question about two classes, or two types.

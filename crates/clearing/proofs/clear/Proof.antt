@@ -7,8 +7,8 @@ use Prim.Native.Nat.{ℕ, _+_, _-_, _≤_, _<_}
 use native.Mathlib.Omega.{arith}
 use lib.ListN.{length, set, drop, replicate, length-set}
 use lib.Seq.{drop-length}
-use Rattle.questions.proofs.clear.Statement.{statement}
-use Rattle.questions.proofs.clear.Tie as tie
+use Rattle.clearing.proofs.clear.Statement.{statement}
+use Rattle.clearing.proofs.clear.Tie as tie
 
 step : (d d₀ : List ℕ) (i : ℕ) → i < length d₀ → d ≡ replicate i 0 ++ drop i d₀ → set d i 0 ≡ replicate (i + 1) 0 ++ drop (i + 1) d₀
 step d d₀ i l e = rw e (fill-more i 0 d₀ l)

@@ -1,0 +1,2 @@
+-- What the contract cites, and its step.
+pub mod Columns

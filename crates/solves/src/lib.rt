@@ -1,0 +1,205 @@
+// The solve of a problem that sorted slices keep: incoming links, the run over the front of the lent work, and, unless it was refused,
+// the answers and the final bounds at the front of the lent slices. The whole work is zero afterwards.
+use answering::answers;
+use clearing::clear;
+use columnsout::write_columns;
+use linking::incoming_links;
+use solver::solve;
+use solving::Counts;
+use tables::Tables;
+ghost use mathlib.Core.Path.{_≡_};
+ghost use Prim.Native.Nat.{_≤_};
+ghost use lib.ListN.{length};
+ghost use lib.Seq.{paste};
+ghost use Rattle.lattice.specs.World.{worldOf};
+ghost use Rattle.solving.specs.Queue.{Below};
+ghost use Rattle.solving.specs.Solving.{room, solve};
+ghost use Rattle.problems.specs.Kept.{problemOf, Keeps};
+ghost use Rattle.resolving.specs.Bounds.{Classes};
+ghost use Rattle.answering.specs.Answering.{tableIn, Final, answerWords};
+ghost use Rattle.solver.specs.Solver.{Solved};
+ghost use Rattle.columnsout.specs.Columns.{Written};
+ghost use Rattle.solves.specs.SolveResult.{lent, Roomy, Solves};
+ghost use Rattle.solves.specs.Laws.{runOf, Leaves};
+
+// The run, with its incoming links in a lent slice.
+fn run_linked(
+    pairs: &[u64],
+    marks: &[u64],
+    t: Tables,
+    components: u64,
+    variables: &[u64],
+    bounds: &[u64],
+    flows: &[u64],
+    uppers: &[u64],
+    reads: &[u64],
+    writes: &[u64],
+    incoming: &mut [u64],
+    a: &mut [u64],
+) -> Counts
+    requires { ⌜ Classes (now marks) t × Keeps (t .names) components (now variables) (now bounds) (now flows) (now uppers) (now reads) (now writes) × (length (now incoming) ≡ 3072) × (length (now a) ≡ room) ⌝ }
+    ensures { λ r. ⌜ Solved (runOf (worldOf (now (pairs .entry)) (now (marks .entry)) t) (problemOf components (now (variables .entry)) (now (bounds .entry)) (now (flows .entry)) (now (uppers .entry)) (now (reads .entry)) (now (writes .entry)))) (now (a .exit)) r ⌝ }
+{
+    let n = incoming_links(flows, uppers, incoming);
+    solve(
+        pairs,
+        marks,
+        t,
+        bounds,
+        a,
+        flows,
+        &incoming[0..n],
+        reads,
+        writes,
+        components,
+    )
+}
+
+// The run; without a refusal the final table's keys stand at the front of `a`.
+fn run_problem(
+    pairs: &[u64],
+    marks: &[u64],
+    t: Tables,
+    components: u64,
+    variables: &[u64],
+    bounds: &[u64],
+    flows: &[u64],
+    uppers: &[u64],
+    reads: &[u64],
+    writes: &[u64],
+    a: &mut [u64],
+) -> Counts
+    requires { ⌜ Classes (now marks) t × Keeps (t .names) components (now variables) (now bounds) (now flows) (now uppers) (now reads) (now writes) × (length (now a) ≡ room) ⌝ }
+    ensures { λ r. ⌜ Solved (runOf (worldOf (now (pairs .entry)) (now (marks .entry)) t) (problemOf components (now (variables .entry)) (now (bounds .entry)) (now (flows .entry)) (now (uppers .entry)) (now (reads .entry)) (now (writes .entry)))) (now (a .exit)) r ⌝ }
+{
+    let mut incoming = [0u64; 3072];
+    run_linked(
+        pairs,
+        marks,
+        t,
+        components,
+        variables,
+        bounds,
+        flows,
+        uppers,
+        reads,
+        writes,
+        &mut incoming,
+        a,
+    )
+}
+
+// The answers and the columns of a final table.
+fn write_solution(
+    pairs: &[u64],
+    marks: &[u64],
+    t: Tables,
+    variables: &[u64],
+    keys: &[u64],
+    into: &mut [u64],
+    out_comp: &mut [u64],
+    out_kind: &mut [u64],
+    out_type: &mut [u64],
+)
+    requires { ⌜ Classes (now marks) t × Final (t .names) (now keys) × Below 512 (now variables) × (length (now keys) ≤ room) × (length (now variables) ≤ length (now into)) × (room ≤ length (now «out_comp»)) × (room ≤ length (now «out_kind»)) × (room ≤ length (now «out_type»)) ⌝ }
+    ensures { λ _. ⌜ (now (into .exit) ≡ paste (now (into .entry)) 0 (answerWords (worldOf (now (pairs .entry)) (now (marks .entry)) t) (tableIn (now (keys .entry))) (now (variables .entry))) (length (now (variables .entry)))) × Written (now (keys .entry)) (now («out_comp» .entry)) (now («out_kind» .entry)) (now («out_type» .entry)) (now («out_comp» .exit)) (now («out_kind» .exit)) (now («out_type» .exit)) ⌝ }
+{
+    let mut copies = [0u64; 4096];
+    answers(pairs, marks, t, keys, variables, &mut copies, into);
+    write_columns(keys, out_comp, out_kind, out_type);
+}
+
+// The solve with its table in a lent slice of 4,096 words; a refused one writes no answer and no column.
+fn solve_into(
+    pairs: &[u64],
+    marks: &[u64],
+    t: Tables,
+    components: u64,
+    variables: &[u64],
+    bounds: &[u64],
+    flows: &[u64],
+    uppers: &[u64],
+    reads: &[u64],
+    writes: &[u64],
+    into: &mut [u64],
+    out_comp: &mut [u64],
+    out_kind: &mut [u64],
+    out_type: &mut [u64],
+    a: &mut [u64],
+) -> Counts
+    requires { ⌜ Classes (now marks) t × Keeps (t .names) components (now variables) (now bounds) (now flows) (now uppers) (now reads) (now writes) × (length (now variables) ≤ length (now into)) × (room ≤ length (now «out_comp»)) × (room ≤ length (now «out_kind»)) × (room ≤ length (now «out_type»)) × (length (now a) ≡ room) ⌝ }
+    ensures { λ r. ⌜ Leaves (solve (worldOf (now (pairs .entry)) (now (marks .entry)) t) (problemOf components (now (variables .entry)) (now (bounds .entry)) (now (flows .entry)) (now (uppers .entry)) (now (reads .entry)) (now (writes .entry)))) (lent (now (into .entry)) (now («out_comp» .entry)) (now («out_kind» .entry)) (now («out_type» .entry)) (now (a .entry))) (lent (now (into .exit)) (now («out_comp» .exit)) (now («out_kind» .exit)) (now («out_type» .exit)) (now (a .exit))) r ⌝ }
+{
+    let c = run_problem(
+        pairs,
+        marks,
+        t,
+        components,
+        variables,
+        bounds,
+        flows,
+        uppers,
+        reads,
+        writes,
+        a,
+    );
+    let refusal = c.refusal;
+    if refusal != 0 {
+        return c;
+    }
+    let n = c.bounds as usize;
+    write_solution(
+        pairs,
+        marks,
+        t,
+        variables,
+        &a[0..n],
+        into,
+        out_comp,
+        out_kind,
+        out_type,
+    );
+    c
+}
+
+// The table stands at the front of the work while it is made; what is past 4,096 words stays free.
+pub fn solve_problem(
+    pairs: &[u64],
+    marks: &[u64],
+    t: Tables,
+    components: u64,
+    variables: &[u64],
+    bounds: &[u64],
+    flows: &[u64],
+    uppers: &[u64],
+    reads: &[u64],
+    writes: &[u64],
+    answers: &mut [u64],
+    out_comp: &mut [u64],
+    out_kind: &mut [u64],
+    out_type: &mut [u64],
+    work: &mut [u64],
+) -> Counts
+    requires { ⌜ Classes (now marks) t × Keeps (t .names) components (now variables) (now bounds) (now flows) (now uppers) (now reads) (now writes) × Roomy (length (now variables)) (lent (now answers) (now «out_comp») (now «out_kind») (now «out_type») (now work)) ⌝ }
+    ensures { λ r. ⌜ Solves (solve (worldOf (now (pairs .entry)) (now (marks .entry)) t) (problemOf components (now (variables .entry)) (now (bounds .entry)) (now (flows .entry)) (now (uppers .entry)) (now (reads .entry)) (now (writes .entry)))) (lent (now (answers .entry)) (now («out_comp» .entry)) (now («out_kind» .entry)) (now («out_type» .entry)) (now (work .entry))) (lent (now (answers .exit)) (now («out_comp» .exit)) (now («out_kind» .exit)) (now («out_type» .exit)) (now (work .exit))) r ⌝ }
+{
+    let c = solve_into(
+        pairs,
+        marks,
+        t,
+        components,
+        variables,
+        bounds,
+        flows,
+        uppers,
+        reads,
+        writes,
+        answers,
+        out_comp,
+        out_kind,
+        out_type,
+        &mut work[0..4096],
+    );
+    clear(work);
+    c
+}
