@@ -1,0 +1,2 @@
+-- The theorem that each contract allows one outcome.
+pub mod Unique
