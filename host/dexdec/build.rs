@@ -22,6 +22,9 @@ fn main() {
     let constraints = read(CONSTRAINTS);
     let items: Vec<&str> = ITEMS.iter().map(|head| item(&constraints, head)).collect();
     write("constraints.rs", &items.join("\n"));
+    // The one item that names sets, by itself: `limits` builds it again over sets that count.
+    let sets = "pub(super) struct NormalizedTypeConstraints {";
+    write("normalized.rs", item(&constraints, sets));
 
     let types = read(TYPES);
     let start = line_start(&types, "pub(super) struct SourceTypeLattice<'a> {");

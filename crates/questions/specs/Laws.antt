@@ -10,13 +10,13 @@ use lib.ListN.{length, replicate}
 use lib.Seq.{take-all}
 use borrow.Author.Tests.{eq-eqb, ne-eqb, lt-ltb, le-ltb, eqb-true, eqb-false, ltb-true}
 use Rattle.order.specs.Truth.{both}
-use Rattle.checks.specs.Checks.{firstRefusal, first-hit, first-miss}
+use Rattle.checks.specs.Checks.{check, firstRefusal, first-hit, first-miss}
 use Rattle.ty.specs.Words.{legalWord, typeOf, wordOf, Legal, allLegal}
 use Rattle.ty.specs.Round.{legal-more}
 use Rattle.view.specs.declared.Relation as declared
 use Rattle.view.specs.View.{View, relation, relationNumber, distance, numberOf, ancestors, supertype, cast}
 use Rattle.tables.specs.declared.Tables.{Tables}
-use Rattle.tables.specs.Table.{parentsOf, viewOf}
+use Rattle.tables.specs.Table.{marksRoom, parentsOf, viewOf}
 use Rattle.lattice.specs.Lattice.{World, join, isAssignable}
 use Rattle.lattice.specs.World.{present, worldWith, worldOf}
 use Rattle.rows.specs.declared.Outcome.{Outcome}
@@ -197,9 +197,17 @@ module _ (g : Given) (pairs pairs′ marks′ : List ℕ) (o : Outcome) (f : Fil
   unfolding worldIn viewIn worldBy
   world-filled = ap₂ worldBy view-filled (ap (λ (u : Outcome). u .tables) (f .outcome-is))
 
--- AN OPENED TABLE IS READY where nothing is refused
-module _ (g : Given) (types : Bool) (a b : ℕ) (pairs pairs′ marks′ : List ℕ) (o : Outcome) (f : Fills (checkedTable g) pairs pairs′ marks′ o) (r : Outcome)
-    (e : r .refusal ≡ firstRefusal (ranChecks (o .refusal) (o .tables) types (a ∷ b ∷ []))) (k : r .tables ≡ o .tables) where
+-- A BUILT TABLE that is not refused: even columns, rows that are taken, and slices that hold what these say
+pub record Stands (g : Given) (pairs marks : List ℕ) (t : Tables) : Type 0 where
+  pub even-is : even g ≡ true
+  pub rows-taken : tableRefusal g ≡ 0
+  pub view-is : viewOf pairs marks t ≡ rowsView (rowsIn g)
+  pub world-is : worldOf pairs marks t ≡ rowsWorld (rowsIn g)
+  pub wide : length marks ≡ marksRoom
+  pub few : t .names ≤ 1024
+  pub object-in : (t .object ≡ 2 ^ 64 - 1 → ⊥) → t .object < t .names
+
+module _ (g : Given) (pairs pairs′ marks′ : List ℕ) (o : Outcome) (f : Fills (checkedTable g) pairs pairs′ marks′ o) where
   is-even : o .refusal ≡ 0 → even g ≡ true
   is-even z = go (even g) refl
     where
@@ -207,21 +215,48 @@ module _ (g : Given) (types : Bool) (a b : ℕ) (pairs pairs′ marks′ : List 
       go true q = refl
       go false q = absurd (let w = sym (ap (λ (u : Ran). u .refusal) (checked-uneven g q)) ∙ sym (ap (λ (u : Outcome). u .refusal) (f .outcome-is)) ∙ z in omega arith)
 
-  ready : r .refusal ≡ 0 → Ready g types a b pairs′ marks′ (r .tables)
-  ready z =
-      let p = passed (o .refusal) (o .tables) types (a ∷ b ∷ []) (sym e ∙ z) in
-      let ev = is-even (p .taken) in
+  pub stands : o .refusal ≡ 0 → Stands g pairs′ marks′ (o .tables)
+  stands z =
+      let ev = is-even z in
       let t : Fills (table g) pairs pairs′ marks′ o = subst (λ (u : Ran). Fills u pairs pairs′ marks′ o) (checked-even g ev) f in
-      let taken : table g .refusal ≡ 0 = sym (ap (λ (u : Outcome). u .refusal) (t .outcome-is)) ∙ p .taken in
+      let taken : table g .refusal ≡ 0 = sym (ap (λ (u : Outcome). u .refusal) (t .outcome-is)) ∙ z in
       let good = good-in g in
       let same : o .tables ≡ table g .state .tables = ap (λ (u : Outcome). u .tables) (t .outcome-is) in
-      let few : o .tables .names ≤ 1024 = subst (λ (u : Tables). u .names ≤ 1024) (sym same) (good .few) in
-      let object-in : o .tables .object < o .tables .names = subst (λ (u : Tables). (u .object ≡ 2 ^ 64 - 1 → ⊥) → u .object < u .names) (sym same) (object-known g) (p .object-there) in
-      rw k (record {
+      record {
+        even-is = ev;
+        rows-taken = sym (table-refusal g) ∙ taken;
         view-is = view-filled g pairs pairs′ marks′ o t ∙ view-rows g ev taken;
         world-is = world-filled g pairs pairs′ marks′ o t ∙ world-rows g ev taken;
         wide = ap length (t .marks-are) ∙ good .wide;
-        fits = (few, object-in);
+        few = subst (λ (u : Tables). u .names ≤ 1024) (sym same) (good .few);
+        object-in = subst (λ (u : Tables). (u .object ≡ 2 ^ 64 - 1 → ⊥) → u .object < u .names) (sym same) (object-known g);
+      }
+
+  -- its refusal: of the columns, then of the rows
+  pub built-refusal : o .refusal ≡ firstRefusal (check (not (even g)) 3 ∷ check (not (eqb (tableRefusal g) 0)) (tableRefusal g) ∷ [])
+  unfolding firstRefusal
+  built-refusal = go (even g) refl (eqb (tableRefusal g) 0) refl
+    where
+      refusal-is : o .refusal ≡ checkedTable g .refusal
+      refusal-is = ap (λ (u : Outcome). u .refusal) (f .outcome-is)
+
+      go : (b : Bool) → even g ≡ b → (c : Bool) → eqb (tableRefusal g) 0 ≡ c → o .refusal ≡ cond (not b) 3 (cond (not c) (tableRefusal g) 0)
+      go false e c d = refusal-is ∙ ap (λ (u : Ran). u .refusal) (checked-uneven g e)
+      go true e false d = refusal-is ∙ ap (λ (u : Ran). u .refusal) (checked-even g e) ∙ table-refusal g
+      go true e true d = refusal-is ∙ ap (λ (u : Ran). u .refusal) (checked-even g e) ∙ table-refusal g ∙ eqb-true (tableRefusal g) 0 d
+
+-- AN OPENED TABLE IS READY where nothing is refused
+module _ (g : Given) (types : Bool) (a b : ℕ) (pairs pairs′ marks′ : List ℕ) (o : Outcome) (f : Fills (checkedTable g) pairs pairs′ marks′ o) (r : Outcome)
+    (e : r .refusal ≡ firstRefusal (ranChecks (o .refusal) (o .tables) types (a ∷ b ∷ []))) (k : r .tables ≡ o .tables) where
+  ready : r .refusal ≡ 0 → Ready g types a b pairs′ marks′ (r .tables)
+  ready z =
+      let p = passed (o .refusal) (o .tables) types (a ∷ b ∷ []) (sym e ∙ z) in
+      let s = stands g pairs pairs′ marks′ o f (p .taken) in
+      rw k (record {
+        view-is = s .view-is;
+        world-is = s .world-is;
+        wide = s .wide;
+        fits = (s .few, s .object-in (p .object-there));
         numbers-in = p .numbers-in;
       })
 

@@ -95,7 +95,7 @@ fn no_table() -> Outcome
 }
 
 // The table from columns of any length, into two slices without entries: 3, or what the rows come to.
-fn build_table(
+pub fn build_table(
     names: &[u8],
     name_at: &[u64],
     name_len: &[u64],

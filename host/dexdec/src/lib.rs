@@ -7,6 +7,6 @@
 
 pub mod ir;
 
-pub use ir::analysis::types::{hierarchy, lattice, source, turns, Kind, Problem, Row};
+pub use ir::analysis::types::{hierarchy, lattice, limits, source, turns, Kind, Problem, Row};
 pub use ir::analysis::SsaVar;
 pub use ir::{ArgType, DescriptorParseError, MethodDescriptor, PrimitiveType};

@@ -11,6 +11,8 @@ pub mod classes;
 pub mod paper;
 pub mod rng;
 pub mod rust;
+pub mod solve_cases;
+pub mod solves;
 pub mod stored;
 pub mod types;
 

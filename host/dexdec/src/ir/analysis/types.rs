@@ -8,6 +8,7 @@ use crate::ir::ArgType;
 mod constraints;
 pub mod hierarchy;
 pub mod lattice;
+pub mod limits;
 pub mod source;
 pub mod turns;
 
