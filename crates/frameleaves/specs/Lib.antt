@@ -2,3 +2,4 @@
 pub mod Own
 pub mod Kinds
 pub mod Classes
+pub mod Again

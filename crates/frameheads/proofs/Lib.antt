@@ -1,0 +1,2 @@
+-- That the contracts allow one result each.
+pub mod Unique
