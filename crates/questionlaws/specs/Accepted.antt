@@ -70,7 +70,7 @@ taken-by g types numbers room h =
     }
 
 -- the view of the rows is good
-good-rows : (g : Given) (e : even g ≡ true) (z : table g .refusal ≡ 0) → (rowsView (rowsIn g) .object ≡ 2 ^ 64 - 1 → ⊥) → Good (rowsView (rowsIn g))
+pub good-rows : (g : Given) (e : even g ≡ true) (z : table g .refusal ≡ 0) → (rowsView (rowsIn g) .object ≡ 2 ^ 64 - 1 → ⊥) → Good (rowsView (rowsIn g))
 unfolding viewIn
 good-rows g e z n =
     let same = view-rows g e z in

@@ -1,1 +1,1 @@
-// No code: what a solve over slices that is not refused means, in the words of the caller's rows, stands in specs/.
+// No code: what a solve over slices means, what it gives where it is not refused, and when it is refused stand in specs/.
