@@ -6,7 +6,8 @@
  * of the call. A compiler that knows the attribute warns of a null.
  *
  * Each function over a table comes in two forms. Its own takes every slice, up to twenty arguments. The one with _of
- * takes a struct of them, a BpNames or a BpClasses, and there a null with length 0 is an empty slice.
+ * takes a struct of them, a BpNames or a BpClasses, and there a null with length 0 is an empty slice, but for memory that
+ * is written.
  *
  * Whoever includes this header refers to bp_abi_1, so a program must be linked with an archive whose structs and
  * parameters are those below: one with others exports another number, and the linker says so.

@@ -22,8 +22,13 @@ pub struct Growth {
     pub series: Vec<Series>,
 }
 
-pub fn all(effort: Effort) -> [Growth; 3] {
-    [one_question(effort), pairs(effort), layers(effort)]
+pub fn all(effort: Effort) -> [Growth; 4] {
+    [
+        one_question(effort),
+        pairs(effort),
+        layers(effort),
+        threads(effort),
+    ]
 }
 
 fn growth<const N: usize>(
@@ -181,5 +186,53 @@ fn layers(effort: Effort) -> Growth {
         "names",
         ["Rust, caches warm", "wrapper"],
         points.to_vec(),
+    )
+}
+
+/// That many questions by each of so many threads.
+fn by_threads<T>(threads: usize, questions: usize, ask: impl Fn() -> T + Sync) {
+    std::thread::scope(|scope| {
+        for _ in 0..threads {
+            scope.spawn(|| {
+                for _ in 0..questions {
+                    black_box(&ask());
+                }
+            });
+        }
+    });
+}
+
+/// A relation over a table that threads share: what a thread waits for its answer, as they grow in number.
+fn threads(effort: Effort) -> Growth {
+    const QUESTIONS: usize = 200;
+    let classes = program(effort.sizes[0]);
+    let (mut index, table) = (index(&classes), table(&classes));
+    index.freeze_distances();
+    let [left, right] = ends(&classes);
+    let relations = Relations::of(&table);
+    let most = std::thread::available_parallelism().map_or(1, usize::from);
+    let counts = [1, 2, 4, 8, 16, 32].into_iter();
+    let counts = counts.filter(|count| *count == 1 || *count <= most);
+    let points = counts.map(|count| {
+        let rust = || index.subtype_relation(black_box(left), right);
+        let wrapper = || table.relation(black_box(left), right);
+        let kept = || relations.relation(black_box(left), right);
+        let calls: [&mut dyn FnMut(u64); 3] = [
+            &mut repeated(|| by_threads(count, QUESTIONS, rust)),
+            &mut repeated(|| by_threads(count, QUESTIONS, wrapper)),
+            &mut repeated(|| by_threads(count, QUESTIONS, kept)),
+        ];
+        let times = in_turns(effort, calls);
+        (
+            count,
+            times.map(|times| times.scaled(1.0 / QUESTIONS as f64)),
+        )
+    });
+    growth(
+        "threads",
+        "One relation by each thread, over a table that they share (their start included)",
+        "threads",
+        ["Rust, frozen", "wrapper", "Relations, asked before"],
+        points.collect(),
     )
 }

@@ -219,7 +219,7 @@ mod tests {
         write(Effort::LEAST, &folder).expect("a folder that can be written");
         let text = fs::read_to_string(folder.join("PERFORMANCE.md")).expect("the report");
         assert!(text.contains("24 names, all pairs"));
-        for name in ["names", "pairs", "layers"] {
+        for name in ["names", "pairs", "layers", "threads"] {
             let plot = folder.join("performance").join(name).with_extension("svg");
             assert!(fs::read_to_string(plot)
                 .expect("a plot")

@@ -55,11 +55,14 @@ impl Names {
     /// bytes; the error says which name.
     pub fn new<N: AsRef<[u8]>>(names: impl IntoIterator<Item = N>) -> Result<Self, TableError> {
         let table = Self::unchecked(names);
-        let checked = slices::check_table(table.without_records());
-        match checked.refusal {
-            // Names alone need no java/lang/Object.
-            0 | ffi::BP_REFUSED_NO_OBJECT => Ok(table),
-            _ => Err(TableError::of(checked, &table, &[])),
+        // No table holds the empty name, so a sound one says that it is absent. This costs less than the check of a
+        // class table, which has room for pairs to clear, and says which row is refused.
+        match slices::lookup(table.columns(), b"").refusal {
+            ffi::BP_REFUSED_ABSENT => Ok(table),
+            _ => {
+                let checked = slices::check_table(table.without_records());
+                Err(TableError::of(checked, &table, &[]))
+            }
         }
     }
 

@@ -59,7 +59,7 @@ fn joins_and_assignability() {
 }
 
 /// A problem over types of these classes, with links of every kind.
-fn any_problem(rng: &mut Rng, classes: &[String]) -> Problem {
+pub(crate) fn any_problem(rng: &mut Rng, classes: &[String]) -> Problem {
     let count = 2 + rng.below(6);
     let mut problem = Problem::of(count as u32);
     let root = |rng: &mut Rng| SsaVar(rng.below(count) as u32);

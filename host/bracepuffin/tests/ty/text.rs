@@ -153,3 +153,15 @@ fn names_are_borrowed_from_the_text() {
     let name = name.expect("a type").expect("a class");
     assert_eq!(name.as_ptr(), text[1..].as_ptr());
 }
+
+#[test]
+fn types_print_as_those_of_the_rust() {
+    let names = names();
+    for (ours, theirs) in types(&names) {
+        assert_eq!(ours.to_string(), theirs.to_string());
+    }
+    for (category, theirs) in PrimitiveType::ALL.into_iter().zip(words::CATEGORIES) {
+        let theirs = dexdec::ArgType::Primitive(theirs);
+        assert_eq!(category.name(), theirs.to_string());
+    }
+}
