@@ -87,7 +87,7 @@ pub record Asking (g : Given) (types : Bool) (a b room : ℕ) : Type 0 where
   pub rows : InDomain (rowsIn g)
   pub numbers : NumbersIn types (length (rowsIn g .names)) a b
 
-numbers-good : (types : Bool) (n a b : ℕ) → (goodNumbers types n (a ∷ b ∷ []) ≡ true) ↔ NumbersIn types n a b
+pub numbers-good : (types : Bool) (n a b : ℕ) → (goodNumbers types n (a ∷ b ∷ []) ≡ true) ↔ NumbersIn types n a b
 unfolding goodNumbers allBelow allLegal
 numbers-good false n a b = (are-classes n a b false refl, λ w. rw (lt-ltb a n (w .0), lt-ltb b n (w .1)))
 numbers-good true n a b = (are-types n a b true refl, λ w. rw (w .0, w .1))

@@ -3,3 +3,6 @@ pub mod Accepted
 pub mod Loops
 pub mod Refusals
 pub mod Examples
+pub mod FirstRow
+pub mod Checked
+pub mod CheckExamples

@@ -95,12 +95,14 @@ fn cut(
     )
 }
 
-// How many arguments the line at a place of the names has: a table `n`, a pair two, each other one; none past the names.
+// How many arguments the line at a place of the names has: a table and its check `n`, a pair two, each other one; none past
+// the names.
 fn arguments(place: usize, n: usize) -> usize {
     match place {
         0 => n,
         1 => 2,
         2..=4 => 1,
+        5 => n,
         _ => 0,
     }
 }

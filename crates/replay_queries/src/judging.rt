@@ -1,6 +1,7 @@
 // What is said over a table of eight columns, beside the answers recorded.
 use crate::asking;
 use bracepuffin::BpSet;
+use bracepuffin::BpTable;
 use replaying::answers;
 use replaying::answers::Verdict;
 use replaying::lists;
@@ -118,6 +119,11 @@ fn is_set(s: BpSet, r: &[u64]) -> Verdict {
     answers::judged(is_said && are_words(&s.words, &r[4..e]))
 }
 
+// Refusal, part and row.
+fn is_check(c: BpTable, r: &[u64]) -> Verdict {
+    answers::all(&[c.refusal, c.part, c.row], r)
+}
+
 // The verdict on the line at a place of the names: its first and last argument, and the answers recorded.
 pub(crate) fn judge(
     place: usize,
@@ -149,6 +155,19 @@ pub(crate) fn judge(
             work,
         );
         return is_set(s, r);
+    }
+    if place == 5 {
+        let c = bracepuffin::bp_check_table(
+            names,
+            name_at,
+            name_len,
+            rec_flags,
+            rec_class,
+            rec_at,
+            rec_len,
+            parents,
+        );
+        return is_check(c, r);
     }
     let is_said = are_said(
         place,

@@ -1,7 +1,8 @@
 // Replays recorded answers about class tables and about types over them: reads cases on standard input, one a line, calls
 // the functions of the boundary, and prints for each kind of line how many cases agree, and of how many. The crate
 // `replaying` says what a case looks like; the input's first lines say what each function's arguments and answers are. A
-// line `table` holds the table that the lines after it ask about, and the types that `join` and `assign` ask about.
+// line `table` holds the table that the lines after it ask about, and the types that `join` and `assign` ask about; a line
+// `t_check` holds the table that it asks about itself.
 mod asking;
 mod cutting;
 mod judging;
@@ -14,7 +15,7 @@ use replaying::text;
 ghost use Prim.Native.Nat.{_≤_};
 ghost use lib.ListN.{length};
 
-const NAMES: [u8; 32] = *b"table pair ancestors join assign";
+const NAMES: [u8; 40] = *b"table pair ancestors join assign t_check";
 
 // What a line came to: how many numbers the table has after it, the place of the line's name, and the verdict.
 struct Outcome {

@@ -86,6 +86,7 @@ const QUERIES: &[Function] = &[
     function("ancestors", "class = refusal count lowest and the list of words of the set of its ancestors, without the zeros at its end", "ancestor_names of ClassHierarchyIndex; rules for refusals", with_the_table),
     function("join", "w = refusal, and the join of w and each of the types of the last table", "TypeLattice::join over ClassHierarchyIndex; rules for refusals", joins::types),
     function("assign", "w = refusal, and whether w is assignable to each of the types of the last table", "TypeLattice::is_assignable over ClassHierarchyIndex; rules for refusals", with_the_table),
+    function("t_check", "as table = refusal part row: part 0 columns, 1 names, 2 records, 3 no java/lang/Object; row the first refused of names or records", "rules", tables::checks),
 ];
 
 /// For a function whose lines stand after those of the tables that they are about.

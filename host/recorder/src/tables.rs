@@ -160,8 +160,8 @@ pub(crate) fn damage(rng: &mut Rng, table: &mut Classes) {
     }
 }
 
-/// The table in a line, as the columns are lent, and the types that are asked about after it.
-pub(crate) fn table_case(out: &mut Out, table: &Classes, types: &[u64], room: usize) {
+/// The columns as they are lent, with the types that are asked about after them.
+fn columns(table: &Classes, types: &[u64], room: usize) -> Vec<String> {
     let mut arguments = vec![format!("{room:x}"), bytes(&table.names.store)];
     let columns = [
         &table.names.at,
@@ -176,6 +176,12 @@ pub(crate) fn table_case(out: &mut Out, table: &Classes, types: &[u64], room: us
     for column in columns {
         arguments.extend(numbers(&list(column.iter().copied())));
     }
+    arguments
+}
+
+/// The table in a line, and the types that are asked about after it.
+pub(crate) fn table_case(out: &mut Out, table: &Classes, types: &[u64], room: usize) {
+    let arguments = columns(table, types, room);
     let answer = match table.word_refusal(&[INT, INT], room) {
         0 => [0, INT],
         refusal => [refusal, 0],
@@ -328,4 +334,103 @@ fn without_object(rng: &mut Rng, out: &mut Out) {
     let asked = Asked::new(out, &none, WORK);
     asked.pair(out, 0, 0);
     asked.ancestors(out, 0);
+}
+
+// ---- tables alone
+
+/// A table in a line, and where it is refused.
+fn check_case(out: &mut Out, table: &Classes) {
+    let fits = out.tokens_if_short(&columns(table, &[], WORK), &numbers(&table.check()));
+    assert!(fits, "{table:?}");
+}
+
+/// Five names and six records, each with a parent.
+fn five() -> Classes {
+    let mut table = Classes::of(&names(5, 3));
+    for class in [0, 1, 2, 4, 3, 0] {
+        table.push(1, class, &[(class + 1) % 5]);
+    }
+    table
+}
+
+/// Copies with one fault each in a row of the names: 3 four times, 10, and 5 where there is a name before it.
+fn name_faults(table: &Classes, row: usize) -> Vec<Classes> {
+    let mut copies = vec![table.clone(); 5 + usize::from(row > 0)];
+    copies[0].names.len[row] = 0;
+    copies[1].names.len[row] = 256;
+    copies[2].names.len[row] = u64::MAX;
+    copies[3].names.at[row] = table.names.store.len() as u64;
+    copies[4].names.store[table.names.at[row] as usize] = 0xff;
+    if row > 0 {
+        copies[5].names.at[row] = table.names.at[row - 1];
+        copies[5].names.len[row] = table.names.len[row - 1];
+    }
+    copies
+}
+
+/// Copies with one fault each in a row of the records: 3 three times, 6 five times.
+fn record_faults(table: &Classes, row: usize) -> Vec<Classes> {
+    let count = table.names.at.len() as u64;
+    let mut copies = vec![table.clone(); 8];
+    copies[0].at[row] = table.parents.len() as u64;
+    copies[1].at[row] = u64::MAX;
+    copies[2].len[row] = u64::MAX;
+    copies[3].flags[row] = 2;
+    copies[4].flags[row] = 4;
+    copies[5].flags[row] = 8;
+    copies[6].class[row] = count;
+    copies[7].parents[table.at[row] as usize] = count;
+    copies
+}
+
+/// Sound tables; every fault in every row, alone and before or after another; random damage; no Object.
+pub fn checks(rng: &mut Rng, out: &mut Out) {
+    telling_tables()
+        .iter()
+        .for_each(|table| check_case(out, table));
+    let sound = five();
+    for row in 0..sound.names.at.len() {
+        for table in name_faults(&sound, row) {
+            check_case(out, &table);
+            record_faults(&table, row)
+                .iter()
+                .for_each(|table| check_case(out, table));
+        }
+    }
+    for row in 0..sound.flags.len() {
+        for table in record_faults(&sound, row) {
+            check_case(out, &table);
+            let later = (row + 1 + rng.below(5) as usize) % sound.flags.len();
+            record_faults(&table, later)
+                .iter()
+                .for_each(|table| check_case(out, table));
+        }
+    }
+    for (many, flags) in [(254, 1), (255, 1), (255, 8)] {
+        let mut table = sound.clone();
+        table.push(flags, 2, &vec![0; many]);
+        table.push(8, 2, &[]);
+        check_case(out, &table);
+    }
+    for number in 0..out.cases(200) {
+        let count = 1 + rng.below(6);
+        let mut table = match number % 2 {
+            0 => any_table(rng, count),
+            _ => layered_table(rng, count),
+        };
+        for _ in 0..rng.below(4) {
+            damage(rng, &mut table);
+        }
+        check_case(out, &table);
+    }
+    for names in [
+        &[][..],
+        &["a"],
+        &["a", "java/lang/Objec", "java/lang/Object0"],
+    ] {
+        let mut table = Classes::of(names);
+        check_case(out, &table);
+        table.push(1, 0, &[]);
+        check_case(out, &table);
+    }
 }
