@@ -1,6 +1,7 @@
 //! Class tables, and what is asked of them, by name.
 
 use std::cell::Cell;
+use std::collections::BTreeSet;
 use std::fmt;
 
 use crate::ffi::{self, BpAnswer};
@@ -155,6 +156,23 @@ impl ClassTable {
             self.len.push(part.len() as u64);
             self.parents.extend_from_slice(part);
         }
+    }
+
+    /// The same records over these names too, which the table does not have.
+    pub(crate) fn extended(&self, more: &BTreeSet<&str>) -> Result<Self, TableError> {
+        let names = Names::unchecked(self.names.iter().chain(more.iter().copied()));
+        let number = |class: &u64| {
+            let name = self.names.name_at(*class);
+            let found = name.and_then(|name| names.find(name));
+            found.expect("every name is among them")
+        };
+        let rows = (0..self.class.len()).map(|row| {
+            let (at, len) = (self.at[row] as usize, self.len[row] as usize);
+            let parents = self.parents[at..at + len].iter().map(number).collect();
+            (number(&self.class[row]), self.flags[row], parents)
+        });
+        let rows = rows.collect();
+        Self::new(names, rows)
     }
 
     /// The names of the table.

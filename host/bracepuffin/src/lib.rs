@@ -52,6 +52,7 @@ mod read;
 mod refusal;
 mod relations;
 pub mod slices;
+mod solving;
 mod type_queries;
 mod types;
 mod word;
@@ -70,5 +71,6 @@ pub use read::{
 };
 pub use refusal::Refusal;
 pub use relations::Relations;
+pub use solving::{ArrayConstraint, BoundKind, Solution, TypeConstraints};
 pub use types::{ArgType, Base, Categories, PrimitiveType};
 pub use word::{ClassNumber, TypeWord};

@@ -10,6 +10,7 @@ mod parts;
 #[path = "../shared/mod.rs"]
 #[allow(dead_code)]
 mod shared;
+mod solves;
 
 use bracepuffin::{ArgType, ClassTable, ClassTableBuilder, ReferenceTypeInfo, Relation, Relations};
 use dexdec::hierarchy::{self, ClassHierarchyIndex, SubtypeRelation, TypeHierarchy};
