@@ -230,8 +230,7 @@ module _ (g : Given) (c : Columns) (before after : Lent) (r : Counts) (fit : Wor
       let q = member-at b (y .table) m in
       let n = q .1 in
       let e = y .bounds-are in
-      let legal = rows-legal (w .names) (c .components) c (rows-allowed g c before (y .checked) fit .ranges) (equal .kinds) (equal .words) i h in
-      (
+      let legal = rows-legal (w .names) (c .components) c (rows-allowed g c before (y .checked) fit .ranges) (equal .kinds) (equal .words) i h in (
         q .0,
         omega arith,
         component-at (q .0) n ∙ q .2 (λ x. x .component),
@@ -244,8 +243,7 @@ module _ (g : Given) (c : Columns) (before after : Lent) (r : Counts) (fit : Wor
   legal-row j h =
       let n = within j h in
       let q = at-member (y .table) j n in
-      let b = legal-bound (q .0) (q .1) in
-      (
+      let b = legal-bound (q .0) (q .1) in (
         subst (λ (x : ℕ). x < c .components) (sym (component-at j n ∙ q .2 (λ x. x .component))) (b .component),
         subst (λ (x : ℕ). x < 5) (sym (kind-at j n ∙ q .2 (λ x. x .kind))) (b .kind),
         ap (legalWord (w .names)) (type-at j n ∙ q .2 (λ x. wordOf (x .type))) ∙ legal-of-type (w .names) (q .0 .type) wide (b .type),
