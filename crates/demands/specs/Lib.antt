@@ -11,3 +11,4 @@ pub mod Asked
 pub mod Classes
 pub mod Types
 pub mod NotRefused
+pub mod Solves
