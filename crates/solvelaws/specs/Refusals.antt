@@ -1,7 +1,7 @@
 -- WHEN A SOLVE OVER SLICES IS REFUSED, WITH WHICH NUMBER, AND WHAT IT THEN LEAVES: the first check of its list that holds, else what the run
 -- stops with; 22 exactly if a slice is too short, 20 and 21 exactly if no check holds and the run stops with them; in the domain no other.
 -- Assumes nothing.
-use mathlib.Core.Path.{_≡_, refl, sym, ap, _∙_, subst}
+use mathlib.Core.Path.{_≡_, refl, sym, ap, _∙_}
 use mathlib.Core.Bool.{Bool, true, false, cond, not, _&&_, _||_, false≢true}
 use mathlib.Core.List.{List, [], _∷_, _++_}
 use mathlib.Core.Logic.{_⊎_, inl, inr, ⊎-elim, _↔_}
@@ -10,11 +10,10 @@ use native.Mathlib.Omega.{arith}
 use native.Mathlib.Decide.{ℕ-discrete}
 use lib.Dec.{eqb, leb, ltb}
 use lib.ListN.{length, take, drop, replicate}
-use borrow.Author.Tests.{eq-eqb, ne-eqb, lt-ltb, le-ltb, eqb-true, eqb-false, ltb-true, ltb-false}
+use borrow.Author.Tests.{eq-eqb, ne-eqb, lt-ltb, ltb-true}
 use Rattle.order.specs.Compare.{compareLists, isLess}
-use Rattle.order.specs.Truth.{and-both}
 use Rattle.utf8.specs.Utf8.{wellFormed}
-use Rattle.checks.specs.Checks.{Check, check, firstRefusal, orElse, else-none, else-some, FirstOf, first-of}
+use Rattle.checks.specs.Checks.{check, firstRefusal, orElse, else-none, else-some, FirstOf, first-of}
 use Rattle.names.specs.Names.{placeGood, nameOf, nameChecks, checkRow, checkRows}
 use Rattle.rows.specs.Rows.{goodFlags, allBelow}
 use Rattle.columns.specs.Columns.{inside}
@@ -33,7 +32,7 @@ use Rattle.problems.specs.Held.{Words}
 use Rattle.problems.specs.Plain.{plainProblem}
 use Rattle.problems.specs.Exact.{Allowed, allowed-taken, taken-allowed}
 use Rattle.solver.specs.Solver as solver
-use Rattle.solves.specs.SolveResult.{Lent, Roomy, countsOf, answersAfter, componentsAfter, kindsAfter, typesAfter}
+use Rattle.solves.specs.SolveResult.{Lent, countsOf, answersAfter, componentsAfter, kindsAfter, typesAfter}
 use Rattle.solvedoor.specs.SolveDoor.{tooShort, problemOver, solveChecks, solveRefusal, solveIn, solveWork, SolvesIn}
 use Rattle.solvelaws.specs.Plainly.{opened, solve-plain}
 use Rattle.solvelaws.specs.Gives.{Equal, equal-lengths}
