@@ -12,3 +12,4 @@ pub mod Classes
 pub mod Types
 pub mod NotRefused
 pub mod CheckTable
+pub mod Solves

@@ -1,9 +1,9 @@
 -- WHAT A SOLVE OVER SLICES THAT IS NOT REFUSED GIVES, in terms of what came back and of the caller's columns, row by row: every given row is
 -- among the final rows; these ascend strictly and no rule gives a bound that is not among them; an answer is all ones or a concrete type; and
 -- along a chain of rows it fits what is asked at the end. Assumes nothing.
-use mathlib.Core.Path.{_≡_, refl, sym, ap, ap₂, _∙_, subst}
-use mathlib.Core.Bool.{Bool, true, false, cond, _&&_}
-use mathlib.Core.List.{List, [], _∷_, _++_, map, List·Memᴰ}
+use mathlib.Core.Path.{_≡_, refl, sym, ap, _∙_, subst}
+use mathlib.Core.Bool.{Bool, true, false, cond}
+use mathlib.Core.List.{List, map, List·Memᴰ}
 use mathlib.Core.Logic.{_⊎_, inl, inr, ⊎-elim}
 use mathlib.Core.Option.{Option, some, none}
 use Prim.Native.Nat.{ℕ, _+_, _-_, _^_, _≤_, _<_}
@@ -11,7 +11,7 @@ use native.Mathlib.Omega.{arith}
 use lib.Dec.{eqb}
 use lib.ListN.{length, length-map, take, drop, getD, List·getD-append}
 use lib.Seq.{drop-append-seam}
-use borrow.Author.Tests.{eqb-true, eqb-false}
+use borrow.Author.Tests.{eqb-true}
 use Rattle.order.specs.Truth.{both}
 use Rattle.ty.specs.Types.{ArgType, isConcrete}
 use Rattle.ty.specs.Words.{legalWord, typeOf, wordOf}

@@ -1,6 +1,6 @@
 -- AN ANSWER OF resolve_state IS A LEGAL TYPE where the state's types are, over a lawful world: so an answer's word stands for it. Assumes
 -- nothing.
-use mathlib.Core.Path.{_≡_, refl, sym, ap, _∙_, subst}
+use mathlib.Core.Path.{_≡_, refl, sym, ap, subst}
 use mathlib.Core.Bool.{Bool, true, false, cond}
 use mathlib.Core.List.{List, [], _∷_, List·Memᴰ, List·Memᴰ·head, List·Memᴰ·tail, List·Memᴰ·not-nil}
 use mathlib.Core.Logic.{⊎-elim}
@@ -9,12 +9,12 @@ use Prim.Native.Nat.{ℕ}
 use native.Mathlib.Omega.{arith}
 use Rattle.ty.specs.Types.{ArgType, isConcrete, concreteHint, compare}
 use Rattle.ty.specs.Words.{legalType}
-use Rattle.lattice.specs.Lattice.{World, Lawful, isAssignable, producerBoundCompatible, joinAll, mostSpecificUpper}
+use Rattle.lattice.specs.Lattice.{World, Lawful, joinAll, mostSpecificUpper}
 use Rattle.lattice.specs.Legality.{joinAll-legal, hint-legal, specific-legal}
 use Rattle.solving.specs.OrderedLaws.{insert-only}
 use Rattle.solving.specs.Chains.{types-only}
 use Rattle.solving.specs.Tidy.{LegalBound, LegalState, produced-legal}
-use Rattle.solving.specs.Solving.{Bound, bound, Table, typesOf, TypeState, stateOf, producedType, orElse, onlyConcrete, Cause, Tried, Answer, Because, firstFailing, domainCause, judged, tried, evidenceFits, upperCandidate, evidenceCast, fallbackJoin, hintOf, hintsOf, onlyOne, domainHint, ways, firstAnswer, resolveState, Domain, Fallback, Upper, Lower, Exact}
+use Rattle.solving.specs.Solving.{Bound, bound, Table, typesOf, TypeState, stateOf, producedType, onlyConcrete, Cause, Tried, Answer, Because, judged, tried, evidenceFits, upperCandidate, evidenceCast, fallbackJoin, hintOf, hintsOf, onlyOne, domainHint, ways, firstAnswer, resolveState, Domain, Fallback, Upper, Lower, Exact}
 
 -- ---- what answers is the candidate
 
