@@ -32,6 +32,8 @@ use Rattle.bracepuffin.proofs.bp_join.Reads as bp-join-reads
 use Rattle.bracepuffin.proofs.bp_join.Kinds as bp-join-kinds
 use Rattle.bracepuffin.proofs.bp_assignable.Reads as bp-assignable-reads
 use Rattle.bracepuffin.proofs.bp_assignable.Kinds as bp-assignable-kinds
+use Rattle.bracepuffin.proofs.bp_solve.Reads as bp-solve-reads
+use Rattle.bracepuffin.proofs.bp_solve.Kinds as bp-solve-kinds
 
 pub bp-read-type-one : (κs : Lfts 1) (a : Dens κs bp-read-type-kinds.ps) (r₁ r₂ : resT bp-read-type-kinds.r κs .Denot) (x₁ x₂ : AtExit (endedOf 1 bp-read-type-kinds.ps bp-read-type-kinds.r) κs)
     → bp-read-type-reads.Post κs a r₁ x₁ → bp-read-type-reads.Post κs a r₂ x₂ → r₁ ≡ r₂
@@ -88,3 +90,17 @@ bp-join-one κs a r₁ r₂ x₁ x₂ p q = (p .0 ∙ sym (q .0), p .1 ∙ sym (
 pub bp-assignable-one : (κs : Lfts 9) (a : Dens κs bp-assignable-kinds.ps) (r₁ r₂ : resT bp-assignable-kinds.r κs .Denot) (x₁ x₂ : AtExit (endedOf 9 bp-assignable-kinds.ps bp-assignable-kinds.r) κs)
     → bp-assignable-reads.Post κs a r₁ x₁ → bp-assignable-reads.Post κs a r₂ x₂ → (r₁ ≡ r₂) × (now (x₁ .1 .1 .1 .1 .1 .1 .1 .1 .1 .1 .0) ≡ now (x₂ .1 .1 .1 .1 .1 .1 .1 .1 .1 .1 .0))
 bp-assignable-one κs a r₁ r₂ x₁ x₂ p q = (p .0 ∙ sym (q .0), p .1 ∙ sym (q .1))
+
+-- the last five parameters of twenty-six are lent
+pub bp-solve-one : (κs : Lfts 25) (a : Dens κs bp-solve-kinds.ps) (r₁ r₂ : resT bp-solve-kinds.r κs .Denot) (x₁ x₂ : AtExit (endedOf 25 bp-solve-kinds.ps bp-solve-kinds.r) κs)
+    → bp-solve-reads.Post κs a r₁ x₁ → bp-solve-reads.Post κs a r₂ x₂
+    → (r₁ ≡ r₂)
+    × (now (x₁ .1 .1 .1 .1 .1 .1 .1 .1 .1 .1 .1 .1 .1 .1 .1 .1 .1 .1 .1 .1 .1 .0) ≡ now (x₂ .1 .1 .1 .1 .1 .1 .1 .1 .1 .1 .1 .1 .1 .1 .1 .1 .1 .1 .1 .1 .1 .0))
+    × (now (x₁ .1 .1 .1 .1 .1 .1 .1 .1 .1 .1 .1 .1 .1 .1 .1 .1 .1 .1 .1 .1 .1 .1 .0) ≡ now (x₂ .1 .1 .1 .1 .1 .1 .1 .1 .1 .1 .1 .1 .1 .1 .1 .1 .1 .1 .1 .1 .1 .1 .0))
+    × (now (x₁ .1 .1 .1 .1 .1 .1 .1 .1 .1 .1 .1 .1 .1 .1 .1 .1 .1 .1 .1 .1 .1 .1 .1 .0) ≡ now (x₂ .1 .1 .1 .1 .1 .1 .1 .1 .1 .1 .1 .1 .1 .1 .1 .1 .1 .1 .1 .1 .1 .1 .1 .0))
+    × (now (x₁ .1 .1 .1 .1 .1 .1 .1 .1 .1 .1 .1 .1 .1 .1 .1 .1 .1 .1 .1 .1 .1 .1 .1 .1 .0) ≡ now (x₂ .1 .1 .1 .1 .1 .1 .1 .1 .1 .1 .1 .1 .1 .1 .1 .1 .1 .1 .1 .1 .1 .1 .1 .1 .0))
+    × (now (x₁ .1 .1 .1 .1 .1 .1 .1 .1 .1 .1 .1 .1 .1 .1 .1 .1 .1 .1 .1 .1 .1 .1 .1 .1 .1 .0) ≡ now (x₂ .1 .1 .1 .1 .1 .1 .1 .1 .1 .1 .1 .1 .1 .1 .1 .1 .1 .1 .1 .1 .1 .1 .1 .1 .1 .0))
+bp-solve-one κs a r₁ r₂ x₁ x₂ p q =
+    let m = p .1 in
+    let n = q .1 in
+    (p .0 ∙ sym (q .0), m .answers ∙ sym (n .answers), m .components ∙ sym (n .components), m .kinds ∙ sym (n .kinds), m .types ∙ sym (n .types), m .work ∙ sym (n .work))

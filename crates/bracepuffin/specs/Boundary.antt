@@ -23,6 +23,10 @@ use Rattle.questions.specs.declared.Question.the-variants.{Relation, Distance, 
 use Rattle.questions.specs.declared.Answer.{Answer}
 use Rattle.questions.specs.declared.Ancestors.{Ancestors}
 use Rattle.questions.specs.Questions.{questionRefusal, ancestorsRefusal, answered, gathered}
+use Rattle.solving.specs.declared.Counts.{Counts}
+use Rattle.problems.specs.Problems.{Columns}
+use Rattle.solves.specs.SolveResult.{Lent, countsOf}
+use Rattle.solvedoor.specs.SolveDoor.{solveIn}
 use Rattle.bracepuffin.specs.declared.BpType.{BpType}
 use Rattle.bracepuffin.specs.declared.BpMethod.{BpMethod}
 use Rattle.bracepuffin.specs.declared.BpWritten.{BpWritten}
@@ -30,6 +34,7 @@ use Rattle.bracepuffin.specs.declared.BpFound.{BpFound}
 use Rattle.bracepuffin.specs.declared.BpRelation.{BpRelation}
 use Rattle.bracepuffin.specs.declared.BpAnswer.{BpAnswer}
 use Rattle.bracepuffin.specs.declared.BpSet.{BpSet}
+use Rattle.bracepuffin.specs.declared.BpSolved.{BpSolved}
 
 -- tag 0 a primitive by its category, tag 1 a class by the place of its name
 abbrev pub typeFound : ℕ → Base → BpType
@@ -110,3 +115,11 @@ joinTold g left right room =
 unfoldable pub assignableTold : Given → ℕ → ℕ → ℕ → BpAnswer
 assignableTold g value expected room =
     numberAnswer (answered (questionRefusal g Assignable value expected room) (cond (isAssignable (rowsWorld (rowsIn g)) (typeOf value) (typeOf expected)) 1 0))
+
+-- ---- a solve, of the rows that the columns hold
+
+abbrev pub solvedAnswer : Counts → BpSolved
+solvedAnswer c = record { refusal = c .refusal; bounds = c .bounds; turns = c .turns }
+
+unfoldable pub solvedTold : Given → Columns → Lent → BpSolved
+solvedTold g c lent = solvedAnswer (countsOf (solveIn g c lent))

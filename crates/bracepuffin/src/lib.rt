@@ -13,6 +13,8 @@ use questions::Answer;
 use questions::Question;
 use questions::ancestors_of;
 use questions::ask;
+use solvedoor::solve_slices;
+use solving::Counts;
 use writer::Written;
 use writer::write_method;
 use writer::write_type;
@@ -24,7 +26,10 @@ ghost use Rattle.methods.specs.Answers.{methodOf, paramsAfter};
 ghost use Rattle.names.specs.Names.{lookUp};
 ghost use Rattle.columns.specs.Given.{given};
 ghost use Rattle.questions.specs.Questions.{workAfter};
-ghost use Rattle.bracepuffin.specs.Boundary.{typeFound, typeAnswer, methodResult, bpMethod, foundAnswer, writtenAnswer, WroteType, WroteMethod, relationAnswer, numberAnswer, setAnswer, relationTold, distanceTold, ancestorsTold, supertypeTold, castTold, joinTold, assignableTold};
+ghost use Rattle.problemcolumns.specs.ProblemColumns.{columnsIn};
+ghost use Rattle.solves.specs.SolveResult.{lent};
+ghost use Rattle.solvedoor.specs.SolveDoor.{Leaves};
+ghost use Rattle.bracepuffin.specs.Boundary.{typeFound, typeAnswer, methodResult, bpMethod, foundAnswer, writtenAnswer, WroteType, WroteMethod, relationAnswer, numberAnswer, setAnswer, relationTold, distanceTold, ancestorsTold, supertypeTold, castTold, joinTold, assignableTold, solvedAnswer, solvedTold};
 
 #[repr(C)]
 pub struct BpType {
@@ -82,6 +87,13 @@ pub struct BpSet {
     pub count: u64,
     pub lowest: u64,
     pub words: [u64; 16],
+}
+
+#[repr(C)]
+pub struct BpSolved {
+    pub refusal: u64,
+    pub bounds: u64,
+    pub turns: u64,
 }
 
 // ---- descriptors, read
@@ -519,4 +531,77 @@ pub extern "C" fn bp_assignable(
         work,
     );
     number_answer(a)
+}
+
+fn solved_answer(c: Counts) -> BpSolved
+    ensures { λ r. ⌜ r ≡ solvedAnswer c ⌝ }
+{
+    BpSolved {
+        refusal: c.refusal,
+        bounds: c.bounds,
+        turns: c.turns,
+    }
+}
+
+#[no_mangle]
+pub extern "C" fn bp_solve(
+    names: &[u8],
+    name_at: &[u64],
+    name_len: &[u64],
+    rec_flags: &[u64],
+    rec_class: &[u64],
+    rec_at: &[u64],
+    rec_len: &[u64],
+    parents: &[u64],
+    components: u64,
+    var_comp: &[u64],
+    bnd_comp: &[u64],
+    bnd_kind: &[u64],
+    bnd_type: &[u64],
+    flow_src: &[u64],
+    flow_dst: &[u64],
+    up_src: &[u64],
+    up_dst: &[u64],
+    read_arr: &[u64],
+    read_res: &[u64],
+    write_arr: &[u64],
+    write_val: &[u64],
+    answers: &mut [u64],
+    out_comp: &mut [u64],
+    out_kind: &mut [u64],
+    out_type: &mut [u64],
+    work: &mut [u64],
+) -> BpSolved
+    ensures { λ r. ⌜ r ≡ solvedTold (given (now (names .entry)) (now («name_at» .entry)) (now («name_len» .entry)) (now («rec_flags» .entry)) (now («rec_class» .entry)) (now («rec_at» .entry)) (now («rec_len» .entry)) (now (parents .entry))) (columnsIn components (now («var_comp» .entry)) (now («bnd_comp» .entry)) (now («bnd_kind» .entry)) (now («bnd_type» .entry)) (now («flow_src» .entry)) (now («flow_dst» .entry)) (now («up_src» .entry)) (now («up_dst» .entry)) (now («read_arr» .entry)) (now («read_res» .entry)) (now («write_arr» .entry)) (now («write_val» .entry))) (lent (now (answers .entry)) (now («out_comp» .entry)) (now («out_kind» .entry)) (now («out_type» .entry)) (now (work .entry))) ⌝ }
+    ensures { λ _. ⌜ Leaves (given (now (names .entry)) (now («name_at» .entry)) (now («name_len» .entry)) (now («rec_flags» .entry)) (now («rec_class» .entry)) (now («rec_at» .entry)) (now («rec_len» .entry)) (now (parents .entry))) (columnsIn components (now («var_comp» .entry)) (now («bnd_comp» .entry)) (now («bnd_kind» .entry)) (now («bnd_type» .entry)) (now («flow_src» .entry)) (now («flow_dst» .entry)) (now («up_src» .entry)) (now («up_dst» .entry)) (now («read_arr» .entry)) (now («read_res» .entry)) (now («write_arr» .entry)) (now («write_val» .entry))) (lent (now (answers .entry)) (now («out_comp» .entry)) (now («out_kind» .entry)) (now («out_type» .entry)) (now (work .entry))) (lent (now (answers .exit)) (now («out_comp» .exit)) (now («out_kind» .exit)) (now («out_type» .exit)) (now (work .exit))) ⌝ }
+{
+    let c = solve_slices(
+        names,
+        name_at,
+        name_len,
+        rec_flags,
+        rec_class,
+        rec_at,
+        rec_len,
+        parents,
+        components,
+        var_comp,
+        bnd_comp,
+        bnd_kind,
+        bnd_type,
+        flow_src,
+        flow_dst,
+        up_src,
+        up_dst,
+        read_arr,
+        read_res,
+        write_arr,
+        write_val,
+        answers,
+        out_comp,
+        out_kind,
+        out_type,
+        work,
+    );
+    solved_answer(c)
 }

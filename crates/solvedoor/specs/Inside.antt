@@ -5,21 +5,41 @@ use mathlib.Core.Bool.{Bool, true, cond, not, _||_}
 use mathlib.Core.List.{List, [], _∷_}
 use Prim.Native.Nat.{ℕ, _-_, _^_, _≤_, _<_}
 use lib.Dec.{eqb, ltb}
-use lib.ListN.{length}
+use lib.ListN.{length, take}
 use Rattle.checks.specs.Checks.{Check, check, firstRefusal}
 use Rattle.tables.specs.declared.Tables.{Tables}
 use Rattle.tables.specs.Table.{marksRoom}
 use Rattle.lattice.specs.Lattice.{World}
 use Rattle.columns.specs.Given.{Given}
 use Rattle.tableview.specs.TableRows.{rowsWorld, rowsIn}
-use Rattle.solving.specs.Solving.{Solution, Unsolved, solve}
-use Rattle.problems.specs.Problems.{Columns, evenProblem, problem}
+use Rattle.solving.specs.Solving.{Problem, Solution, Unsolved, solve}
+use Rattle.problems.specs.Problems.{Columns, problem}
+use Rattle.problems.specs.Kept.{problemOf, Keeps}
+use Rattle.problemcolumns.specs.declared.ProblemCounts.{ProblemCounts}
 use Rattle.solvedoor.specs.SolveDoor.{problemOver, solveChecks}
 
 -- `tooShort`, of the lengths
 unfoldable pub shortLengths : ℕ → ℕ → ℕ → ℕ → ℕ → ℕ → Bool
 shortLengths variables answers components kinds types work =
     ltb answers variables || (ltb components 4096 || (ltb kinds 4096 || (ltb types 4096 || ltb work 8192)))
+
+-- the front of a slice, as a part that begins at 0 holds it
+abbrev pub front : ℕ → List ℕ → List ℕ
+front n l = take (n - 0) l
+
+-- so many entries stand in the slices
+abbrev pub Fronts : ProblemCounts → List ℕ → List ℕ → List ℕ → List ℕ → List ℕ → Type 0
+Fronts n bounds flows uppers reads writes =
+    (n .bounds ≤ length bounds) × (n .flows ≤ length flows) × (n .uppers ≤ length uppers) × (n .reads ≤ length reads) × (n .writes ≤ length writes)
+
+-- the problem that these keep
+abbrev pub problemFront : ℕ → List ℕ → ProblemCounts → List ℕ → List ℕ → List ℕ → List ℕ → List ℕ → Problem
+problemFront components variables n bounds flows uppers reads writes =
+    problemOf components variables (front (n .bounds) bounds) (front (n .flows) flows) (front (n .uppers) uppers) (front (n .reads) reads) (front (n .writes) writes)
+
+abbrev pub KeepsFront : ℕ → ℕ → List ℕ → ProblemCounts → List ℕ → List ℕ → List ℕ → List ℕ → List ℕ → Type 0
+KeepsFront names components variables n bounds flows uppers reads writes =
+    Keeps names components variables (front (n .bounds) bounds) (front (n .flows) flows) (front (n .uppers) uppers) (front (n .reads) reads) (front (n .writes) writes)
 
 -- the solve of slices that are long enough
 unfoldable pub solveOf : Given → Columns → Solution

@@ -1,7 +1,7 @@
 -- Laws of a solve over slices, as the code meets them: which check refuses, and that a solve over the slices that were built is the one that
 -- is promised. Assumes nothing.
 use mathlib.Core.Path.{_≡_, refl, sym, ap, ap₂, _∙_, subst}
-use mathlib.Core.Bool.{Bool, true, false, cond, not, _||_}
+use mathlib.Core.Bool.{Bool, true, false, cond, not, _||_, false≢true}
 use mathlib.Core.List.{List, [], _∷_}
 use Prim.Native.Nat.{ℕ, _-_, _^_, _≤_, _<_}
 use native.Mathlib.Omega.{arith}
@@ -22,11 +22,13 @@ use Rattle.tableview.specs.RowRefusals.{tableRefusal}
 use Rattle.solving.specs.declared.Counts.{Counts}
 use Rattle.solving.specs.Solving.{Problem, Solution, Unsolved, Solved, solve}
 use Rattle.problems.specs.Problems.{Columns, evenProblem, problem}
+use Rattle.problemcolumns.specs.declared.ProblemCounts.{ProblemCounts}
+use Rattle.problemcolumns.specs.ProblemColumns.{Taken}
 use Rattle.solver.specs.Solver.{counted}
-use Rattle.solves.specs.SolveResult.{Lent, lent, Roomy, countsOf, answersAfter, columnAfter, componentsAfter, kindsAfter, typesAfter, Solves}
+use Rattle.solves.specs.SolveResult.{Lent, lent, Roomy, countsOf, answersAfter, componentsAfter, kindsAfter, typesAfter, Solves}
 use Rattle.questions.specs.Laws.{Stands, stands, built-refusal}
 use Rattle.solvedoor.specs.SolveDoor.{tooShort, problemOver, solveChecks, solveRefusal, solveIn, solveWork, SolvesIn}
-use Rattle.solvedoor.specs.Inside.{shortLengths, solveOf, rowsChecks, solveRows}
+use Rattle.solvedoor.specs.Inside.{shortLengths, problemFront, KeepsFront, solveOf, rowsChecks, solveRows}
 
 -- ---- slices that are too short
 
@@ -54,11 +56,13 @@ module _ (v a c k t w : ℕ) where
         unfolding shortLengths
         short-work l = rw (le-ltb a v h, le-ltb c 4096 i, le-ltb k 4096 j, le-ltb t 4096 l)
 
+pub lengths-are : (c : Columns) (l : Lent)
+    → tooShort c l ≡ shortLengths (length (c .variables)) (length (l .answers)) (length (l .components)) (length (l .kinds)) (length (l .types)) (length (l .work))
+unfolding tooShort shortLengths
+lengths-are c l = refl
+
 neither : (a b : Bool) → (a || b) ≡ false → (a ≡ false) × (b ≡ false)
-neither true b h = (h, absurd (one-zero h))
-  where
-    one-zero : true ≡ false → ⊥
-    one-zero e = subst (λ (x : Bool). cond x ⊤ ⊥) e tt
+neither true b h = absurd (false≢true (sym h))
 neither false b h = (refl, h)
 
 -- WHAT IS NOT TOO SHORT HAS ROOM
@@ -81,7 +85,7 @@ roomy c l h =
 
 module _ (a oc ok ot w w′ : List ℕ) (r : Counts) (k : ℕ) (e : r ≡ counted k 0 0) (z : w′ ≡ replicate (length w) 0) where
   unsolved : Solves (Unsolved k) (lent a oc ok ot w) (lent a oc ok ot w′) r
-  unfolding countsOf answersAfter columnAfter componentsAfter kindsAfter typesAfter
+  unfolding countsOf answersAfter componentsAfter kindsAfter typesAfter
   unsolved = record { counts = e; answers = refl; components = refl; kinds = refl; types = refl; work = z }
 
   -- by a check
@@ -117,9 +121,25 @@ module _ (t : Tables) (c : Columns) (k : ℕ) (e : k ≡ problem (t .names) c .r
   rows-none z n = rw (← e, z, ne-eqb (t .object) (2 ^ 64 - 1) n)
 
   -- THE SOLVE OF WHAT THE ROWS HAVE MADE
-  pub rows-solve : (world : World) (p : Problem) → k ≡ 0 → (t .object ≡ 2 ^ 64 - 1 → ⊥) → p ≡ problem (t .names) c .problem → solve world p ≡ solveRows world t c
+  rows-solve : (world : World) (p : Problem) → k ≡ 0 → (t .object ≡ 2 ^ 64 - 1 → ⊥) → p ≡ problem (t .names) c .problem → solve world p ≡ solveRows world t c
   unfolding solveRows
   rows-solve world p z n q = rw (rows-none z n) (ap (solve world) q)
+
+  pub rows-solved : (world : World) (p : Problem) → k ≡ 0 → (t .object ≡ 2 ^ 64 - 1 → ⊥) → p ≡ problem (t .names) c .problem
+      → (before after : Lent) (r : Counts) → Solves (solve world p) before after r → Solves (solveRows world t c) before after r
+  rows-solved world p z n q before after r d = subst (λ (x : Solution). Solves x before after r) (rows-solve world p z n q) d
+
+-- the parts that are lent keep the problem
+minus-none : (n : ℕ) → n - 0 ≡ n
+minus-none n = omega arith
+
+module _ (names : ℕ) (c : Columns) (bounds bounds′ flows flows′ uppers uppers′ reads reads′ writes writes′ : List ℕ) (r : ProblemCounts)
+    (t : Taken names c bounds bounds′ flows flows′ uppers uppers′ reads reads′ writes writes′ r) (z : r .refusal ≡ 0) where
+  pub parts-keep : KeepsFront names (c .components) (c .variables) r bounds′ flows′ uppers′ reads′ writes′
+  parts-keep = rw (minus-none (r .bounds), minus-none (r .flows), minus-none (r .uppers), minus-none (r .reads), minus-none (r .writes)) (t .keeps z)
+
+  pub parts-are : problemFront (c .components) (c .variables) r bounds′ flows′ uppers′ reads′ writes′ ≡ problem names c .problem
+  parts-are = rw (minus-none (r .bounds), minus-none (r .flows), minus-none (r .uppers), minus-none (r .reads), minus-none (r .writes)) (t .problem-is z)
 
 -- ---- over the table that was built
 
@@ -133,7 +153,7 @@ module _ (g : Given) (c : Columns) (even-c : evenProblem c ≡ true) (pairs pair
 
       go : (b : Bool) → even g ≡ b → (d : Bool) → eqb (tableRefusal g) 0 ≡ d → firstRefusal (solveChecks g c) ≡ o .refusal
       go false x d y = rw (is, x)
-      go true x false y = rw (is, x, even-c, y, y)
+      go true x false y = rw (is, x, even-c, y)
       go true x true y = absurd (n (is ∙ ap₂ (λ (p q : Bool). cond (not p) 3 (cond (not q) (tableRefusal g) 0)) x y))
 
   module _ (z : o .refusal ≡ 0) where
@@ -151,17 +171,35 @@ module _ (g : Given) (c : Columns) (even-c : evenProblem c ≡ true) (pairs pair
     checks-are = rw (s .even-is, even-c, s .rows-taken, names-are, object-is)
 
     -- A SOLVE FROM THERE ON IS THE SOLVE OF THE COLUMNS
-    pub table-solve : solveRows (worldOf pairs′ marks′ (o .tables)) (o .tables) c ≡ solveOf g c
+    table-solve : solveRows (worldOf pairs′ marks′ (o .tables)) (o .tables) c ≡ solveOf g c
     unfolding solveRows solveOf problemOver
     table-solve = rw (checks-are, s .world-is, names-are)
+
+    pub table-solved : (before after : Lent) (r : Counts) → Solves (solveRows (worldOf pairs′ marks′ (o .tables)) (o .tables) c) before after r → Solves (solveOf g c) before after r
+    table-solved before after r d = subst (λ (x : Solution). Solves x before after r) table-solve d
 
 -- ---- the whole
 
 module _ (g : Given) (c : Columns) (l : Lent) where
   -- a slice is too short: nothing is touched
+  short-is : tooShort c l ≡ true → solveIn g c l ≡ Unsolved 22
+  unfolding solveIn solveRefusal firstRefusal
+  short-is h = rw h
+
   pub door-short : (r : Counts) → tooShort c l ≡ true → r ≡ counted 22 0 0 → SolvesIn g c l l r
-  unfolding solveIn solveRefusal firstRefusal solveWork countsOf answersAfter columnAfter componentsAfter kindsAfter typesAfter
-  door-short r h e = rw h (record { counts = e; answers = refl; components = refl; kinds = refl; types = refl; work = refl })
+  unfolding solveWork countsOf answersAfter componentsAfter kindsAfter typesAfter
+  door-short r h e =
+      let s = sym (short-is h) in
+      record {
+        counts = e ∙ ap countsOf s;
+        memory = record {
+          answers = ap (λ (x : Solution). answersAfter x (l .answers)) s;
+          components = ap (λ (x : Solution). componentsAfter x (l .components)) s;
+          kinds = ap (λ (x : Solution). kindsAfter x (l .kinds)) s;
+          types = ap (λ (x : Solution). typesAfter x (l .types)) s;
+          work = sym (ap (λ (b : Bool). cond b (l .work) (replicate (length (l .work)) 0)) h);
+        };
+      }
 
   long-is : tooShort c l ≡ false → solveIn g c l ≡ solveOf g c
   unfolding solveIn solveOf solveRefusal firstRefusal
@@ -169,4 +207,15 @@ module _ (g : Given) (c : Columns) (l : Lent) where
 
   pub door-long : (l′ : Lent) (r : Counts) → tooShort c l ≡ false → Solves (solveOf g c) l l′ r → SolvesIn g c l l′ r
   unfolding solveWork
-  door-long l′ r h s = rw (long-is h, h) (record { counts = s .counts; answers = s .answers; components = s .components; kinds = s .kinds; types = s .types; work = s .work })
+  door-long l′ r h d =
+      let e = sym (long-is h) in
+      record {
+        counts = d .counts ∙ ap countsOf e;
+        memory = record {
+          answers = d .answers ∙ ap (λ (x : Solution). answersAfter x (l .answers)) e;
+          components = d .components ∙ ap (λ (x : Solution). componentsAfter x (l .components)) e;
+          kinds = d .kinds ∙ ap (λ (x : Solution). kindsAfter x (l .kinds)) e;
+          types = d .types ∙ ap (λ (x : Solution). typesAfter x (l .types)) e;
+          work = d .work ∙ sym (ap (λ (b : Bool). cond b (l .work) (replicate (length (l .work)) 0)) h);
+        };
+      }

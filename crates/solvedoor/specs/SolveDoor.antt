@@ -47,12 +47,15 @@ solveIn g c l = cond (eqb (solveRefusal g c l) 0) (solve (rowsWorld (rowsIn g)) 
 unfoldable pub solveWork : Columns → Lent → List ℕ
 solveWork c l = cond (tooShort c l) (l .work) (replicate (length (l .work)) 0)
 
--- WHAT IS PROMISED of the result and of each lent slice: a refused solve is its number and zeros and leaves answers and columns; another
--- fills their front and leaves the rest
-pub record SolvesIn (g : Given) (c : Columns) (before after : Lent) (r : Counts) : Type 0 where
-  pub counts : r ≡ countsOf (solveIn g c before)
+-- what stands in each lent slice at exit: a refused solve leaves answers and columns, another fills their front and leaves the rest
+pub record Leaves (g : Given) (c : Columns) (before after : Lent) : Type 0 where
   pub answers : after .answers ≡ answersAfter (solveIn g c before) (before .answers)
   pub components : after .components ≡ componentsAfter (solveIn g c before) (before .components)
   pub kinds : after .kinds ≡ kindsAfter (solveIn g c before) (before .kinds)
   pub types : after .types ≡ typesAfter (solveIn g c before) (before .types)
   pub work : after .work ≡ solveWork c before
+
+-- WHAT IS PROMISED of the result, a refusal and zeros or how many bounds and turns there were, and of the slices
+pub record SolvesIn (g : Given) (c : Columns) (before after : Lent) (r : Counts) : Type 0 where
+  pub counts : r ≡ countsOf (solveIn g c before)
+  pub memory : Leaves g c before after

@@ -1,6 +1,7 @@
 // A solve over slices: no slice too short, columns of equal length, the class table and then the problem built from their columns in local
 // arrays, java/lang/Object among the names, and the solve. Only the solve writes answers and columns, and only where it is not refused.
 use clearing::clear;
+use problemcolumns::ProblemCounts;
 use problemcolumns::build_problem;
 use problemcolumns::is_even_problem;
 use questions::build_table;
@@ -15,16 +16,19 @@ ghost use lib.ListN.{length, replicate};
 ghost use Rattle.tables.specs.Table.{pairsRoom};
 ghost use Rattle.lattice.specs.World.{worldOf};
 ghost use Rattle.columns.specs.Given.{given, noMarks};
+ghost use Rattle.solving.specs.Solving.{solve};
 ghost use Rattle.problems.specs.Problems.{evenProblem};
 ghost use Rattle.problemcolumns.specs.ProblemColumns.{columnsIn};
 ghost use Rattle.problemcolumns.specs.ProblemColumns as slices;
+ghost use Rattle.resolving.specs.Bounds.{Classes};
 ghost use Rattle.solver.specs.Solver.{counted};
 ghost use Rattle.solves.specs.SolveResult.{lent, Roomy, Solves};
 ghost use Rattle.solvedoor.specs.SolveDoor.{SolvesIn};
-ghost use Rattle.solvedoor.specs.Inside.{shortLengths, solveOf, solveRows, Built};
+ghost use Rattle.solvedoor.specs.Inside.{shortLengths, Fronts, KeepsFront, problemFront, solveOf, solveRows, Built};
 
 // The least length of a column of final bounds, and of the work.
 const BOUNDS: usize = 4096;
+
 const ROOM: usize = 8192;
 
 // Whether a lent slice is too short.
@@ -70,6 +74,52 @@ fn refuse(code: u64, work: &mut [u64]) -> Counts
 {
     clear(work);
     refused(code)
+}
+
+// The solve of the problem that the fronts of slices keep.
+fn solve_kept(
+    pairs: &[u64],
+    marks: &[u64],
+    t: Tables,
+    components: u64,
+    var_comp: &[u64],
+    bounds: &[u64],
+    flows: &[u64],
+    uppers: &[u64],
+    reads: &[u64],
+    writes: &[u64],
+    n: ProblemCounts,
+    answers: &mut [u64],
+    out_comp: &mut [u64],
+    out_kind: &mut [u64],
+    out_type: &mut [u64],
+    work: &mut [u64],
+) -> Counts
+    requires { ⌜ Classes (now marks) t × Fronts n (now bounds) (now flows) (now uppers) (now reads) (now writes) × KeepsFront (t .names) components (now «var_comp») n (now bounds) (now flows) (now uppers) (now reads) (now writes) × Roomy (length (now «var_comp»)) (lent (now answers) (now «out_comp») (now «out_kind») (now «out_type») (now work)) ⌝ }
+    ensures { λ r. ⌜ Solves (solve (worldOf (now (pairs .entry)) (now (marks .entry)) t) (problemFront components (now («var_comp» .entry)) n (now (bounds .entry)) (now (flows .entry)) (now (uppers .entry)) (now (reads .entry)) (now (writes .entry)))) (lent (now (answers .entry)) (now («out_comp» .entry)) (now («out_kind» .entry)) (now («out_type» .entry)) (now (work .entry))) (lent (now (answers .exit)) (now («out_comp» .exit)) (now («out_kind» .exit)) (now («out_type» .exit)) (now (work .exit))) r ⌝ }
+{
+    let b = n.bounds;
+    let f = n.flows;
+    let u = n.uppers;
+    let r = n.reads;
+    let w = n.writes;
+    solve_problem(
+        pairs,
+        marks,
+        t,
+        components,
+        var_comp,
+        &bounds[0..b],
+        &flows[0..f],
+        &uppers[0..u],
+        &reads[0..r],
+        &writes[0..w],
+        answers,
+        out_comp,
+        out_kind,
+        out_type,
+        work,
+    )
 }
 
 // The solve over a table that was built, in slices with room for every problem.
@@ -125,23 +175,26 @@ fn solve_rows(
         reads,
         writes,
     );
-    if n.refusal != 0 {
-        return refuse(n.refusal, work);
+    let refusal = n.refusal;
+    if refusal != 0 {
+        return refuse(refusal, work);
     }
-    if t.object == u64::MAX {
+    let object = t.object;
+    if object == u64::MAX {
         return refuse(9, work);
     }
-    solve_problem(
+    solve_kept(
         pairs,
         marks,
         t,
         components,
         var_comp,
-        &bounds[0..n.bounds],
-        &flows[0..n.flows],
-        &uppers[0..n.uppers],
-        &reads[0..n.reads],
-        &writes[0..n.writes],
+        bounds,
+        flows,
+        uppers,
+        reads,
+        writes,
+        n,
         answers,
         out_comp,
         out_kind,
