@@ -90,7 +90,7 @@ fn every_line_keeps_the_format() {
             .all(|line| line.starts_with('#') || line.len() < MAX_BYTES));
         assert!(text.ends_with('\n') && text.is_ascii());
         // The programs have room for 1,048,576 bytes.
-        assert!(text.len() <= 1_000_000, "{}", file.name);
+        assert!(text.len() <= 800_000, "{}", file.name);
     }
 }
 
