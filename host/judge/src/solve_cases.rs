@@ -240,7 +240,7 @@ pub fn telling_problems() -> Vec<(&'static str, Columns)> {
 }
 
 /// A type over that many names: a few per problem, so that bounds meet.
-fn any_type(rng: &mut Rng, names: u64) -> u64 {
+pub fn any_type(rng: &mut Rng, names: u64) -> u64 {
     let base = match rng.below(8) {
         0 => rng.below(11),
         1 => *rng.pick(&[BOOLEAN, INT, 6, 8]),
@@ -323,7 +323,7 @@ pub fn any_problem(rng: &mut Rng, names: u64, most: u64) -> Columns {
 
 /// An array of about 255 dimensions, and one write or read of it as the only link. A cycle would take its elements apart one
 /// by one, each turn of which asks every pair of upper bounds: lattice.rs needs minutes for that.
-fn make_deep(rng: &mut Rng, columns: &mut Columns) {
+pub fn make_deep(rng: &mut Rng, columns: &mut Columns) {
     let component = rng.below(columns.components);
     let other = (component + 1) % columns.components;
     let deep = array(253 + rng.below(3), *rng.pick(&[INT, class(0)]));

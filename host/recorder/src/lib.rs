@@ -7,6 +7,7 @@ mod descriptors;
 mod joins;
 pub mod out;
 mod sets;
+mod solves;
 mod sorted;
 mod tables;
 mod types;
@@ -89,11 +90,41 @@ const QUERIES: &[Function] = &[
     function("t_check", "as table = refusal part row: part 0 columns, 1 names, 2 records, 3 no java/lang/Object; row the first refused of names or records", "rules", tables::checks),
 ];
 
+const AS_SOLVE: &str = "as solve";
+const LATTICE: &str = "lattice.rs; the point of that number in docs/DECISIONS.md";
+
+#[rustfmt::skip]
+const SOLVES: &[Function] = &[
+    function("table", "names rec_flags rec_class rec_at rec_len parents = as solve, for a problem without components", "rules", solves::telling),
+    function("o52", AS_SOLVE, LATTICE, with_the_table),
+    function("o53", AS_SOLVE, LATTICE, with_the_table),
+    function("o54", AS_SOLVE, LATTICE, with_the_table),
+    function("o55", AS_SOLVE, LATTICE, with_the_table),
+    function("o56", AS_SOLVE, LATTICE, with_the_table),
+    function("o57", AS_SOLVE, LATTICE, with_the_table),
+    function("o58", AS_SOLVE, LATTICE, with_the_table),
+    function("o59", AS_SOLVE, LATTICE, with_the_table),
+    function("o60", AS_SOLVE, LATTICE, with_the_table),
+    function("o61", AS_SOLVE, LATTICE, with_the_table),
+    function("o62", AS_SOLVE, LATTICE, with_the_table),
+    function("o63", AS_SOLVE, LATTICE, with_the_table),
+    function("o64", AS_SOLVE, LATTICE, with_the_table),
+    function("o65", AS_SOLVE, LATTICE, with_the_table),
+    function("o67", AS_SOLVE, LATTICE, with_the_table),
+    function("o68", AS_SOLVE, LATTICE, with_the_table),
+    function("o69", AS_SOLVE, LATTICE, with_the_table),
+    function("o70", AS_SOLVE, LATTICE, with_the_table),
+    function("o71", AS_SOLVE, LATTICE, with_the_table),
+    function("solve", "room components variables bounds flows upper_flows reads writes = refusal turns, the list of answers, three lists of final bounds, over the last table", "solve and propagate of lattice.rs over ClassHierarchyIndex, and its turns; rules for refusals", solves::random),
+    function("fault", AS_SOLVE, "rules for refusals; else as solve", solves::faults),
+    function("limit", AS_SOLVE, "rules for 8, 20 and 21; else as solve", solves::limits),
+];
+
 /// For a function whose lines stand after those of the tables that they are about.
 fn with_the_table(_: &mut Rng, _: &mut Out) {}
 
 /// Every file that can be recorded.
-pub static FILES: [File; 3] = [
+pub static FILES: [File; 4] = [
     File {
         name: "leaves",
         about: "\
@@ -128,6 +159,20 @@ pub static FILES: [File; 3] = [
             # pass the limits (8) are too long for a line; the tests of host/bracepuffin have them.\n",
         most_tokens: 1600,
         functions: QUERIES,
+    },
+    File {
+        name: "solves",
+        about: "\
+            # Numbers are lower-case hex without leading zeros. A list: the length, then the members. names and records\n\
+            # as in the vectors of queries. room: how many entries are lent for the answers, for each of three columns of\n\
+            # final bounds, and how many working words. variables: the list of their components. bounds: three lists, an\n\
+            # entry each a row: component, kind (0 Domain, 1 Fallback, 2 Upper, 3 Lower, 4 Exact), word. flows and\n\
+            # upper_flows: lists of sources and of targets; reads: of arrays and results; writes: of arrays and values. A\n\
+            # table holds until the next one. A refused answer has its number, then zeros. ffffffffffffffff: no type.\n\
+            # rules: those of the scope paper, written apart in host/judge/src/solves.rs. Problems with too many rows (8),\n\
+            # and those with thousands of final bounds, are too long for a line; the tests of host/bracepuffin have them.\n",
+        most_tokens: 1600,
+        functions: SOLVES,
     },
 ];
 

@@ -1,4 +1,4 @@
-//! `recorder leaves|descriptors|queries SEED [SIZE [PATH]]` writes test vectors to a file or to standard output.
+//! `recorder leaves|descriptors|queries|solves SEED [SIZE [PATH]]` writes test vectors to a file or to standard output.
 
 use std::io::Write;
 use std::process::ExitCode;
@@ -9,7 +9,7 @@ use recorder::{File, FILES};
 fn main() -> ExitCode {
     let arguments: Vec<String> = env::args().skip(1).collect();
     let Some((file, seed, size, path)) = read(&arguments) else {
-        eprintln!("usage: recorder leaves|descriptors|queries SEED [SIZE [PATH]]");
+        eprintln!("usage: recorder leaves|descriptors|queries|solves SEED [SIZE [PATH]]");
         return ExitCode::from(2);
     };
     let text = recorder::record(file, seed, size);

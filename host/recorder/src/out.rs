@@ -48,6 +48,11 @@ impl Out {
         assert!(fits, "{name} {arguments:x?}");
     }
 
+    /// Writes one case of a function of that name unless it would make too long a line.
+    pub fn case_if_short(&mut self, name: &str, arguments: &[u64], answer: &[u64]) {
+        self.tokens_of(name, &numbers(arguments), &numbers(answer));
+    }
+
     /// Writes one case of tokens unless it would make too long a line; whether it fits.
     pub fn tokens_if_short(&mut self, arguments: &[String], answer: &[String]) -> bool {
         self.tokens_of(self.name, arguments, answer)

@@ -2,7 +2,7 @@
 
 use std::collections::{BTreeMap, BTreeSet};
 
-use judge::stored::{DESCRIPTORS, LEAVES, QUERIES};
+use judge::stored::{DESCRIPTORS, LEAVES, QUERIES, SOLVES};
 use recorder::out::{bytes, MAX_BYTES};
 use recorder::{record, File, FILES};
 
@@ -101,7 +101,7 @@ fn functions_are_grouped_in_the_order_of_the_table() {
         let listed = Vec::from_iter(file.functions.iter().map(|function| function.name));
         match file.name {
             // What is asked about a table stands after it.
-            "queries" => assert!(names.iter().all(|name| listed.contains(name))),
+            "queries" | "solves" => assert!(names.iter().all(|name| listed.contains(name))),
             _ => {
                 names.dedup();
                 assert_eq!(names, listed);
@@ -127,6 +127,9 @@ fn every_function_has_hundreds_of_cases_and_no_rare_answer() {
         // All pairs of types stand in one line, and there are fewer tables than questions about them.
         shares.remove("pairs");
         shares.remove("table");
+        // The points of a solve have a line or two each, and long lines pass its limits.
+        shares.remove("limit");
+        shares.retain(|name, _| !is_point(name));
         for (name, shares) in shares {
             assert!(shares.values().sum::<usize>() >= 390, "{name}");
             assert!(shares.len() >= 2, "{name}");
@@ -137,6 +140,63 @@ fn every_function_has_hundreds_of_cases_and_no_rare_answer() {
             );
         }
     }
+}
+
+/// o52, a point that a solve decides.
+fn is_point(name: &str) -> bool {
+    name.strip_prefix('o')
+        .is_some_and(|number| number.parse::<u64>().is_ok())
+}
+
+/// The lists from the start of some numbers on.
+fn lists(mut numbers: &[u64]) -> Vec<Vec<u64>> {
+    let mut lists = Vec::new();
+    while let Some((length, rest)) = numbers.split_first() {
+        let (list, rest) = rest.split_at(*length as usize);
+        lists.push(list.to_vec());
+        numbers = rest;
+    }
+    lists
+}
+
+/// Every refusal of a solve, every point, every kind of link, bounds that were added, and variables without a type.
+#[test]
+fn every_answer_to_a_solve_occurs() {
+    let mut refusals = BTreeMap::<u64, usize>::new();
+    let mut points = BTreeSet::new();
+    let (mut links, mut added, mut missing, mut turned) = ([0; 4], 0, 0, 0);
+    for (name, arguments, answer) in cases(SOLVES).filter(|(name, ..)| *name != "table") {
+        let (arguments, answer) = (numbers(arguments), numbers(answer));
+        let (given, found) = (lists(&arguments[6..]), lists(&answer[2..]));
+        assert_eq!((given.len(), found.len()), (12, 4));
+        *refusals.entry(answer[0]).or_default() += 1;
+        if is_point(name) {
+            points.insert(name);
+        }
+        if answer[0] != 0 {
+            assert!(answer[1..].iter().all(|number| *number == 0));
+            continue;
+        }
+        for (met, link) in links.iter_mut().zip(given[4..].chunks(2)) {
+            *met += link[0].len();
+        }
+        let rows: BTreeSet<_> = (0..given[1].len())
+            .map(|row| (given[1][row], given[2][row], given[3][row]))
+            .collect();
+        added += found[1].len() - rows.len();
+        missing += found[0].iter().filter(|word| **word == u64::MAX).count();
+        turned += usize::from(answer[1] > arguments[5]);
+    }
+    assert_eq!(points.len(), 19);
+    let expected = [0, 3, 5, 6, 7, 8, 9, 10, 20, 21, 22];
+    assert_eq!(Vec::from_iter(refusals.keys().copied()), expected);
+    // What is wrong with a table's names is told by the vectors of queries.
+    refusals.remove(&5);
+    assert!(refusals.values().all(|share| *share >= 5), "{refusals:?}");
+    assert!(links.iter().all(|met| *met >= 500), "{links:?}");
+    assert!(added >= 5000 && missing >= 500, "{added} {missing}");
+    // Components that wait again.
+    assert!(turned >= 500, "{turned}");
 }
 
 /// What is told apart about tables, each many times.
@@ -350,6 +410,11 @@ fn telling_lines_are_there() {
         "table 2000 x6a6176612f6c616e672f4f626a656374 1 0 1 10 0 0 0 0 0 0 = 0 5",
         "pair 0 0 = 0 0 0 0 1",
         "ancestors 0 = 0 1 0 1 1",
+        // A write of 255 dimensions is 20; of two Domain bounds the one type, or none
+        "o63 2 1000 1000 1000 2000 2 2 0 1 1 0 1 4 1 ff00000000000005 0 0 0 0 0 0 1 1 1 0 = 14 0 0 0 0 0",
+        "o59 1 1000 1000 1000 2000 1 1 0 2 0 0 2 0 0 2 5 2150000000000 0 0 0 0 0 0 0 0 = 0 1 1 5 2 0 0 2 0 0 2 5 2150000000000",
+        "o59 1 1000 1000 1000 2000 1 1 0 2 0 0 2 0 0 2 5 1 0 0 0 0 0 0 0 0 = 0 1 1 ffffffffffffffff 2 0 0 2 0 0 2 1 5",
+        "limit 0 1000 1000 1000 2000 201 0 0 0 0 0 0 0 0 0 0 0 0 = 8 0 0 0 0 0",
     ];
     for line in expected {
         assert!(lines.contains(line), "{line}");

@@ -1,36 +1,99 @@
-//! Random problems over random tables, sound and damaged.
+//! Random problems over random tables: a few components, many, long chains and cycles, sound and damaged.
 
 use std::collections::BTreeMap;
 
 use judge::class_cases::{any_classes, damage_classes, layered_classes};
 use judge::rng::Rng;
-use judge::solve_cases::{any_problem, damage_problem};
+use judge::solve_cases::{any_problem, array, class, damage_problem, BOOLEAN, INT};
+use judge::solves::Columns;
 
-use crate::agrees;
-use crate::shared::cases;
+use crate::{agree, agree_over, cases, POISON};
 
 #[test]
-fn random_problems_agree() {
-    let mut rng = Rng::new(1, "random solves");
-    let mut met = BTreeMap::<u64, u64>::new();
-    for number in 0..cases(4_000) {
-        let mut table = match number % 3 {
+fn small_problems() {
+    let mut rng = Rng::new(1, "small problems");
+    let mut added = 0;
+    for number in 0..cases(6_000) {
+        let classes = match number % 3 {
             0 => layered_classes(&mut rng, 12, 5),
             _ => any_classes(&mut rng, 8),
         };
-        let names = table.names.at.len() as u64;
-        let most = if number % 16 == 0 { 12 } else { 5 };
-        let mut problem = any_problem(&mut rng, names, most);
-        if number % 4 == 3 {
-            (0..1 + rng.below(2)).for_each(|_| damage_problem(&mut rng, &mut problem));
+        let names = classes.names.at.len() as u64;
+        let most = if number % 8 == 0 { 12 } else { 5 };
+        let problem = any_problem(&mut rng, names, most);
+        let solved = agree(&classes, &problem);
+        added += solved.bounds.len().saturating_sub(problem.bounds[0].len());
+    }
+    assert!(added as u64 >= cases(6_000), "{added}");
+}
+
+#[test]
+fn larger_problems() {
+    let mut rng = Rng::new(1, "larger problems");
+    for number in 0..cases(300) {
+        let classes = match number % 2 {
+            0 => layered_classes(&mut rng, 40, 10),
+            _ => any_classes(&mut rng, 40),
+        };
+        let names = classes.names.at.len() as u64;
+        agree(&classes, &any_problem(&mut rng, names, 60));
+    }
+}
+
+/// Each component flows to the next, the last to the first: what is known goes round.
+#[test]
+fn long_cycles() {
+    let mut rng = Rng::new(1, "long cycles");
+    for _ in 0..cases(12) {
+        let classes = layered_classes(&mut rng, 30, 6);
+        let components = 2 + rng.below(100);
+        let next = |component: u64| (component + 1) % components;
+        let mut problem = Columns::of(components);
+        let round = [
+            (0..components).collect(),
+            (0..components).map(next).collect(),
+        ];
+        match rng.below(2) {
+            0 => problem.flows = round,
+            _ => problem.upper_flows = round,
         }
-        if number % 16 == 5 {
-            damage_classes(&mut rng, &mut table);
+        for _ in 0..1 + rng.below(6) {
+            let base = match rng.below(4) {
+                0 => INT,
+                1 => BOOLEAN,
+                _ => class(rng.below(30)),
+            };
+            let word = array(rng.below(2), base);
+            problem.bound(rng.below(components), rng.below(5), word);
         }
-        let solved = agrees(&table, &problem, problem.least());
+        agree(&classes, &problem);
+    }
+}
+
+#[test]
+fn damaged_problems() {
+    let mut rng = Rng::new(1, "damaged problems");
+    let mut met = BTreeMap::<u64, u64>::new();
+    for number in 0..cases(4_000) {
+        let mut classes = any_classes(&mut rng, 6);
+        let names = classes.names.at.len() as u64;
+        let mut problem = any_problem(&mut rng, names, 5);
+        (0..1 + rng.below(2)).for_each(|_| damage_problem(&mut rng, &mut problem));
+        if number % 3 == 0 {
+            damage_classes(&mut rng, &mut classes);
+        }
+        let mut lent = problem.least();
+        if number % 8 == 0 {
+            lent.columns[rng.below(3) as usize] -= 1;
+        }
+        let solved = agree_over(&classes, &problem, lent, POISON);
         *met.entry(solved.refusal).or_default() += 1;
     }
-    for refusal in [0, 3, 6, 7, 8, 20] {
-        assert!(met.contains_key(&refusal), "{refusal}: {met:?}");
+    if cases(4_000) >= 1_000 {
+        let every = [0, 3, 6, 7, 8, 10, 22];
+        assert!(
+            every.iter().all(|refusal| met.contains_key(refusal)),
+            "{met:?}"
+        );
     }
 }

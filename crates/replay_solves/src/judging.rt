@@ -1,0 +1,191 @@
+// What a solve left in lent slices, beside what was recorded. They were full of a pattern.
+use crate::cutting;
+use bracepuffin::BpSolved;
+use replaying::answers;
+use replaying::answers::MISSING;
+use replaying::answers::Verdict;
+use replaying::lists;
+
+const PATTERN: u64 = 0xa5a5a5a5a5a5a5a5;
+
+// The member of a list at i, or what stands after it.
+fn member(list: &[u64], i: usize, after: u64) -> u64 {
+    if i < list.len() {
+        return list[i];
+    }
+    after
+}
+
+// Whether a slice begins with a list, and holds one number after it.
+fn is_list_then(slice: &[u64], list: &[u64], after: u64) -> bool {
+    if slice.len() < list.len() {
+        return false;
+    }
+    let mut i: usize = 0;
+    while i < slice.len() {
+        if slice[i] != member(list, i, after) {
+            return false;
+        }
+        i += 1;
+    }
+    true
+}
+
+// What all of the work is after a solve with that refusal: the pattern where nothing was touched.
+fn work_after(refusal: u64) -> u64 {
+    if refusal == 22 {
+        return PATTERN;
+    }
+    0
+}
+
+// Whether the columns of final bounds hold the three lists of r, and the result says how many rows there are.
+fn are_bounds(
+    bounds: u64,
+    r: &[u64],
+    out_comp: &[u64],
+    out_kind: &[u64],
+    out_type: &[u64],
+) -> Verdict {
+    let a = lists::end(r, 0);
+    if a == 0 {
+        return Verdict::Unread;
+    }
+    let b = lists::end(r, a);
+    if b <= a {
+        return Verdict::Unread;
+    }
+    let c = lists::end_before(r, b, 0);
+    if c <= b {
+        return Verdict::Unread;
+    }
+    let are_first = bounds == r[0] && is_list_then(out_comp, &r[1..a], PATTERN);
+    let are_others = is_list_then(out_kind, &r[a + 1..b], PATTERN)
+        && is_list_then(out_type, &r[b + 1..c], PATTERN);
+    answers::judged(are_first && are_others)
+}
+
+// Whether the working slice, of which the first `room` words were lent, is as a solve with that refusal leaves it.
+fn is_work(work: &[u64], room: usize, refusal: u64) -> bool {
+    if work.len() < room {
+        return false;
+    }
+    is_list_then(&work[0..room], &work[0..0], work_after(refusal))
+        && is_list_then(&work[room..], &work[0..0], PATTERN)
+}
+
+// The verdict on a result and what the slices hold: refusal, turns, the answers, the final bounds.
+fn judge(
+    s: BpSolved,
+    r: &[u64],
+    answers: &[u64],
+    out_comp: &[u64],
+    out_kind: &[u64],
+    out_type: &[u64],
+) -> Verdict {
+    if s.refusal == MISSING {
+        return Verdict::Unread;
+    }
+    let a = lists::end(r, 2);
+    if a <= 2 {
+        return Verdict::Unread;
+    }
+    if r[0] != s.refusal || r[1] != s.turns {
+        return Verdict::Differs;
+    }
+    if is_list_then(answers, &r[3..a], PATTERN) {
+        return are_bounds(s.bounds, &r[a..], out_comp, out_kind, out_type);
+    }
+    Verdict::Differs
+}
+
+// The solve of a problem into the first entries of these slices: their five lengths, then the problem.
+fn solve(
+    t: &[u64],
+    store: &[u8],
+    q: &[u64],
+    answers: &mut [u64],
+    out_comp: &mut [u64],
+    out_kind: &mut [u64],
+    out_type: &mut [u64],
+    work: &mut [u64],
+) -> BpSolved {
+    if q.len() < 6 {
+        return cutting::unread();
+    }
+    let a = q[0] as usize;
+    let b = q[1] as usize;
+    let c = q[2] as usize;
+    let d = q[3] as usize;
+    let e = q[4] as usize;
+    if answers.len() < a {
+        return cutting::unread();
+    }
+    if out_comp.len() < b {
+        return cutting::unread();
+    }
+    if out_kind.len() < c {
+        return cutting::unread();
+    }
+    if out_type.len() < d {
+        return cutting::unread();
+    }
+    if work.len() < e {
+        return cutting::unread();
+    }
+    cutting::solve(
+        t,
+        store,
+        q[5],
+        &q[6..],
+        &mut answers[0..a],
+        &mut out_comp[0..b],
+        &mut out_kind[0..c],
+        &mut out_type[0..d],
+        &mut work[0..e],
+    )
+}
+
+// The verdict on a solve into slices that are full of the pattern.
+fn into(
+    t: &[u64],
+    store: &[u8],
+    q: &[u64],
+    r: &[u64],
+    answers: &mut [u64],
+    out_comp: &mut [u64],
+    out_kind: &mut [u64],
+    out_type: &mut [u64],
+    work: &mut [u64],
+) -> Verdict {
+    if q.len() < 6 {
+        return Verdict::Unread;
+    }
+    let room = q[4] as usize;
+    let s = solve(t, store, q, answers, out_comp, out_kind, out_type, work);
+    let verdict = judge(s, r, answers, out_comp, out_kind, out_type);
+    if is_work(work, room, s.refusal) {
+        return verdict;
+    }
+    Verdict::Differs
+}
+
+// The verdict on a problem over a table: five lengths of lent slices, the problem, and what was recorded.
+pub(crate) fn over(t: &[u64], store: &[u8], q: &[u64], r: &[u64]) -> Verdict {
+    let mut answers = [PATTERN; 64];
+    let mut out_comp = [PATTERN; 4100];
+    let mut out_kind = [PATTERN; 4100];
+    let mut out_type = [PATTERN; 4100];
+    let mut work = [PATTERN; 8200];
+    into(
+        t,
+        store,
+        q,
+        r,
+        &mut answers,
+        &mut out_comp,
+        &mut out_kind,
+        &mut out_type,
+        &mut work,
+    )
+}
