@@ -1,4 +1,4 @@
-//! The header compiles as C and as C++ and names the refusals as `Refusal` does, and the worked call from C prints what
+//! The header compiles as C and as C++ and names the refusals as `Refusal` does, and the worked calls from C print what
 //! the manual says. A machine without a compiler fails these tests: `.ci/host-env` installs one.
 
 use std::path::{Path, PathBuf};
@@ -174,17 +174,39 @@ fn the_header_names_no_other_refusal() {
     assert_eq!(header.lines().filter(named).count(), REFUSALS.len());
 }
 
-#[test]
-fn the_worked_call() {
+/// What an example in C prints.
+fn printed(example: &str) -> String {
     let compiler = compiler(&["cc", "gcc", "x86_64-linux-gnu-gcc"], "x86_64");
-    let program = Path::new(env!("CARGO_TARGET_TMPDIR")).join("call");
+    let program = Path::new(env!("CARGO_TARGET_TMPDIR")).join(example);
     let mut command = Command::new(compiler);
     command.arg("-std=c99").args(WARNINGS);
     command.arg("-I").arg(include());
-    command.arg(include().join("../examples/call.c"));
+    command.arg(include().join(format!("../examples/{example}.c")));
     command.arg(env!("BRACEPUFFIN_ARCHIVE"));
     run(command.arg("-o").arg(&program));
-    assert_eq!(run(&mut emulated(&program)), PRINTED);
+    run(&mut emulated(&program))
+}
+
+#[test]
+fn the_worked_call() {
+    assert_eq!(printed("call"), PRINTED);
+}
+
+/// What the manual shows of the worked problem, line by line.
+#[test]
+fn the_worked_solve() {
+    let manual = include().join("../../docs/MANUAL.md");
+    let manual = fs::read_to_string(manual).expect("the manual");
+    let printed = printed("solve");
+    assert_eq!(
+        printed.lines().next(),
+        Some("refusal 0, 5 bounds after 3 turns")
+    );
+    let shown: String = printed
+        .lines()
+        .map(|line| format!("    {line}\n"))
+        .collect();
+    assert!(manual.contains(&shown), "{printed}");
 }
 
 /// Through the emulator where cargo runs the tests through one.
