@@ -52,9 +52,7 @@ static void make_table(void) {
 enum { COMPONENTS = 512, VARIABLES = 2048, BOUNDS = 2048, FLOWS = 2048, UPPERS = 1024, READS = 512, WRITES = 512 };
 static uint64_t var_comp[VARIABLES], bnd_comp[BOUNDS], bnd_kind[BOUNDS], bnd_type[BOUNDS], flow_src[FLOWS], flow_dst[FLOWS];
 static uint64_t up_src[UPPERS], up_dst[UPPERS], read_arr[READS], read_res[READS], write_arr[WRITES], write_val[WRITES];
-#ifdef WITH_SOLVE
 static uint64_t answers[VARIABLES], out_comp[BP_BOUNDS], out_kind[BP_BOUNDS], out_type[BP_BOUNDS];
-#endif
 
 static void make_problem(void) {
     for (size_t i = 0; i < VARIABLES; i++) var_comp[i] = i % COMPONENTS;
@@ -132,14 +130,12 @@ static void join(void) {
 static void assignable(void) {
     must("bp_assignable", bp_assignable(TABLE, BP_ARRAY(255, BP_CLASS(0)), BP_ARRAY(255, BP_CLASS(1)), work, BP_WORK).refusal, 0);
 }
-#ifdef WITH_SOLVE
 static void solve(void) {
     BpSolved s = bp_solve(TABLE, COMPONENTS, var_comp, VARIABLES, bnd_comp, BOUNDS, bnd_kind, BOUNDS, bnd_type, BOUNDS, flow_src, FLOWS, flow_dst, FLOWS,
                           up_src, UPPERS, up_dst, UPPERS, read_arr, READS, read_res, READS, write_arr, WRITES, write_val, WRITES, answers, VARIABLES,
                           out_comp, BP_BOUNDS, out_kind, BP_BOUNDS, out_type, BP_BOUNDS, work, BP_WORK);
     must("bp_solve", s.refusal != 0 && s.refusal != 20 && s.refusal != 21, 0);
 }
-#endif
 
 static void *run(void *call) {
     (*(void (**)(void))call)();
@@ -168,9 +164,7 @@ int main(void) {
         {"bp_read_method_strict", read_method_strict}, {"bp_write_type", write_type}, {"bp_write_method", write_method},
         {"bp_lookup", lookup}, {"bp_check_table", check_table}, {"bp_relation", relation}, {"bp_distance", distance},
         {"bp_ancestors", ancestors}, {"bp_supertype", supertype}, {"bp_cast", cast}, {"bp_join", join}, {"bp_assignable", assignable},
-#ifdef WITH_SOLVE
         {"bp_solve", solve},
-#endif
     };
     make_table();
     make_problem();
