@@ -1,5 +1,5 @@
 /*
- * Bracepuffin from C: descriptors, names, class tables, joins of types.
+ * Bracepuffin from C: descriptors, names, class tables, joins of types, solves.
  *
  * Every function takes arbitrary numbers and bytes, allocates nothing and keeps nothing. A slice is a pointer and a
  * length in elements. The pointer is never null, not even for length 0; slices that are written overlap no other slice
@@ -18,6 +18,8 @@
  *
  * UTF-8 is standard UTF-8, well-formed by Unicode. The modified form of class files is refused where it differs, c0 80
  * for NUL and six bytes for a supplementary character: 10 in a table of names, 12 in a descriptor. Convert it first.
+ *
+ * A question about a table takes up to 230 KB of stack, a solve 370 KB, a method reader 80 KB, the other calls less.
  *
  * A type is handed over as a word of 64 bits, see BP_PRIMITIVE, BP_CLASS and BP_ARRAY.
  */
