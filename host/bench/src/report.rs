@@ -9,7 +9,7 @@ use crate::growth::{self, Growth};
 use crate::measure::{Effort, Row, Times};
 use crate::plot::{duration, svg};
 use crate::small::{self, Cost};
-use crate::{classes, descriptors, processor, types};
+use crate::{classes, descriptors, hostile, processor, solves, types};
 
 /// A part: its name on the command line, its title, its rows, and a word on what stands behind the figures.
 struct Part {
@@ -19,7 +19,7 @@ struct Part {
     why: &'static str,
 }
 
-const PARTS: [Part; 3] = [
+const PARTS: [Part; 4] = [
     Part {
         name: "descriptors",
         title: "Descriptors",
@@ -41,6 +41,45 @@ const PARTS: [Part; 3] = [
         rows: types::rows,
         why: "As with class tables; of two primitives nothing but the table is left to pay for.",
     },
+    Part {
+        name: "solves",
+        title: "Solves",
+        rows: solves::rows,
+        why: "Problems as the variables of a method give them; the largest is near all limits. The Rust has its \
+              constraints in its own form before the clock starts, as the wrapper has; the boundary has its columns. \
+              Ours gives the final bounds and the turns too.",
+    },
+];
+
+/// A list of costs of the boundary alone.
+struct Bill {
+    name: &'static str,
+    title: &'static str,
+    costs: fn(Effort) -> Vec<Cost>,
+    why: &'static str,
+}
+
+const BILLS: [Bill; 3] = [
+    Bill {
+        name: "shares",
+        title: "What a solve pays for",
+        costs: solves::shares,
+        why: "The table is checked and built and the slices are cleared, whatever the problem is. Without links, the \
+              rows of the problem are checked and sorted, and each component takes one turn and is answered.",
+    },
+    Bill {
+        name: "hostile",
+        title: "Problems made to take long",
+        costs: hostile::costs,
+        why: "One call each. The Rust takes minutes to hours for some of them, and is not asked.",
+    },
+    Bill {
+        name: "small",
+        title: "What a small question costs",
+        costs: small::costs,
+        why: "Every query must leave its working slice of 64 KB zero, whatever it was asked: the last row is what that \
+              alone costs, and no call can cost less.",
+    },
 ];
 
 /// The tables alone, or that of one part.
@@ -54,8 +93,13 @@ pub fn tables(effort: Effort, part: Option<&str>) -> String {
             text += &format!("## {title}\n\n{}\n", table(&rows(effort)));
         }
     }
-    if part.map_or(true, |part| part == "small") {
-        text += &small_table(&small::costs(effort));
+    for Bill {
+        name, title, costs, ..
+    } in BILLS
+    {
+        if part.map_or(true, |part| part == name) {
+            text += &format!("## {title}\n\n{}\n", cost_table(&costs(effort)));
+        }
     }
     text
 }
@@ -69,14 +113,18 @@ pub fn write(effort: Effort, folder: &Path) -> io::Result<()> {
         fs::write(file.with_extension("svg"), svg(growth))?;
     }
     let parts = PARTS.map(|part| (part.title, (part.rows)(effort), part.why));
-    let text = text(&parts, &growths, &small::costs(effort));
+    let bills = BILLS.map(|bill| (bill.title, (bill.costs)(effort), bill.why));
+    let text = text(&parts, &growths, &bills);
     fs::write(folder.join("PERFORMANCE.md"), text)
 }
 
 /// A part that was measured: its title, its rows, the word on them.
 type Measured = (&'static str, Vec<Row>, &'static str);
 
-fn text(parts: &[Measured], growths: &[Growth], costs: &[Cost]) -> String {
+/// The same of a list of costs.
+type Billed = (&'static str, Vec<Cost>, &'static str);
+
+fn text(parts: &[Measured], growths: &[Growth], bills: &[Billed]) -> String {
     let mut text = format!(
         "# Performance\n\n\
          Written by `cargo run --release -p bench -- report` in `host/`, on {}.\n",
@@ -96,9 +144,9 @@ fn text(parts: &[Measured], growths: &[Growth], costs: &[Cost]) -> String {
     for growth in growths {
         text += &format!("\n![{0}](performance/{1}.svg)\n", growth.title, growth.name);
     }
-    text += &format!("\n## What a small question costs\n\n{}", small_table(costs));
-    text += "\nEvery query must leave its working slice of 64 KB zero, whatever it was asked: the last row is what that \
-             alone costs, and no call can cost less.\n";
+    for (title, costs, why) in bills {
+        text += &format!("\n## {title}\n\n{}\n{why}\n", cost_table(costs));
+    }
     text + &behind(parts)
 }
 
@@ -141,7 +189,7 @@ fn table(rows: &[Row]) -> String {
     text
 }
 
-fn small_table(costs: &[Cost]) -> String {
+fn cost_table(costs: &[Cost]) -> String {
     let mut text = String::from("| what | time |\n|---|---|\n");
     for (what, times) in costs {
         _ = writeln!(text, "| {what} | {} |", spread(*times));
@@ -149,7 +197,11 @@ fn small_table(costs: &[Cost]) -> String {
     text
 }
 
+/// One time where all turns took the same, or there was one.
 fn spread(times: Times) -> String {
+    if times.best == times.most {
+        return duration(times.best);
+    }
     let [best, middle, most] = [times.best, times.middle, times.most].map(duration);
     format!("{best} ({middle}, {most})")
 }
@@ -205,7 +257,8 @@ mod tests {
         }
         assert_eq!(plot.matches("<circle").count(), 2);
         assert!(!plot.contains("NaN") && !plot.contains("inf"));
-        let text = text(&parts, &[growth], &[("nothing", times(3.0))]);
+        let costs = vec![("nothing".to_string(), times(3.0))];
+        let text = text(&parts, &[growth], &[("Bill", costs, "Because.")]);
         assert!(text.contains("| fast | 40 ns (60 ns, 80 ns) | 10 ns (15 ns, 20 ns) | 4.0 |"));
         assert!(text.contains("![As it grows](performance/size.svg)"));
         assert!(text.contains("- slow: boundary 0.001, wrapper 0.001"));
@@ -219,7 +272,17 @@ mod tests {
         write(Effort::LEAST, &folder).expect("a folder that can be written");
         let text = fs::read_to_string(folder.join("PERFORMANCE.md")).expect("the report");
         assert!(text.contains("24 names, all pairs"));
-        for name in ["names", "pairs", "layers", "threads"] {
+        assert!(text.contains("24 names, 20 components, table kept"));
+        assert!(text.contains("that read themselves"));
+        for name in [
+            "names",
+            "pairs",
+            "layers",
+            "threads",
+            "components",
+            "bounds",
+            "solve-names",
+        ] {
             let plot = folder.join("performance").join(name).with_extension("svg");
             assert!(fs::read_to_string(plot)
                 .expect("a plot")
