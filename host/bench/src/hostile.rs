@@ -21,6 +21,8 @@ struct Reach {
     names: u64,
     components: u64,
     bounds: u64,
+    /// Of a ladder down which bounds go.
+    rungs: u64,
 }
 
 impl Reach {
@@ -31,6 +33,7 @@ impl Reach {
             names: 1016 / part / 8 * 8,
             components: 512 / part,
             bounds: 4096 / part,
+            rungs: 80 / part,
         }
     }
 }
@@ -43,7 +46,23 @@ struct Hostile {
 
 /// The time of each, with its turns and final bounds.
 pub fn costs(effort: Effort) -> Vec<Cost> {
-    all(Reach::of(effort)).into_iter().map(timed).collect()
+    let reach = Reach::of(effort);
+    let mut all = quick(reach);
+    all.extend(uppers_of(reach, reach.names / 8));
+    all.extend(uppers_of(reach, reach.names / 4));
+    all.push(gaining(reach.names / 16, reach.rungs / 4));
+    all.push(gaining(reach.names / 8, reach.rungs / 4));
+    all.into_iter().map(timed).collect()
+}
+
+/// The worst that was found: uppers of half the names and of all, and a component that gains uppers. The time of one turn grows
+/// with the third power of the uppers. A component of 900 that gains 75 more would still be within the limits.
+pub fn worst(effort: Effort) -> Vec<Cost> {
+    let reach = Reach::of(effort);
+    let mut all = vec![gaining(reach.names / 4, reach.rungs / 2)];
+    all.extend(uppers_of(reach, reach.names / 2));
+    all.extend(uppers_of(reach, reach.names));
+    all.into_iter().map(timed).collect()
 }
 
 fn timed(hostile: Hostile) -> Cost {
@@ -58,19 +77,22 @@ fn timed(hostile: Hostile) -> Cost {
     (format!("{} ({came})", hostile.what), Times::once(took))
 }
 
-fn all(reach: Reach) -> Vec<Hostile> {
+fn quick(reach: Reach) -> Vec<Hostile> {
     let mut all = vec![
         self_reads(reach, 1),
         self_reads(reach, reach.bounds / (reach.dimensions + 1)),
         circle(reach, 2),
-        circle(reach, 4),
+        circle(reach, 9),
         ladder(reach),
-        uppers(reach, 1),
-        uppers(reach, 2),
     ];
     for is_joined in [false, true] {
         all.push(far_apart(reach, "a chain", chain(reach.names), is_joined));
-        all.push(far_apart(reach, "layers", layers(reach.names), is_joined));
+        all.push(far_apart(
+            reach,
+            "layers",
+            layers(reach.names, true),
+            is_joined,
+        ));
     }
     all
 }
@@ -91,12 +113,14 @@ fn chain(names: u64) -> ClassTable {
     builder.build().expect("a sound table")
 }
 
-/// Layers of eight, each class under four of the layer above: many common ancestors. The lowest layer is the first of the
-/// order, so that a join over all classes climbs layer by layer.
-fn layers(names: u64) -> ClassTable {
+/// Layers of eight, each class under four of the layer above: many common ancestors. The lowest layer is the first or the last
+/// of the order.
+fn layers(names: u64, is_lowest_first: bool) -> ClassTable {
     let layers = names / 8;
-    let name = |layer: u64, place: u64| format!("a{layer:03}/C{place}");
-    let mut builder = ClassTableBuilder::new();
+    let name = |layer: u64, place: u64| match is_lowest_first {
+        true => format!("a{layer:03}/C{place}"),
+        false => format!("a{:03}/C{place}", layers - 1 - layer),
+    };
     let above = |layer: u64, place: u64| match layer + 1 < layers {
         true => (0..4)
             .map(|which| name(layer + 1, (place + 2 * which) % 8))
@@ -107,6 +131,7 @@ fn layers(names: u64) -> ClassTable {
     let classes: Vec<(String, Vec<String>)> = each
         .map(|(layer, place)| (name(layer, place), above(layer, place)))
         .collect();
+    let mut builder = ClassTableBuilder::new();
     for (class, parents) in &classes {
         builder.add(class, parents.iter().map(String::as_str));
     }
@@ -128,16 +153,18 @@ fn self_reads(reach: Reach, components: u64) -> Hostile {
     }
 }
 
-/// Each reads the one before it and flows back to it.
+/// Each is read from the one before it, and the last flows back to the first, which goes down that many dimensions a round.
 fn circle(reach: Reach, components: u64) -> Hostile {
-    let next = |of: u64| (of + 1) % components;
-    let reads: Links = (0..components).map(|of| (of, next(of))).collect();
-    let flows: Links = (0..components).map(|of| (next(of), of)).collect();
+    let reads: Links = (1..components).map(|of| (of - 1, of)).collect();
     let bounds = [(0, LOWER, array(reach.dimensions, class(0)))];
     Hostile {
-        what: format!("a circle of {components} reads and flows"),
+        what: format!("a circle of {} reads and a flow", reads.len()),
         table: object(),
-        columns: problem(components, &bounds, [&flows, &[], &reads, &[]]),
+        columns: problem(
+            components,
+            &bounds,
+            [&[(components - 1, 0)], &[], &reads, &[]],
+        ),
     }
 }
 
@@ -158,25 +185,48 @@ fn ladder(reach: Reach) -> Hostile {
     }
 }
 
-/// Arrays of all classes of a chain expected of one component, of one dimension or of two as well, and all reads it can have.
-/// Of one dimension, the last class is below all of them, and its element goes to every component.
-fn uppers(reach: Reach, dimensions: u64) -> Hostile {
-    let each = (1..=dimensions).flat_map(|times| {
-        let classes = 0..reach.names;
-        classes.map(move |number| (0, UPPER, array(times, class(number))))
-    });
+/// Over a chain and over layers of about so many names.
+fn uppers_of(reach: Reach, names: u64) -> [Hostile; 2] {
+    let names = (names / 8 * 8).max(8);
+    [
+        uppers(reach, names, "a chain", chain(names)),
+        uppers(reach, names, "layers", layers(names, false)),
+    ]
+}
+
+/// Arrays of all classes expected of one component, which has all reads that it can have. Every pair of them is asked about,
+/// as far as those before it in the order are above it.
+fn uppers(reach: Reach, names: u64, name: &str, table: ClassTable) -> Hostile {
+    let each = (0..names).map(|number| (0, UPPER, array(1, class(number))));
     let bounds: Bounds = each.collect();
     let out = (0..reach.components).map(|other| (0, other));
     let back = (1..reach.components).map(|other| (other, 0));
     let reads: Links = out.chain(back).collect();
     Hostile {
         what: format!(
-            "{} uppers of one component, {} reads",
+            "{} uppers of one component over {name}, {} reads",
             bounds.len(),
             reads.len()
         ),
-        table: chain(reach.names),
+        table,
         columns: problem(reach.components, &bounds, [&[], &[], &reads, &[]]),
+    }
+}
+
+/// Arrays of classes of a chain expected of a component that is written to and so asks for the most specific one each turn; one
+/// more comes in each round, up a ladder of upper flows.
+fn gaining(uppers: u64, rungs: u64) -> Hostile {
+    let (uppers, rungs) = (uppers.max(2), rungs.max(2));
+    let expected = |number| array(1, class(number));
+    let own = (0..uppers).map(|number| (0, UPPER, expected(number)));
+    let others = (1..=rungs).map(|rung| (rung, UPPER, expected(uppers + rung - 1)));
+    let bounds: Bounds = own.chain(others).collect();
+    let flows: Links = (0..rungs).map(|rung| (rung, rung + 1)).collect();
+    let value = rungs + 1;
+    Hostile {
+        what: format!("{uppers} uppers of one component over a chain, {rungs} more one by one"),
+        table: chain(uppers + rungs),
+        columns: problem(value + 1, &bounds, [&[], &flows, &[], &[(0, value)]]),
     }
 }
 
@@ -209,7 +259,8 @@ mod tests {
     /// None is refused: they run to their ends.
     #[test]
     fn none_is_refused() {
-        for (what, _) in costs(Effort::LEAST) {
+        let all = costs(Effort::LEAST).into_iter();
+        for (what, _) in all.chain(worst(Effort::LEAST)) {
             assert!(!what.contains("refused"), "{what}");
         }
     }

@@ -57,21 +57,33 @@ struct Bill {
     title: &'static str,
     costs: fn(Effort) -> Vec<Cost>,
     why: &'static str,
+    /// It takes so long that only who asks for it by name gets it.
+    is_long: bool,
 }
 
-const BILLS: [Bill; 3] = [
+const BILLS: [Bill; 4] = [
     Bill {
         name: "shares",
         title: "What a solve pays for",
         costs: solves::shares,
-        why: "The table is checked and built and the slices are cleared, whatever the problem is. Without links, the \
-              rows of the problem are checked and sorted, and each component takes one turn and is answered.",
+        why: "A problem that is refused at its last row pays for the check of the table and of all rows, and for the \
+              clearing of the slices. Without links, each component takes one turn and is answered from what it was given.",
+        is_long: false,
     },
     Bill {
         name: "hostile",
         title: "Problems made to take long",
         costs: hostile::costs,
-        why: "One call each. The Rust takes minutes to hours for some of them, and is not asked.",
+        why: "One call each. The Rust takes minutes to hours for some of them, and is not asked. Uppers over a chain grow \
+              with the third power of their number; `bench -- worst` has them up to the limit of names.",
+        is_long: false,
+    },
+    Bill {
+        name: "worst",
+        title: "The worst problem found",
+        costs: hostile::worst,
+        why: "One call each.",
+        is_long: true,
     },
     Bill {
         name: "small",
@@ -79,6 +91,7 @@ const BILLS: [Bill; 3] = [
         costs: small::costs,
         why: "Every query must leave its working slice of 64 KB zero, whatever it was asked: the last row is what that \
               alone costs, and no call can cost less.",
+        is_long: false,
     },
 ];
 
@@ -94,10 +107,14 @@ pub fn tables(effort: Effort, part: Option<&str>) -> String {
         }
     }
     for Bill {
-        name, title, costs, ..
+        name,
+        title,
+        costs,
+        is_long,
+        ..
     } in BILLS
     {
-        if part.map_or(true, |part| part == name) {
+        if part.map_or(!is_long, |part| part == name) {
             text += &format!("## {title}\n\n{}\n", cost_table(&costs(effort)));
         }
     }
@@ -113,7 +130,10 @@ pub fn write(effort: Effort, folder: &Path) -> io::Result<()> {
         fs::write(file.with_extension("svg"), svg(growth))?;
     }
     let parts = PARTS.map(|part| (part.title, (part.rows)(effort), part.why));
-    let bills = BILLS.map(|bill| (bill.title, (bill.costs)(effort), bill.why));
+    let bills = BILLS.into_iter().filter(|bill| !bill.is_long);
+    let bills: Vec<Billed> = bills
+        .map(|bill| (bill.title, (bill.costs)(effort), bill.why))
+        .collect();
     let text = text(&parts, &growths, &bills);
     fs::write(folder.join("PERFORMANCE.md"), text)
 }
@@ -272,7 +292,7 @@ mod tests {
         write(Effort::LEAST, &folder).expect("a folder that can be written");
         let text = fs::read_to_string(folder.join("PERFORMANCE.md")).expect("the report");
         assert!(text.contains("24 names, all pairs"));
-        assert!(text.contains("24 names, 20 components, table kept"));
+        assert!(text.contains("24 names, 20 components,"));
         assert!(text.contains("that read themselves"));
         for name in [
             "names",

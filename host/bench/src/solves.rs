@@ -17,8 +17,15 @@ pub fn rows(effort: Effort) -> Vec<Row> {
     each.flat_map(|size| rows_of(effort, size)).collect()
 }
 
-fn what(size: Size) -> String {
-    format!("{} names, {} components", size.names, size.components)
+/// The sizes that a problem has.
+fn what(case: &Case) -> String {
+    format!(
+        "{} names, {} components, {} bounds, {} flows",
+        case.classes.len(),
+        case.columns.components,
+        case.columns.bounds[0].len(),
+        case.columns.flows[0].len()
+    )
 }
 
 /// With the Rust's index and the wrapper's table kept between calls, distances remembered; and with both made in the call.
@@ -32,14 +39,14 @@ fn rows_of(effort: Effort, size: Size) -> [Row; 2] {
     [
         Row::of(
             effort,
-            format!("{}, table kept", what(size)),
+            format!("{}, table kept", what(&case)),
             || prepared.solve(black_box(&case.index)),
             || lent.solve(black_box(columns), &case.columns),
             || case.table.solve(black_box(&constraints)),
         ),
         Row::of(
             effort,
-            format!("{}, table built in the call", what(size)),
+            format!("{}, table built in the call", what(&case)),
             || prepared.solve(&index(black_box(&case.classes))),
             || lent_again.solve(black_box(columns), &case.columns),
             || {
@@ -61,18 +68,27 @@ fn without_links(columns: &Columns) -> Columns {
     }
 }
 
-/// The boundary's time for a problem: all of it, without the links, with no component at all, and for the check of the table
-/// alone.
+/// The same with a write of no component as the last row of all: refused when everything before it is checked.
+fn refused_last(columns: &Columns) -> Columns {
+    let mut refused = columns.clone();
+    refused.writes[0].push(columns.components);
+    refused.writes[1].push(0);
+    refused
+}
+
+/// The boundary's time for a problem: all of it, without the links, for the check of the table and of all rows, and for the
+/// check of the table.
 fn steps(effort: Effort, case: &Case) -> [Times; 4] {
-    let (unlinked, empty) = (without_links(&case.columns), Columns::of(0));
+    let (unlinked, refused) = (without_links(&case.columns), refused_last(&case.columns));
     let columns = case.table.columns();
     let mut lent = Lent::of(&case.columns);
     let mut lent_unlinked = Lent::of(&unlinked);
-    let mut lent_empty = Lent::of(&empty);
+    let mut lent_refused = Lent::of(&refused);
+    assert_eq!(lent_refused.solve(columns, &refused).refusal, 6);
     let calls: [&mut dyn FnMut(u64); 4] = [
         &mut repeated(|| lent.solve(black_box(columns), &case.columns)),
         &mut repeated(|| lent_unlinked.solve(black_box(columns), &unlinked)),
-        &mut repeated(|| lent_empty.solve(black_box(columns), &empty)),
+        &mut repeated(|| lent_refused.solve(black_box(columns), &refused)),
         &mut repeated(|| slices::check_table(black_box(columns))),
     ];
     in_turns(effort, calls)
@@ -82,17 +98,18 @@ fn steps(effort: Effort, case: &Case) -> [Times; 4] {
 pub fn shares(effort: Effort) -> Vec<Cost> {
     let mut costs = Vec::new();
     for size in effort.problems {
-        let times = steps(effort, &Case::of(size));
+        let case = Case::of(size);
+        let times = steps(effort, &case);
         let whole = times[0].best;
         let parts = [
             "a solve",
             "the same without links",
-            "no component: the table checked and built, the slices cleared",
+            "table and problem checked, refused at the last row",
             "the table checked",
         ];
         for (part, times) in parts.into_iter().zip(times) {
             let percent = 100.0 * times.best / whole;
-            costs.push((format!("{}, {part} ({percent:.0}%)", what(size)), times));
+            costs.push((format!("{}, {part} ({percent:.0}%)", what(&case)), times));
         }
     }
     costs
