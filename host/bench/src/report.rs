@@ -106,6 +106,11 @@ pub fn tables(effort: Effort, part: Option<&str>) -> String {
             text += &format!("## {title}\n\n{}\n", table(&rows(effort)));
         }
     }
+    if part == Some("solve-growths") {
+        for growth in solves::growths(effort) {
+            text += &format!("## {}\n\n{}\n", growth.title, growth_table(&growth));
+        }
+    }
     for Bill {
         name,
         title,
@@ -163,6 +168,7 @@ fn text(parts: &[Measured], growths: &[Growth], bills: &[Billed]) -> String {
     text += "\n## As work grows\n";
     for growth in growths {
         text += &format!("\n![{0}](performance/{1}.svg)\n", growth.title, growth.name);
+        text += &format!("\n{}", growth_table(growth));
     }
     for (title, costs, why) in bills {
         text += &format!("\n## {title}\n\n{}\n{why}\n", cost_table(costs));
@@ -205,6 +211,28 @@ fn table(rows: &[Row]) -> String {
             spread(row.boundary),
             spread(row.wrapper)
         );
+    }
+    text
+}
+
+/// The best times of each series, a row a size.
+fn growth_table(growth: &Growth) -> String {
+    let labels = growth.series.iter().map(|series| series.label);
+    let labels: Vec<&str> = [growth.unit].into_iter().chain(labels).collect();
+    let mut text = format!(
+        "| {} |\n|{}\n",
+        labels.join(" | "),
+        "---|".repeat(labels.len())
+    );
+    let sizes = growth
+        .series
+        .first()
+        .map_or(0, |series| series.points.len());
+    for place in 0..sizes {
+        let (size, _) = growth.series[0].points[place];
+        let times = growth.series.iter().map(|series| series.points[place].1);
+        let times: Vec<String> = times.map(|times| duration(times.best)).collect();
+        _ = writeln!(text, "| {size} | {} |", times.join(" | "));
     }
     text
 }
@@ -281,6 +309,7 @@ mod tests {
         let text = text(&parts, &[growth], &[("Bill", costs, "Because.")]);
         assert!(text.contains("| fast | 40 ns (60 ns, 80 ns) | 10 ns (15 ns, 20 ns) | 4.0 |"));
         assert!(text.contains("![As it grows](performance/size.svg)"));
+        assert!(text.contains("| things | one |\n|---|---|\n| 10 | 5.0 ns |\n| 1000 | 50 us |"));
         assert!(text.contains("- slow: boundary 0.001, wrapper 0.001"));
         assert!(!text.contains("- fast"));
     }

@@ -169,11 +169,16 @@ fn grown(
     let points = sizes.into_iter().map(|(count, size)| {
         let case = Case::of(size);
         let prepared = Prepared::of(&case.problem);
-        let [whole, unlinked, _, check] = steps(effort, &case);
-        let rust: [&mut dyn FnMut(u64); 1] =
-            [&mut repeated(|| prepared.solve(black_box(&case.index)))];
-        let [rust] = in_turns(effort, rust);
-        (count, [rust, whole, unlinked, check])
+        let unlinked = without_links(&case.columns);
+        let (mut lent, mut lent_unlinked) = (Lent::of(&case.columns), Lent::of(&unlinked));
+        let columns = case.table.columns();
+        let calls: [&mut dyn FnMut(u64); 4] = [
+            &mut repeated(|| prepared.solve(black_box(&case.index))),
+            &mut repeated(|| lent.solve(black_box(columns), &case.columns)),
+            &mut repeated(|| lent_unlinked.solve(black_box(columns), &unlinked)),
+            &mut repeated(|| slices::check_table(black_box(columns))),
+        ];
+        (count, in_turns(effort, calls))
     });
     growth(
         name,
