@@ -7,6 +7,7 @@ use dexdec::hierarchy::TypeHierarchy;
 
 use crate::classes::{ends, index, program, table};
 use crate::measure::{in_turns, repeated, Effort, Times};
+use crate::solves;
 
 /// Points of one kind of call: a size, and the times there.
 pub struct Series {
@@ -22,16 +23,17 @@ pub struct Growth {
     pub series: Vec<Series>,
 }
 
-pub fn all(effort: Effort) -> [Growth; 4] {
-    [
+pub fn all(effort: Effort) -> Vec<Growth> {
+    let asked = [
         one_question(effort),
         pairs(effort),
         layers(effort),
         threads(effort),
-    ]
+    ];
+    asked.into_iter().chain(solves::growths(effort)).collect()
 }
 
-fn growth<const N: usize>(
+pub fn growth<const N: usize>(
     name: &'static str,
     title: &'static str,
     unit: &'static str,

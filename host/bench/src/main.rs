@@ -1,7 +1,9 @@
 //! Nanoseconds a call of the Rust of docs/src, of the boundary over slices, and of the Rust wrapper over it, in one run.
 //!
 //!     cargo run --release --offline -p bench                     a table in Markdown
-//!     cargo run --release --offline -p bench -- classes          a part of it: descriptors, classes, types, small
+//!     cargo run --release --offline -p bench -- classes          a part of it: descriptors, classes, types, solves, small,
+//!                                                                 shares, hostile; and by name alone solve-growths,
+//!                                                                 and worst, which takes minutes
 //!     cargo run --release --offline -p bench -- report           docs/PERFORMANCE.md, with plots beside it
 //!
 //! A report is refused where its figures would say nothing: in a build for tests, and under an emulator; `--force` after
@@ -13,11 +15,14 @@
 mod classes;
 mod descriptors;
 mod growth;
+mod hostile;
 mod measure;
 mod plot;
+mod problems;
 mod processor;
 mod report;
 mod small;
+mod solves;
 mod types;
 
 use std::path::{Path, PathBuf};

@@ -3,6 +3,8 @@
 use std::hint::black_box;
 use std::time::{Duration, Instant};
 
+use crate::problems::Size;
+
 /// How long to measure, and how large the tables are.
 #[derive(Debug, Clone, Copy)]
 pub struct Effort {
@@ -13,6 +15,10 @@ pub struct Effort {
     pub all_turns: Duration,
     /// Numbers of names.
     pub sizes: [usize; 3],
+    /// Problems to solve.
+    pub problems: [Size; 3],
+    /// Hostile problems go to the limits divided by this.
+    pub hostile_part: u64,
 }
 
 impl Effort {
@@ -21,6 +27,12 @@ impl Effort {
         turns: (150, 5),
         all_turns: Duration::from_millis(600),
         sizes: [50, 200, 1000],
+        problems: [
+            Size::new(50, 30, 90, 60),
+            Size::new(300, 200, 600, 400),
+            Size::new(1024, 512, 2000, 2048),
+        ],
+        hostile_part: 1,
     };
 
     /// Next to nothing: to see that all of it runs.
@@ -30,6 +42,12 @@ impl Effort {
         turns: (1, 1),
         all_turns: Duration::ZERO,
         sizes: [12, 18, 24],
+        problems: [
+            Size::new(12, 4, 8, 6),
+            Size::new(18, 8, 20, 10),
+            Size::new(24, 20, 60, 50),
+        ],
+        hostile_part: 32,
     };
 }
 
@@ -50,6 +68,11 @@ impl Times {
             middle: at(5),
             most: at(9),
         }
+    }
+
+    /// Of one turn.
+    pub fn once(took: f64) -> Self {
+        Self::of(vec![took])
     }
 
     /// The same, each so many times as long.

@@ -9,7 +9,7 @@ use crate::growth::{self, Growth};
 use crate::measure::{Effort, Row, Times};
 use crate::plot::{duration, svg};
 use crate::small::{self, Cost};
-use crate::{classes, descriptors, processor, types};
+use crate::{classes, descriptors, hostile, processor, solves, types};
 
 /// A part: its name on the command line, its title, its rows, and a word on what stands behind the figures.
 struct Part {
@@ -19,7 +19,7 @@ struct Part {
     why: &'static str,
 }
 
-const PARTS: [Part; 3] = [
+const PARTS: [Part; 4] = [
     Part {
         name: "descriptors",
         title: "Descriptors",
@@ -41,6 +41,58 @@ const PARTS: [Part; 3] = [
         rows: types::rows,
         why: "As with class tables; of two primitives nothing but the table is left to pay for.",
     },
+    Part {
+        name: "solves",
+        title: "Solves",
+        rows: solves::rows,
+        why: "Problems as the variables of a method give them; the largest is near all limits. The Rust has its \
+              constraints in its own form before the clock starts, as the wrapper has; the boundary has its columns. \
+              Ours gives the final bounds and the turns too.",
+    },
+];
+
+/// A list of costs of the boundary alone.
+struct Bill {
+    name: &'static str,
+    title: &'static str,
+    costs: fn(Effort) -> Vec<Cost>,
+    why: &'static str,
+    /// It takes so long that only who asks for it by name gets it.
+    is_long: bool,
+}
+
+const BILLS: [Bill; 4] = [
+    Bill {
+        name: "shares",
+        title: "What a solve pays for",
+        costs: solves::shares,
+        why: "A problem that is refused at its last row pays for the check of the table and of all rows, and for the \
+              clearing of the slices. Without links, each component takes one turn and is answered from what it was given.",
+        is_long: false,
+    },
+    Bill {
+        name: "hostile",
+        title: "Problems made to take long",
+        costs: hostile::costs,
+        why: "One call each. The Rust takes minutes to hours for some of them, and is not asked. Uppers over a chain grow \
+              with the third power of their number; `bench -- worst` has them up to the limit of names.",
+        is_long: false,
+    },
+    Bill {
+        name: "worst",
+        title: "The worst problem found",
+        costs: hostile::worst,
+        why: "One call each.",
+        is_long: true,
+    },
+    Bill {
+        name: "small",
+        title: "What a small question costs",
+        costs: small::costs,
+        why: "Every query must leave its working slice of 64 KB zero, whatever it was asked: the last row is what that \
+              alone costs, and no call can cost less.",
+        is_long: false,
+    },
 ];
 
 /// The tables alone, or that of one part.
@@ -54,8 +106,22 @@ pub fn tables(effort: Effort, part: Option<&str>) -> String {
             text += &format!("## {title}\n\n{}\n", table(&rows(effort)));
         }
     }
-    if part.map_or(true, |part| part == "small") {
-        text += &small_table(&small::costs(effort));
+    if part == Some("solve-growths") {
+        for growth in solves::growths(effort) {
+            text += &format!("## {}\n\n{}\n", growth.title, growth_table(&growth));
+        }
+    }
+    for Bill {
+        name,
+        title,
+        costs,
+        is_long,
+        ..
+    } in BILLS
+    {
+        if part.map_or(!is_long, |part| part == name) {
+            text += &format!("## {title}\n\n{}\n", cost_table(&costs(effort)));
+        }
     }
     text
 }
@@ -69,14 +135,21 @@ pub fn write(effort: Effort, folder: &Path) -> io::Result<()> {
         fs::write(file.with_extension("svg"), svg(growth))?;
     }
     let parts = PARTS.map(|part| (part.title, (part.rows)(effort), part.why));
-    let text = text(&parts, &growths, &small::costs(effort));
+    let bills = BILLS.into_iter().filter(|bill| !bill.is_long);
+    let bills: Vec<Billed> = bills
+        .map(|bill| (bill.title, (bill.costs)(effort), bill.why))
+        .collect();
+    let text = text(&parts, &growths, &bills);
     fs::write(folder.join("PERFORMANCE.md"), text)
 }
 
 /// A part that was measured: its title, its rows, the word on them.
 type Measured = (&'static str, Vec<Row>, &'static str);
 
-fn text(parts: &[Measured], growths: &[Growth], costs: &[Cost]) -> String {
+/// The same of a list of costs.
+type Billed = (&'static str, Vec<Cost>, &'static str);
+
+fn text(parts: &[Measured], growths: &[Growth], bills: &[Billed]) -> String {
     let mut text = format!(
         "# Performance\n\n\
          Written by `cargo run --release -p bench -- report` in `host/`, on {}.\n",
@@ -95,10 +168,11 @@ fn text(parts: &[Measured], growths: &[Growth], costs: &[Cost]) -> String {
     text += "\n## As work grows\n";
     for growth in growths {
         text += &format!("\n![{0}](performance/{1}.svg)\n", growth.title, growth.name);
+        text += &format!("\n{}", growth_table(growth));
     }
-    text += &format!("\n## What a small question costs\n\n{}", small_table(costs));
-    text += "\nEvery query must leave its working slice of 64 KB zero, whatever it was asked: the last row is what that \
-             alone costs, and no call can cost less.\n";
+    for (title, costs, why) in bills {
+        text += &format!("\n## {title}\n\n{}\n{why}\n", cost_table(costs));
+    }
     text + &behind(parts)
 }
 
@@ -141,7 +215,29 @@ fn table(rows: &[Row]) -> String {
     text
 }
 
-fn small_table(costs: &[Cost]) -> String {
+/// The best times of each series, a row a size.
+fn growth_table(growth: &Growth) -> String {
+    let labels = growth.series.iter().map(|series| series.label);
+    let labels: Vec<&str> = [growth.unit].into_iter().chain(labels).collect();
+    let mut text = format!(
+        "| {} |\n|{}\n",
+        labels.join(" | "),
+        "---|".repeat(labels.len())
+    );
+    let sizes = growth
+        .series
+        .first()
+        .map_or(0, |series| series.points.len());
+    for place in 0..sizes {
+        let (size, _) = growth.series[0].points[place];
+        let times = growth.series.iter().map(|series| series.points[place].1);
+        let times: Vec<String> = times.map(|times| duration(times.best)).collect();
+        _ = writeln!(text, "| {size} | {} |", times.join(" | "));
+    }
+    text
+}
+
+fn cost_table(costs: &[Cost]) -> String {
     let mut text = String::from("| what | time |\n|---|---|\n");
     for (what, times) in costs {
         _ = writeln!(text, "| {what} | {} |", spread(*times));
@@ -149,7 +245,11 @@ fn small_table(costs: &[Cost]) -> String {
     text
 }
 
+/// One time where all turns took the same, or there was one.
 fn spread(times: Times) -> String {
+    if times.best == times.most {
+        return duration(times.best);
+    }
     let [best, middle, most] = [times.best, times.middle, times.most].map(duration);
     format!("{best} ({middle}, {most})")
 }
@@ -205,9 +305,11 @@ mod tests {
         }
         assert_eq!(plot.matches("<circle").count(), 2);
         assert!(!plot.contains("NaN") && !plot.contains("inf"));
-        let text = text(&parts, &[growth], &[("nothing", times(3.0))]);
+        let costs = vec![("nothing".to_string(), times(3.0))];
+        let text = text(&parts, &[growth], &[("Bill", costs, "Because.")]);
         assert!(text.contains("| fast | 40 ns (60 ns, 80 ns) | 10 ns (15 ns, 20 ns) | 4.0 |"));
         assert!(text.contains("![As it grows](performance/size.svg)"));
+        assert!(text.contains("| things | one |\n|---|---|\n| 10 | 5.0 ns |\n| 1000 | 50 us |"));
         assert!(text.contains("- slow: boundary 0.001, wrapper 0.001"));
         assert!(!text.contains("- fast"));
     }
@@ -219,7 +321,17 @@ mod tests {
         write(Effort::LEAST, &folder).expect("a folder that can be written");
         let text = fs::read_to_string(folder.join("PERFORMANCE.md")).expect("the report");
         assert!(text.contains("24 names, all pairs"));
-        for name in ["names", "pairs", "layers", "threads"] {
+        assert!(text.contains("24 names, 20 components,"));
+        assert!(text.contains("that read themselves"));
+        for name in [
+            "names",
+            "pairs",
+            "layers",
+            "threads",
+            "components",
+            "bounds",
+            "solve-names",
+        ] {
             let plot = folder.join("performance").join(name).with_extension("svg");
             assert!(fs::read_to_string(plot)
                 .expect("a plot")

@@ -8,11 +8,11 @@ use crate::classes::{program, table};
 use crate::measure::{in_turns, repeated, Effort, Times};
 
 /// What was done, and its times.
-pub type Cost = (&'static str, Times);
+pub type Cost = (String, Times);
 
 /// A relation over a table of ten names: whole, without its working slice (the check of the table), refused before it
 /// touches anything, and the clearing of as much memory alone.
-pub fn costs(effort: Effort) -> [Cost; 4] {
+pub fn costs(effort: Effort) -> Vec<Cost> {
     let classes = program(10);
     let table = table(&classes);
     let columns = table.columns();
@@ -25,10 +25,13 @@ pub fn costs(effort: Effort) -> [Cost; 4] {
         &mut repeated(|| black_box(&mut cleared).fill(0)),
     ];
     let [question, check, refused, clearing] = in_turns(effort, calls);
-    [
+    let costs = [
         ("a relation over ten names", question),
         ("the same table checked, without a working slice", check),
         ("the same relation, refused 22", refused),
         ("64 KB set to 0 by the Rust", clearing),
-    ]
+    ];
+    costs
+        .map(|(what, times)| (what.to_string(), times))
+        .to_vec()
 }

@@ -170,7 +170,7 @@ impl Columns {
     }
 
     /// The same problem as the Rust has it, of columns that are not refused over these names.
-    fn problem(&self, names: &[String]) -> Problem {
+    pub fn problem(&self, names: &[String]) -> Problem {
         let variable = |number: &u64| SsaVar(*number as u32);
         let pairs = |link: &[Vec<u64>; 2]| {
             let rows = link[0].iter().zip(&link[1]);

