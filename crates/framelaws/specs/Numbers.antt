@@ -85,7 +85,7 @@ checks-small f s =
 
 -- ---- a run's
 
-solve-number : (w : World) (p : Problem) (k : ℕ) → solve w p ≡ Unsolved k → (k ≡ 20) ⊎ (k ≡ 21)
+pub solve-number : (w : World) (p : Problem) (k : ℕ) → solve w p ≡ Unsolved k → (k ≡ 20) ⊎ (k ≡ 21)
 unfolding solve
 solve-number w p k h = go (propagate w (linksOf p) (p .components) (tableOf p)) refl h
   where

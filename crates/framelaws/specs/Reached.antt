@@ -93,18 +93,18 @@ hex-bytes [] = tt
 hex-bytes (x ∷ []) = tt
 hex-bytes (x ∷ y ∷ rest) = then-bytes (digit x) (digit y) (hexBytes rest) (digit-small x) (digit-small y) (hex-bytes rest)
 
-body-bytes : (f : Option (List ℕ)) → MaybeBytes f → BytesIn (bodyOf f)
+pub body-bytes : (f : Option (List ℕ)) → MaybeBytes f → BytesIn (bodyOf f)
 body-bytes none h = tt
 body-bytes (some []) h = tt
 body-bytes (some (k ∷ body)) h = h .1
 
-drop-bytes : (n : ℕ) (l : List ℕ) → BytesIn l → BytesIn (drop n l)
+pub drop-bytes : (n : ℕ) (l : List ℕ) → BytesIn l → BytesIn (drop n l)
 drop-bytes zero l h = h
 drop-bytes (suc n) [] h = tt
 drop-bytes (suc n) (x ∷ l) h = drop-bytes n l (h .1)
 
 -- eight bytes are a word
-word-fits : (l : List ℕ) → length l ≡ 8 → BytesIn l → bytesNumber 0 l < 2 ^ 64
+pub word-fits : (l : List ℕ) → length l ≡ 8 → BytesIn l → bytesNumber 0 l < 2 ^ 64
 unfolding bytesNumber
 word-fits [] e h = absurd (omega arith)
 word-fits (a ∷ []) e h = absurd (omega arith)

@@ -157,12 +157,12 @@ module _ (l : Slices) (n : Numbers) (h : Ready l n) (answers : List ℕ) (r : Fr
       zero-is z = ap (λ (k : ℕ). eqb k 0) z
 
   -- 0b to 0d: the view of the keys in front is that of the slice
-  view-front : stateView (storeOf l n .classes) ≡ viewOf (l .pairs) (l .marks) (n .tables)
+  pub view-front : stateView (storeOf l n .classes) ≡ viewOf (l .pairs) (l .marks) (n .tables)
   view-front =
       ap (λ (k : List ℕ). record { names = n .tables .names; object = n .tables .object; recorded = viewOf (l .pairs) (l .marks) (n .tables) .recorded; parents = parentsOf (n .tables .names) k; declared = viewOf (l .pairs) (l .marks) (n .tables) .declared; interface = viewOf (l .pairs) (l .marks) (n .tables) .interface; final = viewOf (l .pairs) (l .marks) (n .tables) .final })
       (take-take (n .tables .pairs) (n .tables .pairs) (l .pairs) (omega arith))
 
-  ask-shows : Shows (record { last = take (n .last) (l .last); classes = storeOf l n .classes; problem = storeOf l n .problem; rank = 10 }) l l (askNumbers n)
+  pub ask-shows : Shows (record { last = take (n .last) (l .last); classes = storeOf l n .classes; problem = storeOf l n .problem; rank = 10 }) l l (askNumbers n)
   unfolding numbersOf
   ask-shows =
       let o = own-shows l n h in

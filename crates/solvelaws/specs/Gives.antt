@@ -37,7 +37,7 @@ use Rattle.answering.specs.Answering.{answerWord}
 use Rattle.solves.specs.SolveResult.{Lent, countsOf, answersAfter, componentsAfter, kindsAfter, typesAfter}
 use Rattle.solvedoor.specs.SolveDoor.{problemOver, solveRefusal, solveIn, SolvesIn}
 use Rattle.solvelaws.specs.Plainly.{opened, solve-plain, rows-lawful, names-few, rows-checked, rows-allowed}
-use Rattle.solvelaws.specs.Legal.{answer-legal, state-legal}
+use Rattle.answerlaws.specs.Legal.{answer-legal, state-legal}
 use Rattle.solvelaws.specs.RowNumbers.{RowChain, bound-at, chain-of, rows-legal, map-at, member-at, at-member, table-listed}
 
 -- the world of the table's rows

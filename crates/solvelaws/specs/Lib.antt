@@ -1,6 +1,5 @@
 -- Laws of a solve over slices that no proof of code cites.
 pub mod Plainly
-pub mod Legal
 pub mod RowNumbers
 pub mod Gives
 pub mod Refusals

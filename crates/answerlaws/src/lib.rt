@@ -1,0 +1,1 @@
+// No code: that answers are legal types stands in specs/.
