@@ -2,7 +2,7 @@
 use mathlib.Core.Path.{_≡_}
 use mathlib.Core.List.{List, []}
 use Prim.Native.Nat.{ℕ}
-use Rattle.lineout.specs.Printed.{decimal, numberText, printed, variableLines, refusalLine, Puts}
+use Rattle.lineout.specs.Printed.{numberText, printed, variableLines, refusalLine, Puts}
 use Rattle.frames.specs.Frames.{Store, frame}
 use Rattle.frames.specs.Typeline.{print}
 use Rattle.framestate.specs.declared.Numbers.{Numbers}
@@ -15,9 +15,9 @@ use Rattle.saying.specs.declared.Spoken.{Spoken}
 unfoldable pub saidText : ℕ → Said → List ℕ → List ℕ
 saidText line Accepted words = []
 saidText line Solved words = variableLines 0 words
-saidText line (Related k) words = printed 82 (decimal k)
+saidText line (Related k) words = printed 82 (numberText k)
 saidText line (Supertyped c) words = printed 76 (numberText c)
-saidText line (Castable b) words = printed 67 (decimal b)
+saidText line (Castable b) words = printed 67 (numberText b)
 saidText line (Refused k) words = refusalLine line k
 
 -- WHAT A LINE LEAVES: the state after it in the slices, what it prints in the buffer

@@ -1,7 +1,6 @@
 // One line read and answered: its frame against the state, and what it says at the end of a lent buffer.
 use framestate::Numbers;
 use framestate::Said;
-use lineout::put_decimal_line;
 use lineout::put_number;
 use lineout::put_refusal;
 use lineout::put_variables;
@@ -32,9 +31,9 @@ fn put_said(out: &mut [u8], filled: usize, line: u64, said: Said, answers: &[u64
     match said {
         Said::Accepted => filled,
         Said::Solved => put_variables(out, filled, answers),
-        Said::Related(k) => put_decimal_line(out, filled, b'R', k),
+        Said::Related(k) => put_number(out, filled, b'R', k),
         Said::Supertyped(c) => put_number(out, filled, b'L', c),
-        Said::Castable(b) => put_decimal_line(out, filled, b'C', b),
+        Said::Castable(b) => put_number(out, filled, b'C', b),
         Said::Refused(k) => put_refusal(out, filled, line, k),
     }
 }
