@@ -389,9 +389,9 @@ fn many_pairs() -> Vec<u8> {
     frames.push(record(7, owner, &short(also(&new[..1]))));
     frames.push(record(7, owner, &short(also(&new[1..2]))));
     frames.push(record(0, (owner + 1) % 1024, &[]));
-    for place in 0..12 {
-        frames.push(pair(RELATION, owner, new[place]));
-        frames.push(pair(CAST, new[place], owner));
+    for other in new.iter().take(12) {
+        frames.push(pair(RELATION, owner, *other));
+        frames.push(pair(CAST, *other, owner));
         frames.push(question(&mut rng, 1024));
     }
     script(&frames)
