@@ -8,6 +8,7 @@ use judge::line_cases::*;
 use judge::lines::{lines, printed, Lines, COUNT, FLOW, READ, RELATION, SOLVE, VARIABLE, WRITE};
 use judge::rng::Rng;
 use judge::solve_cases::{any_problem, damage_problem};
+use judge::solves::Columns;
 use judge::stored::PAPER;
 
 /// What some lines print, the lines of it joined by a comma.
@@ -157,6 +158,24 @@ fn what_is_asked_again_is_answered_again() {
     assert_eq!(of(&rows), format!("{once}, {once}"));
 }
 
+/// Columns of equal length, and numbers of two bytes.
+fn can_be_lines(problem: &Columns) -> bool {
+    let [components, kinds, words] = &problem.bounds;
+    let links = [
+        &problem.flows,
+        &problem.upper_flows,
+        &problem.reads,
+        &problem.writes,
+    ];
+    let numbers = links.iter().flat_map(|link| link.iter().flatten());
+    let mut numbers = numbers.chain(&problem.variables).chain(components);
+    links.iter().all(|[left, right]| left.len() == right.len())
+        && components.len() == kinds.len()
+        && components.len() == words.len()
+        && problem.components <= 0xffff
+        && numbers.all(|number| *number <= 0xffff)
+}
+
 /// Rows as lines up to the first that is refused, and the same rows as columns.
 #[test]
 fn lines_say_what_columns_say() {
@@ -172,37 +191,7 @@ fn lines_say_what_columns_say() {
         if number % 4 == 3 {
             damage_problem(&mut rng, &mut problem);
         }
-        let columns = [
-            &problem.bounds[1..],
-            &problem.flows[1..],
-            &problem.upper_flows[1..],
-            &problem.reads[1..],
-            &problem.writes[1..],
-        ];
-        let first = [
-            &problem.bounds[0],
-            &problem.flows[0],
-            &problem.upper_flows[0],
-            &problem.reads[0],
-            &problem.writes[0],
-        ];
-        let even = columns
-            .iter()
-            .zip(first)
-            .all(|(rest, first)| rest.iter().all(|column| column.len() == first.len()));
-        let fits = |numbers: &[u64]| numbers.iter().all(|number| *number <= 0xffff);
-        let ends = [
-            &problem.flows,
-            &problem.upper_flows,
-            &problem.reads,
-            &problem.writes,
-        ];
-        if !even
-            || problem.components > 0xffff
-            || !fits(&problem.variables)
-            || !fits(&problem.bounds[0])
-            || !ends.iter().all(|ends| fits(&ends[0]) && fits(&ends[1]))
-        {
+        if !can_be_lines(&problem) {
             continue;
         }
         let mut state = Lines::default();
