@@ -14,6 +14,8 @@
 
 mod classes;
 mod descriptors;
+#[path = "../../bracepuffin/tests/shared/dressed.rs"]
+mod dressed;
 mod growth;
 mod hostile;
 mod measure;

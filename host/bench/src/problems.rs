@@ -4,7 +4,7 @@ use std::collections::BTreeSet;
 
 use bracepuffin::ffi::{BpSolved, BP_BOUNDS};
 use bracepuffin::slices::{self, ClassColumns, ProblemColumns, SolvedColumns};
-use bracepuffin::{ArgType, ArrayConstraint, BoundKind, ClassTable, TypeConstraints, WORK};
+use bracepuffin::{ClassTable, TypeConstraints, WORK};
 use dexdec::hierarchy::ClassHierarchyIndex;
 use dexdec::{Problem, SsaVar};
 use judge::classes::MAX_PAIRS;
@@ -15,6 +15,7 @@ use judge::solve_cases::{
 use judge::solves::Columns;
 
 use crate::classes::{index, program, table, Declared};
+use crate::dressed;
 
 /// How large a problem is, and its table.
 #[derive(Debug, Clone, Copy)]
@@ -66,48 +67,8 @@ impl Case {
 
     /// As the wrapper takes it.
     pub fn constraints(&self) -> TypeConstraints<'_, SsaVar> {
-        let problem = &self.problem;
-        let mut constraints = TypeConstraints {
-            members: problem.members.clone(),
-            flows: problem.flows.clone(),
-            upper_flows: problem.upper_flows.clone(),
-            ..TypeConstraints::default()
-        };
-        for (root, kind, ty) in &problem.bounds {
-            let of_root = constraints.bounds.entry(*root).or_default();
-            of_root.insert((BoundKind::ALL[*kind as usize], ours(ty)));
-        }
-        let reads = problem.reads.iter();
-        let reads = reads.map(|&(array, result)| ArrayConstraint::Read { array, result });
-        let writes = problem.writes.iter();
-        let writes = writes.map(|&(array, value)| ArrayConstraint::Write { array, value });
-        constraints.arrays = reads.chain(writes).collect();
-        constraints
+        dressed::constraints(&self.problem)
     }
-}
-
-fn ours(ty: &dexdec::ArgType) -> ArgType<'_> {
-    let mut dimensions = 0;
-    let mut base = ty;
-    while let dexdec::ArgType::Array(element) = base {
-        dimensions += 1;
-        base = element;
-    }
-    let category = |category: &dexdec::PrimitiveType| {
-        let number = words::category_number(*category);
-        bracepuffin::PrimitiveType::ALL[number as usize]
-    };
-    let base = match base {
-        dexdec::ArgType::Primitive(primitive) => ArgType::primitive(category(primitive)),
-        dexdec::ArgType::Object(name) => ArgType::object(name),
-        dexdec::ArgType::Unknown(list) => {
-            let list: Vec<_> = list.iter().map(category).collect();
-            let list = bracepuffin::Categories::new(&list);
-            ArgType::unknown_of(list.expect("no repeats"))
-        }
-        dexdec::ArgType::Array(_) => unreachable!("dimensions were taken off"),
-    };
-    ArgType { dimensions, ..base }
 }
 
 /// The slices that a solve writes, kept between calls.

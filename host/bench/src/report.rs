@@ -128,6 +128,7 @@ pub fn tables(effort: Effort, part: Option<&str>) -> String {
 
 /// Writes PERFORMANCE.md into a folder, and its plots into `performance` there.
 pub fn write(effort: Effort, folder: &Path) -> io::Result<()> {
+    let before = processor::load();
     let growths = growth::all(effort);
     fs::create_dir_all(folder.join("performance"))?;
     for growth in &growths {
@@ -139,7 +140,8 @@ pub fn write(effort: Effort, folder: &Path) -> io::Result<()> {
     let bills: Vec<Billed> = bills
         .map(|bill| (bill.title, (bill.costs)(effort), bill.why))
         .collect();
-    let text = text(&parts, &growths, &bills);
+    let loads = before.zip(processor::load());
+    let text = text(&parts, &growths, &bills, &beside(loads));
     fs::write(folder.join("PERFORMANCE.md"), text)
 }
 
@@ -149,7 +151,18 @@ type Measured = (&'static str, Vec<Row>, &'static str);
 /// The same of a list of costs.
 type Billed = (&'static str, Vec<Cost>, &'static str);
 
-fn text(parts: &[Measured], growths: &[Growth], bills: &[Billed]) -> String {
+/// Load and processors, before and after: what ran beside this, which alone takes one processor.
+fn beside(loads: Option<((f64, usize), (f64, usize))>) -> String {
+    match loads {
+        Some(((before, _), (after, processors))) if before.max(after) > 1.5 => format!(
+            "\nOther work ran beside it: the load of the machine's {processors} processors was {before:.1} at the start and \
+             {after:.1} at the end. A best turn is one that was let alone; a middle one may not be, and threads share what is left.\n"
+        ),
+        _ => String::new(),
+    }
+}
+
+fn text(parts: &[Measured], growths: &[Growth], bills: &[Billed], beside: &str) -> String {
     let mut text = format!(
         "# Performance\n\n\
          Written by `cargo run --release -p bench -- report` in `host/`, on {}.\n",
@@ -158,6 +171,10 @@ fn text(parts: &[Measured], growths: &[Growth], bills: &[Billed]) -> String {
     if let Some(reason) = processor::unfit() {
         text += &format!("\n**These figures say nothing: {reason}.**\n");
     }
+    if let Some(another) = processor::another() {
+        text += &format!("\n{another}\n");
+    }
+    text += beside;
     text += "\nEach row is timed in turns in one run: the Rust of docs/src, the boundary over slices, the Rust wrapper. A \
              time is that of the best turn, with the middle one and the one that nine in ten stay below; a ratio is the \
              Rust's best time divided by ours, so above 1 is faster than the Rust. Where the linker puts a loop can move \
@@ -256,7 +273,11 @@ fn spread(times: Times) -> String {
 
 /// With a digit that says something.
 fn ratio(ratio: f64) -> String {
-    let digits = if ratio < 0.1 { 3 } else { 1 };
+    let digits = match ratio {
+        ratio if ratio < 0.001 => 5,
+        ratio if ratio < 0.1 => 3,
+        _ => 1,
+    };
     format!("{ratio:.digits$}")
 }
 
@@ -286,7 +307,7 @@ mod tests {
     fn what_is_written() {
         let parts = [(
             "Part",
-            vec![row("fast", 40.0, 10.0), row("slow", 1.0, 2000.0)],
+            vec![row("fast", 40.0, 10.0), row("slow", 1.0, 5000.0)],
             "Why.",
         )];
         let growth = Growth {
@@ -306,12 +327,26 @@ mod tests {
         assert_eq!(plot.matches("<circle").count(), 2);
         assert!(!plot.contains("NaN") && !plot.contains("inf"));
         let costs = vec![("nothing".to_string(), times(3.0))];
-        let text = text(&parts, &[growth], &[("Bill", costs, "Because.")]);
+        let text = text(
+            &parts,
+            &[growth],
+            &[("Bill", costs, "Because.")],
+            "Beside.\n",
+        );
+        assert!(text.contains("Beside.\n"));
         assert!(text.contains("| fast | 40 ns (60 ns, 80 ns) | 10 ns (15 ns, 20 ns) | 4.0 |"));
         assert!(text.contains("![As it grows](performance/size.svg)"));
         assert!(text.contains("| things | one |\n|---|---|\n| 10 | 5.0 ns |\n| 1000 | 50 us |"));
-        assert!(text.contains("- slow: boundary 0.001, wrapper 0.001"));
+        assert!(text.contains("- slow: boundary 0.00020, wrapper 0.00020"));
         assert!(!text.contains("- fast"));
+    }
+
+    #[test]
+    fn other_work_is_told() {
+        assert_eq!(beside(None), "");
+        assert_eq!(beside(Some(((0.2, 2), (1.1, 2)))), "");
+        let told = beside(Some(((0.2, 2), (4.25, 2))));
+        assert!(told.contains("was 0.2 at the start and 4.2 at the end"));
     }
 
     /// The whole of it, with next to no effort.

@@ -261,9 +261,9 @@ extern "C" {
     ) -> BpFound;
 }
 
-/// Queries over a class table: its eight slices, the numbers asked about, the working slice.
-macro_rules! queries {
-    ($($(#[$doc:meta])* fn $name:ident($($number:ident),+) -> $answer:ty;)+) => {
+/// Functions over a class table: its eight slices come before what each takes more.
+macro_rules! over_a_table {
+    ($($(#[$doc:meta])* fn $name:ident($($more:ident: $kind:ty),* $(,)?) -> $answer:ty;)+) => {
         extern "C" {
             $($(#[$doc])* pub fn $name(
                 names: *const u8,
@@ -282,72 +282,31 @@ macro_rules! queries {
                 rec_len_n: usize,
                 parents: *const u64,
                 parents_n: usize,
-                $($number: u64,)+
-                work: *mut u64,
-                work_n: usize,
+                $($more: $kind,)*
             ) -> $answer;)+
         }
     };
 }
 
-queries! {
+over_a_table! {
     /// How a class stands to another.
-    fn bp_relation(value, expected) -> BpRelation;
+    fn bp_relation(value: u64, expected: u64, work: *mut u64, work_n: usize) -> BpRelation;
     /// How far an ancestor is.
-    fn bp_distance(value, expected) -> BpAnswer;
+    fn bp_distance(value: u64, expected: u64, work: *mut u64, work_n: usize) -> BpAnswer;
     /// The ancestors of a class.
-    fn bp_ancestors(class_no) -> BpSet;
+    fn bp_ancestors(class_no: u64, work: *mut u64, work_n: usize) -> BpSet;
     /// The least common supertype.
-    fn bp_supertype(left, right) -> BpAnswer;
+    fn bp_supertype(left: u64, right: u64, work: *mut u64, work_n: usize) -> BpAnswer;
     /// Whether a cast can succeed.
-    fn bp_cast(source, target) -> BpAnswer;
+    fn bp_cast(source: u64, target: u64, work: *mut u64, work_n: usize) -> BpAnswer;
     /// The join of two type words.
-    fn bp_join(left, right) -> BpAnswer;
+    fn bp_join(left: u64, right: u64, work: *mut u64, work_n: usize) -> BpAnswer;
     /// Whether a value of one type may stand where the other is expected.
-    fn bp_assignable(value, expected) -> BpAnswer;
-}
-
-extern "C" {
+    fn bp_assignable(value: u64, expected: u64, work: *mut u64, work_n: usize) -> BpAnswer;
     /// Whether a class table is accepted, and where it is refused.
-    pub fn bp_check_table(
-        names: *const u8,
-        names_n: usize,
-        name_at: *const u64,
-        name_at_n: usize,
-        name_len: *const u64,
-        name_len_n: usize,
-        rec_flags: *const u64,
-        rec_flags_n: usize,
-        rec_class: *const u64,
-        rec_class_n: usize,
-        rec_at: *const u64,
-        rec_at_n: usize,
-        rec_len: *const u64,
-        rec_len_n: usize,
-        parents: *const u64,
-        parents_n: usize,
-    ) -> BpTable;
-}
-
-extern "C" {
+    fn bp_check_table() -> BpTable;
     /// Solves a problem over a class table.
-    pub fn bp_solve(
-        names: *const u8,
-        names_n: usize,
-        name_at: *const u64,
-        name_at_n: usize,
-        name_len: *const u64,
-        name_len_n: usize,
-        rec_flags: *const u64,
-        rec_flags_n: usize,
-        rec_class: *const u64,
-        rec_class_n: usize,
-        rec_at: *const u64,
-        rec_at_n: usize,
-        rec_len: *const u64,
-        rec_len_n: usize,
-        parents: *const u64,
-        parents_n: usize,
+    fn bp_solve(
         components: u64,
         var_comp: *const u64,
         var_comp_n: usize,

@@ -165,30 +165,36 @@ pub fn lookup(table: Columns, key: &[u8]) -> BpFound {
     }
 }
 
+/// A call of an exported function: the slices of a class table, then what is given. Not safe, as the call is not.
+macro_rules! over_a_table {
+    ($exported:ident, $table:ident $(, $more:expr)* $(,)?) => {
+        ffi::$exported(
+            $table.names.names.as_ptr(),
+            $table.names.names.len(),
+            $table.names.name_at.as_ptr(),
+            $table.names.name_at.len(),
+            $table.names.name_len.as_ptr(),
+            $table.names.name_len.len(),
+            $table.rec_flags.as_ptr(),
+            $table.rec_flags.len(),
+            $table.rec_class.as_ptr(),
+            $table.rec_class.len(),
+            $table.rec_at.as_ptr(),
+            $table.rec_at.len(),
+            $table.rec_len.as_ptr(),
+            $table.rec_len.len(),
+            $table.parents.as_ptr(),
+            $table.parents.len(),
+            $($more,)*
+        )
+    };
+}
+
 /// Whether a class table is accepted, and which row is refused if it is not.
 #[inline]
 pub fn check_table(table: ClassColumns) -> BpTable {
     // SAFETY: pointers and lengths of live slices, none of which is written.
-    unsafe {
-        ffi::bp_check_table(
-            table.names.names.as_ptr(),
-            table.names.names.len(),
-            table.names.name_at.as_ptr(),
-            table.names.name_at.len(),
-            table.names.name_len.as_ptr(),
-            table.names.name_len.len(),
-            table.rec_flags.as_ptr(),
-            table.rec_flags.len(),
-            table.rec_class.as_ptr(),
-            table.rec_class.len(),
-            table.rec_at.as_ptr(),
-            table.rec_at.len(),
-            table.rec_len.as_ptr(),
-            table.rec_len.len(),
-            table.parents.as_ptr(),
-            table.parents.len(),
-        )
-    }
+    unsafe { over_a_table!(bp_check_table, table) }
 }
 
 /// Queries over a class table, which take the numbers asked about and the working slice.
@@ -199,27 +205,7 @@ macro_rules! queries {
         pub fn $name(table: ClassColumns, $($number: u64,)+ work: &mut [u64]) -> $answer {
             // SAFETY: pointers and lengths of live slices; the one that is written is borrowed for that alone.
             unsafe {
-                ffi::$exported(
-                    table.names.names.as_ptr(),
-                    table.names.names.len(),
-                    table.names.name_at.as_ptr(),
-                    table.names.name_at.len(),
-                    table.names.name_len.as_ptr(),
-                    table.names.name_len.len(),
-                    table.rec_flags.as_ptr(),
-                    table.rec_flags.len(),
-                    table.rec_class.as_ptr(),
-                    table.rec_class.len(),
-                    table.rec_at.as_ptr(),
-                    table.rec_at.len(),
-                    table.rec_len.as_ptr(),
-                    table.rec_len.len(),
-                    table.parents.as_ptr(),
-                    table.parents.len(),
-                    $($number,)+
-                    work.as_mut_ptr(),
-                    work.len(),
-                )
+                over_a_table!($exported, table, $($number,)+ work.as_mut_ptr(), work.len())
             }
         }
     )+};
@@ -252,23 +238,9 @@ pub fn solve(
 ) -> BpSolved {
     // SAFETY: pointers and lengths of live slices; those that are written are each borrowed for that alone.
     unsafe {
-        ffi::bp_solve(
-            table.names.names.as_ptr(),
-            table.names.names.len(),
-            table.names.name_at.as_ptr(),
-            table.names.name_at.len(),
-            table.names.name_len.as_ptr(),
-            table.names.name_len.len(),
-            table.rec_flags.as_ptr(),
-            table.rec_flags.len(),
-            table.rec_class.as_ptr(),
-            table.rec_class.len(),
-            table.rec_at.as_ptr(),
-            table.rec_at.len(),
-            table.rec_len.as_ptr(),
-            table.rec_len.len(),
-            table.parents.as_ptr(),
-            table.parents.len(),
+        over_a_table!(
+            bp_solve,
+            table,
             problem.components,
             problem.var_comp.as_ptr(),
             problem.var_comp.len(),

@@ -1,6 +1,7 @@
 //! The header compiles as C and as C++ and names the refusals as `Refusal` does, and the worked calls from C print what
 //! the manual says. A machine without a compiler fails these tests: `.ci/host-env` installs one.
 
+use std::env::consts::ARCH;
 use std::path::{Path, PathBuf};
 use std::process::Command;
 use std::{env, fs};
@@ -149,7 +150,7 @@ fn the_header_of_another_version_does_not_link() {
         let source = folder.join("main.c");
         let text = "#include \"bracepuffin.h\"\nint main(void) { return 0; }\n";
         fs::write(&source, text).expect("written");
-        let mut command = Command::new(compiler(&["cc", "gcc", "x86_64-linux-gnu-gcc"], "x86_64"));
+        let mut command = Command::new(compiler(&["cc", "gcc", "x86_64-linux-gnu-gcc"], ARCH));
         command.args(["-O2", "-I"]).arg(&folder).arg(&source);
         command.arg(env!("BRACEPUFFIN_ARCHIVE"));
         let output = command.arg("-o").arg(folder.join("main")).output();
@@ -176,7 +177,7 @@ fn the_header_names_no_other_refusal() {
 
 /// What an example in C prints.
 fn printed(example: &str) -> String {
-    let compiler = compiler(&["cc", "gcc", "x86_64-linux-gnu-gcc"], "x86_64");
+    let compiler = compiler(&["cc", "gcc", "x86_64-linux-gnu-gcc"], ARCH);
     let program = Path::new(env!("CARGO_TARGET_TMPDIR")).join(example);
     let mut command = Command::new(compiler);
     command.arg("-std=c99").args(WARNINGS);

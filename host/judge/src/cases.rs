@@ -6,6 +6,18 @@ use crate::rng::Rng;
 /// Bytes that tell the rules apart: letters with and without a meaning, marks, pieces of UTF-8.
 pub const ALPHABET: [u8; 23] = *b"VZBIJDL[;()/.a?\0\x80\xa9\xc3\xe2\xed\xf4\xff";
 
+/// Characters whose encodings have each length, at the edges of it.
+pub const CHARACTERS: [char; 8] = [
+    'a',
+    '\u{7f}',
+    '\u{80}',
+    '\u{7ff}',
+    '\u{800}',
+    '\u{d7ff}',
+    '\u{e000}',
+    '\u{10ffff}',
+];
+
 /// Descriptors of types and methods as they occur in programs.
 pub const REAL_TYPES: [&str; 14] = [
     "V",

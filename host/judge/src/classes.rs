@@ -137,7 +137,7 @@ impl Classes {
 }
 
 /// 1 is declared, 2 interface, 4 final; the last two need the first.
-fn is_flags(flags: u64) -> bool {
+pub(crate) fn is_flags(flags: u64) -> bool {
     [0, 1, 3, 5, 7].contains(&flags)
 }
 

@@ -15,7 +15,7 @@ pub const MAX_UPPER_FLOWS: usize = 1024;
 /// Reads and writes together.
 pub const MAX_ARRAYS: usize = 1024;
 
-const KINDS: [Kind; 5] = [
+pub(crate) const KINDS: [Kind; 5] = [
     Kind::Domain,
     Kind::Fallback,
     Kind::Upper,
@@ -229,15 +229,15 @@ impl Classes {
             ..Solved::default()
         };
         match self.solve_refusal(problem, lent) {
-            0 => self.judge().solve(problem).unwrap_or_else(refused),
+            0 => self.judge().run(problem).unwrap_or_else(refused),
             refusal => refused(refusal),
         }
     }
 }
 
 impl Judge {
-    /// `solve` and `propagate` of lattice.rs, and the turns; or which limit they pass.
-    fn solve(&self, columns: &Columns) -> Result<Solved, u64> {
+    /// `solve` and `propagate` of lattice.rs, and the turns; or which limit they pass. Of columns that are not refused.
+    pub(crate) fn run(&self, columns: &Columns) -> Result<Solved, u64> {
         let problem = columns.problem(&self.names);
         match limits::refusal(&problem, &self.index) {
             0 => {}

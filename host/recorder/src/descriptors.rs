@@ -1,7 +1,7 @@
 //! Cases for descriptors and names, judged by ty.rs, by the standard library and by the rules of the paper.
 
 use judge::cases::{any_descriptor, any_method, any_name, any_table, any_type, any_word};
-use judge::cases::{each_damaged, each_string, ALPHABET, REAL_METHODS, REAL_TYPES};
+use judge::cases::{each_damaged, each_string, ALPHABET, CHARACTERS, REAL_METHODS, REAL_TYPES};
 use judge::paper::Table;
 use judge::{MethodAnswer, TypeAnswer};
 
@@ -455,16 +455,6 @@ pub fn utf8(rng: &mut Rng, out: &mut Out) {
 
 /// Characters of every length, with up to two bytes changed.
 fn any_text(rng: &mut Rng) -> Vec<u8> {
-    const CHARACTERS: [char; 8] = [
-        'a',
-        '\u{7f}',
-        '\u{80}',
-        '\u{7ff}',
-        '\u{800}',
-        '\u{d7ff}',
-        '\u{e000}',
-        '\u{10ffff}',
-    ];
     let count = 1 + rng.below(10);
     let text: String = (0..count).map(|_| *rng.pick(&CHARACTERS)).collect();
     let mut bytes = text.into_bytes();

@@ -1,7 +1,8 @@
 //! Test vectors: for each function its arguments and the answer that the Rust gives, one case a line.
 //!
 //! `FILES` lists the files and each file its functions; a new function is one more row there. Each function draws
-//! from a stream of its own, made of the seed and its name, so a new row changes no line of the others.
+//! from a stream of its own, made of the seed and its name, so a new row changes no line of the others. `run` makes a whole
+//! input of the program that reads hex lines, with its output.
 
 mod descriptors;
 mod joins;
@@ -185,6 +186,16 @@ pub fn record(file: &File, seed: u64, size: u64) -> String {
         text.push_str(&out.lines());
     }
     text
+}
+
+/// The seed of the stored run of the program that reads hex lines.
+pub const RUN_SEED: u64 = 1;
+
+/// A run of the program that reads hex lines: its input, and what it must print.
+pub fn run(seed: u64) -> (Vec<u8>, String) {
+    let input = judge::line_cases::stored_script(seed);
+    let output = judge::lines::printed(&input);
+    (input, output)
 }
 
 fn header(file: &File, seed: u64, size: u64) -> String {

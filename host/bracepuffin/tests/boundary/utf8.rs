@@ -1,7 +1,7 @@
 //! UTF-8 in names against the standard library: refusal 12 stands where `valid_up_to` says.
 
 use bracepuffin::slices;
-use judge::cases::each_string;
+use judge::cases::{each_string, CHARACTERS};
 use judge::rng::Rng;
 
 use crate::cases;
@@ -87,18 +87,7 @@ fn damaged_text() {
     let mut rng = Rng::new(1, "damaged text");
     for _ in 0..cases(100_000) {
         let text: String = (0..1 + rng.below(12))
-            .map(|_| {
-                *rng.pick(&[
-                    'a',
-                    '\u{7f}',
-                    '\u{80}',
-                    '\u{7ff}',
-                    '\u{800}',
-                    '\u{d7ff}',
-                    '\u{e000}',
-                    '\u{10ffff}',
-                ])
-            })
+            .map(|_| *rng.pick(&CHARACTERS))
             .collect();
         let mut name = text.into_bytes();
         for _ in 0..rng.below(3) {

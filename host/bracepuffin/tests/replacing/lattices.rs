@@ -6,7 +6,8 @@ use dexdec::{lattice, turns, ArgType, Kind, Problem, SsaVar};
 use judge::class_cases::any_classes;
 use judge::rng::Rng;
 
-use crate::{asked, builder, cases, index, ours, records, Replaced};
+use crate::dressed::ours;
+use crate::{asked, builder, cases, index, records, Replaced};
 
 /// A type over these classes, of any kind.
 fn any_type(rng: &mut Rng, classes: &[String]) -> ArgType {

@@ -5,6 +5,8 @@
 //! What is private in lattice.rs is reached through `dexdec::lattice`; `TypeLattice::solve` itself runs over both.
 //! `ClassHierarchyIndex::layered` has no counterpart, and `freeze_distances` needs none: `Replaced` is never mutated.
 
+#[path = "../shared/dressed.rs"]
+mod dressed;
 mod lattices;
 mod parts;
 #[path = "../shared/mod.rs"]
@@ -12,7 +14,7 @@ mod parts;
 mod shared;
 mod solves;
 
-use bracepuffin::{ArgType, ClassTable, ClassTableBuilder, ReferenceTypeInfo, Relation, Relations};
+use bracepuffin::{ClassTable, ClassTableBuilder, ReferenceTypeInfo, Relation, Relations};
 use dexdec::hierarchy::{self, ClassHierarchyIndex, SubtypeRelation, TypeHierarchy};
 use judge::class_cases::{any_classes, layered_classes};
 use judge::classes::Classes;
@@ -202,29 +204,4 @@ fn many_declared_types_at_once() {
             assert_eq!(table.is_subtype(left, right), index.is_subtype(left, right));
         }
     }
-}
-
-/// A type of dexdec as the wrapper has it.
-fn ours(ty: &dexdec::ArgType) -> ArgType<'_> {
-    let mut dimensions = 0;
-    let mut base = ty;
-    while let dexdec::ArgType::Array(element) = base {
-        dimensions += 1;
-        base = element;
-    }
-    let category = |category: &dexdec::PrimitiveType| {
-        let number = words::category_number(*category);
-        bracepuffin::PrimitiveType::ALL[number as usize]
-    };
-    let base = match base {
-        dexdec::ArgType::Primitive(primitive) => ArgType::primitive(category(primitive)),
-        dexdec::ArgType::Object(name) => ArgType::object(name),
-        dexdec::ArgType::Unknown(list) => {
-            let list: Vec<_> = list.iter().map(category).collect();
-            let list = bracepuffin::Categories::new(&list);
-            ArgType::unknown_of(list.expect("no repeats"))
-        }
-        dexdec::ArgType::Array(_) => unreachable!("dimensions were taken off"),
-    };
-    ArgType { dimensions, ..base }
 }

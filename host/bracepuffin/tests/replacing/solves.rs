@@ -2,36 +2,13 @@
 //! the turns.
 
 use bracepuffin::{ArgType, ArrayConstraint, BoundKind, ClassTable, Refusal, TypeConstraints};
-use dexdec::{lattice, turns, Kind, Problem, SsaVar};
+use dexdec::{lattice, turns, SsaVar};
 use judge::class_cases::any_classes;
 use judge::rng::Rng;
 
+use crate::dressed::{constraints, kind, ours};
 use crate::lattices::any_problem;
-use crate::{asked, builder, cases, index, ours, records};
-
-fn kind(kind: Kind) -> BoundKind {
-    BoundKind::ALL[kind as usize]
-}
-
-/// The same problem in the wrapper's clothes.
-fn constraints(problem: &Problem) -> TypeConstraints<'_, SsaVar> {
-    let mut constraints = TypeConstraints {
-        members: problem.members.clone(),
-        flows: problem.flows.clone(),
-        upper_flows: problem.upper_flows.clone(),
-        ..TypeConstraints::default()
-    };
-    for (root, bound, ty) in &problem.bounds {
-        let of_root = constraints.bounds.entry(*root).or_default();
-        of_root.insert((kind(*bound), ours(ty)));
-    }
-    let reads = problem.reads.iter();
-    let reads = reads.map(|&(array, result)| ArrayConstraint::Read { array, result });
-    let writes = problem.writes.iter();
-    let writes = writes.map(|&(array, value)| ArrayConstraint::Write { array, value });
-    constraints.arrays = reads.chain(writes).collect();
-    constraints
-}
+use crate::{asked, builder, cases, index, records};
 
 #[test]
 fn random_problems() {
