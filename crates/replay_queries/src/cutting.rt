@@ -1,146 +1,84 @@
-// A table among numbers: how many working words are lent, the bytes that names are cut from (where they begin and end in
-// the store), and eight lists: name_at, name_len; types; rec_flags, rec_class, rec_at, rec_len; parents.
-use crate::judging;
-use replaying::answers::Verdict;
+// A table among numbers, and where each of its lists stands: how many working words are lent, the bytes that names are cut from (where they begin
+// and end in the store), and eight lists: name_at, name_len; types; rec_flags, rec_class, rec_at, rec_len; parents. Places go from function to
+// function in a struct: the slices are cut where they are handed to the boundary.
 use replaying::lists;
+use replaying::lists::Span;
+ghost use Prim.Native.Nat.{_≤_};
+ghost use lib.ListN.{length};
+ghost use Rattle.replaying.specs.Replaying.{Inside};
+ghost use Rattle.replay_queries.specs.Places.{TableIn};
 
-// Cuts the lists of records, and judges.
-fn cut_records(
-    place: usize,
-    names: &[u8],
-    name_at: &[u64],
-    name_len: &[u64],
-    types: &[u64],
-    t: &[u64],
-    x: u64,
-    y: u64,
-    r: &[u64],
-    work: &mut [u64],
-) -> Verdict {
-    let a = lists::end(t, 0);
-    if a == 0 {
-        return Verdict::Unread;
-    }
-    let b = lists::end(t, a);
-    if b <= a {
-        return Verdict::Unread;
-    }
-    let c = lists::end(t, b);
-    if c <= b {
-        return Verdict::Unread;
-    }
-    let d = lists::end(t, c);
-    if d <= c {
-        return Verdict::Unread;
-    }
-    let e = lists::end_before(t, d, 0);
-    if e <= d {
-        return Verdict::Unread;
-    }
-    judging::judge(
-        place,
-        names,
-        name_at,
-        name_len,
-        &t[1..a],
-        &t[a + 1..b],
-        &t[b + 1..c],
-        &t[c + 1..d],
-        &t[d + 1..e],
-        types,
-        x,
-        y,
-        r,
-        work,
-    )
+// No table has more numbers.
+pub(crate) const MOST: usize = 2048;
+
+// The bytes of the names in the store, and the lists.
+pub(crate) struct Table {
+    pub(crate) bytes: Span,
+    pub(crate) at: Span,
+    pub(crate) len: Span,
+    pub(crate) types: Span,
+    pub(crate) flags: Span,
+    pub(crate) class: Span,
+    pub(crate) first: Span,
+    pub(crate) count: Span,
+    pub(crate) parents: Span,
 }
 
-// Cuts the lists before those.
-fn cut(
-    place: usize,
-    names: &[u8],
-    t: &[u64],
-    x: u64,
-    y: u64,
-    r: &[u64],
-    room: usize,
-    work: &mut [u64],
-) -> Verdict {
-    if work.len() < room {
-        return Verdict::Unread;
-    }
-    let a = lists::end(t, 3);
-    if a <= 3 {
-        return Verdict::Unread;
-    }
-    let b = lists::end(t, a);
-    if b <= a {
-        return Verdict::Unread;
-    }
-    let c = lists::end(t, b);
-    if c <= b {
-        return Verdict::Unread;
-    }
-    cut_records(
-        place,
-        names,
-        &t[4..a],
-        &t[a + 1..b],
-        &t[b + 1..c],
-        &t[c..],
-        x,
-        y,
-        r,
-        &mut work[0..room],
-    )
-}
-
-// How many arguments the line at a place of the names has: a table and its check `n`, a pair two, each other one; none past
-// the names.
-fn arguments(place: usize, n: usize) -> usize {
-    match place {
-        0 => n,
-        1 => 2,
-        2..=4 => 1,
-        5 => n,
-        _ => 0,
-    }
-}
-
-// An argument; for a table the word of Int, of which it is asked.
-fn argument(place: usize, n: u64) -> u64 {
-    if place == 0 {
-        return 5;
-    }
-    n
-}
-
-// The verdict on the line at a place of the names about a table: its arguments, and the answers recorded.
-pub(crate) fn over(place: usize, t: &[u64], store: &[u8], q: &[u64], r: &[u64]) -> Verdict {
-    let mut work = [0u64; 8200];
-    let n = q.len();
-    if n == 0 || n != arguments(place, n) {
-        return Verdict::Unread;
-    }
+// The bytes between the second and the third number of a table; none where they do not stand so in the store.
+fn names_of(t: &[u64], store: usize) -> Span
+    ensures { λ r. ⌜ Inside r store ⌝ }
+{
     if t.len() < 3 {
-        return Verdict::Unread;
+        return Span { start: 0, end: 0 };
     }
-    let s = t[1] as usize;
-    let e = t[2] as usize;
-    if e < s {
-        return Verdict::Unread;
+    let start = t[1] as usize;
+    let end = t[2] as usize;
+    if end < start {
+        return Span { start: 0, end: 0 };
     }
-    if store.len() < e {
-        return Verdict::Unread;
+    if store < end {
+        return Span { start: 0, end: 0 };
     }
-    cut(
-        place,
-        &store[s..e],
-        t,
-        argument(place, q[0]),
-        argument(place, q[n - 1]),
-        r,
-        t[0] as usize,
-        &mut work,
-    )
+    Span { start, end }
+}
+
+pub(crate) fn table_of(t: &[u64], store: usize) -> Table
+    requires { ⌜ length (now t) ≤ 2048 ⌝ }
+    ensures { λ r. ⌜ TableIn r store (length (now (t .entry))) ⌝ }
+{
+    let at = lists::after(t, Span { start: 3, end: 3 });
+    let len = lists::after(t, at);
+    let types = lists::after(t, len);
+    let flags = lists::after(t, types);
+    let class = lists::after(t, flags);
+    let first = lists::after(t, class);
+    let count = lists::after(t, first);
+    let parents = lists::after(t, count);
+    Table {
+        bytes: names_of(t, store),
+        at,
+        len,
+        types,
+        flags,
+        class,
+        first,
+        count,
+        parents,
+    }
+}
+
+// The number at a place, 0 past the end.
+pub(crate) fn number_at(t: &[u64], i: usize) -> u64 {
+    if i < t.len() {
+        return t[i];
+    }
+    0
+}
+
+// Whether the places are those that the numbers say, up to the last number.
+pub(crate) fn is_table(t: &[u64], c: Table) -> bool {
+    if c.parents.start == 0 || c.parents.end != t.len() {
+        return false;
+    }
+    c.bytes.start == number_at(t, 1) as usize && c.bytes.end == number_at(t, 2) as usize
 }

@@ -1,10 +1,15 @@
 // What is said over a table of eight columns, beside the answers recorded.
 use crate::asking;
+use crate::cutting;
+use crate::cutting::MOST;
+use crate::cutting::Table;
 use bracepuffin::BpSet;
 use bracepuffin::BpTable;
 use replaying::answers;
 use replaying::answers::Verdict;
 use replaying::lists;
+ghost use lib.ListN.{length};
+ghost use Rattle.replay_queries.specs.Places.{TableIn};
 
 // The question whose answer stands at index i of a line's answers: a pair has four, one after the other, a table is asked for
 // a join.
@@ -40,20 +45,17 @@ fn count(place: usize, types: &[u64]) -> usize {
 // Whether the answers to a line are those recorded: the refusal of all, then an answer for each.
 fn are_said(
     place: usize,
-    names: &[u8],
-    name_at: &[u64],
-    name_len: &[u64],
-    rec_flags: &[u64],
-    rec_class: &[u64],
-    rec_at: &[u64],
-    rec_len: &[u64],
-    parents: &[u64],
+    t: &[u64],
+    store: &[u8],
+    c: Table,
     types: &[u64],
     x: u64,
     y: u64,
     r: &[u64],
     work: &mut [u64],
-) -> bool {
+) -> bool
+    requires { ⌜ TableIn c (length (now store)) (length (now t)) ⌝ }
+{
     if r.len() == 0 {
         return false;
     }
@@ -65,16 +67,11 @@ fn are_said(
     while next < r.len() {
         let recorded = r[next];
         let i = next - 1;
-        let said = asking::answer(
+        let said = asking::ask(
             question(place, i),
-            names,
-            name_at,
-            name_len,
-            rec_flags,
-            rec_class,
-            rec_at,
-            rec_len,
-            parents,
+            t,
+            store,
+            c,
             x,
             other(place, types, y, i),
             work,
@@ -124,66 +121,92 @@ fn is_check(c: BpTable, r: &[u64]) -> Verdict {
     answers::all(&[c.refusal, c.part, c.row], r)
 }
 
-// The verdict on the line at a place of the names: its first and last argument, and the answers recorded.
-pub(crate) fn judge(
+// The verdict on the line at a place of the names, with so much work lent: its first and last argument, and the answers recorded.
+fn judge(
     place: usize,
-    names: &[u8],
-    name_at: &[u64],
-    name_len: &[u64],
-    rec_flags: &[u64],
-    rec_class: &[u64],
-    rec_at: &[u64],
-    rec_len: &[u64],
-    parents: &[u64],
-    types: &[u64],
+    t: &[u64],
+    store: &[u8],
+    c: Table,
     x: u64,
     y: u64,
     r: &[u64],
     work: &mut [u64],
-) -> Verdict {
+) -> Verdict
+    requires { ⌜ TableIn c (length (now store)) (length (now t)) ⌝ }
+{
     if place == 2 {
-        let s = bracepuffin::bp_ancestors(
-            names,
-            name_at,
-            name_len,
-            rec_flags,
-            rec_class,
-            rec_at,
-            rec_len,
-            parents,
-            x,
-            work,
-        );
-        return is_set(s, r);
+        return is_set(asking::ancestors(t, store, c, x, work), r);
     }
     if place == 5 {
-        let c = bracepuffin::bp_check_table(
-            names,
-            name_at,
-            name_len,
-            rec_flags,
-            rec_class,
-            rec_at,
-            rec_len,
-            parents,
-        );
-        return is_check(c, r);
+        return is_check(asking::check(t, store, c), r);
     }
-    let is_said = are_said(
-        place,
-        names,
-        name_at,
-        name_len,
-        rec_flags,
-        rec_class,
-        rec_at,
-        rec_len,
-        parents,
-        types,
-        x,
-        y,
-        r,
-        work,
-    );
-    answers::judged(is_said)
+    let start = c.types.start;
+    let end = c.types.end;
+    answers::judged(are_said(place, t, store, c, &t[start..end], x, y, r, work))
+}
+
+// The same with the first entries of these lent.
+fn judge_in(
+    place: usize,
+    t: &[u64],
+    store: &[u8],
+    c: Table,
+    x: u64,
+    y: u64,
+    r: &[u64],
+    work: &mut [u64],
+) -> Verdict
+    requires { ⌜ TableIn c (length (now store)) (length (now t)) ⌝ }
+{
+    let room = cutting::number_at(t, 0) as usize;
+    if work.len() < room {
+        return Verdict::Unread;
+    }
+    judge(place, t, store, c, x, y, r, &mut work[0..room])
+}
+
+// The same in a local array.
+fn afresh(place: usize, t: &[u64], store: &[u8], c: Table, x: u64, y: u64, r: &[u64]) -> Verdict
+    requires { ⌜ TableIn c (length (now store)) (length (now t)) ⌝ }
+{
+    let mut work = [0u64; 8200];
+    judge_in(place, t, store, c, x, y, r, &mut work)
+}
+
+// How many arguments the line at a place of the names has: a table and its check `n`, a pair two, each other one; none past
+// the names.
+fn arguments(place: usize, n: usize) -> usize {
+    match place {
+        0 => n,
+        1 => 2,
+        2..=4 => 1,
+        5 => n,
+        _ => 0,
+    }
+}
+
+// An argument; for a table the word of Int, of which it is asked.
+fn argument(place: usize, n: u64) -> u64 {
+    if place == 0 {
+        return 5;
+    }
+    n
+}
+
+// The verdict on the line at a place of the names about a table: its arguments, and the answers recorded.
+pub(crate) fn over(place: usize, t: &[u64], store: &[u8], q: &[u64], r: &[u64]) -> Verdict {
+    let n = q.len();
+    if n == 0 || n != arguments(place, n) {
+        return Verdict::Unread;
+    }
+    let x = argument(place, q[0]);
+    let y = argument(place, q[n - 1]);
+    if MOST < t.len() {
+        return Verdict::Unread;
+    }
+    let c = cutting::table_of(t, store.len());
+    if cutting::is_table(t, c) {
+        return afresh(place, t, store, c, x, y, r);
+    }
+    Verdict::Unread
 }

@@ -37,7 +37,7 @@ fn judge(c: Case, numbers: &[u64], held: usize, table: &[u64], store: &[u8]) -> 
     if table.len() < held {
         return Verdict::Unread;
     }
-    cutting::over(
+    judging::over(
         c.place,
         &table[0..held],
         store,

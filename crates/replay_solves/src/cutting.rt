@@ -1,348 +1,195 @@
-// A table and a problem among numbers. A table: where the bytes that names are cut from begin and end in the store, and seven
-// lists: name_at, name_len; rec_flags, rec_class, rec_at, rec_len; parents. A problem: how many components there are, and
-// twelve lists: variables; components, kinds and words of bounds; two each of flows, upper flows, reads and writes.
-use bracepuffin::BpSolved;
-use replaying::answers::MISSING;
+// A table and a problem among numbers, and where each of their lists stands. A table: where the bytes that names are cut from begin and end in
+// the store, and seven lists: name_at, name_len; rec_flags, rec_class, rec_at, rec_len; parents. A problem: five lengths of lent slices, how many
+// components there are, and twelve lists: variables; components, kinds and words of bounds; two each of flows, upper flows, reads and writes.
+// Places go from function to function in structs: the slices are cut where they are handed to the boundary, and nowhere else.
 use replaying::lists;
+use replaying::lists::Span;
+ghost use Prim.Native.Nat.{_≤_};
+ghost use lib.ListN.{length};
+ghost use Rattle.replaying.specs.Replaying.{Inside};
+ghost use Rattle.replay_solves.specs.Places.{TableIn, BoundsIn, LinksIn, RoomIn};
 
-// No line has more numbers. Tested last before a cut: a proof's search sees what was tested last.
-const MOST: usize = 1600;
+// No line has more numbers.
+pub(crate) const MOST: usize = 1600;
 
-// What stands for a line whose numbers are not in that form: no refusal has this number.
-pub(crate) fn unread() -> BpSolved {
-    BpSolved {
-        refusal: MISSING,
-        bounds: 0,
-        turns: 0,
-    }
+// How many entries of each kind can be lent.
+pub(crate) const ANSWERS: usize = 64;
+
+pub(crate) const BOUNDS: usize = 4100;
+
+pub(crate) const WORK: usize = 8200;
+
+// The bytes of the names in the store, and the lists of a table.
+pub(crate) struct Table {
+    pub(crate) bytes: Span,
+    pub(crate) at: Span,
+    pub(crate) len: Span,
+    pub(crate) flags: Span,
+    pub(crate) class: Span,
+    pub(crate) first: Span,
+    pub(crate) count: Span,
+    pub(crate) parents: Span,
 }
 
-// Cuts the lists of reads and writes, and solves.
-fn cut_arrays(
-    names: &[u8],
-    name_at: &[u64],
-    name_len: &[u64],
-    rec_flags: &[u64],
-    rec_class: &[u64],
-    rec_at: &[u64],
-    rec_len: &[u64],
-    parents: &[u64],
-    components: u64,
-    var_comp: &[u64],
-    bnd_comp: &[u64],
-    bnd_kind: &[u64],
-    bnd_type: &[u64],
-    flow_src: &[u64],
-    flow_dst: &[u64],
-    up_src: &[u64],
-    up_dst: &[u64],
-    p: &[u64],
-    answers: &mut [u64],
-    out_comp: &mut [u64],
-    out_kind: &mut [u64],
-    out_type: &mut [u64],
-    work: &mut [u64],
-) -> BpSolved {
-    let a = lists::end(p, 0);
-    if a == 0 {
-        return unread();
-    }
-    let b = lists::end(p, a);
-    if b <= a {
-        return unread();
-    }
-    let c = lists::end(p, b);
-    if c <= b {
-        return unread();
-    }
-    let d = lists::end_before(p, c, 0);
-    if d <= c {
-        return unread();
-    }
-    if MOST < p.len() {
-        return unread();
-    }
-    bracepuffin::bp_solve(
-        names,
-        name_at,
-        name_len,
-        rec_flags,
-        rec_class,
-        rec_at,
-        rec_len,
-        parents,
-        components,
-        var_comp,
-        bnd_comp,
-        bnd_kind,
-        bnd_type,
-        flow_src,
-        flow_dst,
-        up_src,
-        up_dst,
-        &p[1..a],
-        &p[a + 1..b],
-        &p[b + 1..c],
-        &p[c + 1..d],
-        answers,
-        out_comp,
-        out_kind,
-        out_type,
-        work,
-    )
+// The lists of variables, bounds and flows.
+pub(crate) struct Bounds {
+    pub(crate) variables: Span,
+    pub(crate) components: Span,
+    pub(crate) kinds: Span,
+    pub(crate) words: Span,
+    pub(crate) sources: Span,
+    pub(crate) targets: Span,
 }
 
-// Cuts the lists of flows and upper flows before those.
-fn cut_flows(
-    names: &[u8],
-    name_at: &[u64],
-    name_len: &[u64],
-    rec_flags: &[u64],
-    rec_class: &[u64],
-    rec_at: &[u64],
-    rec_len: &[u64],
-    parents: &[u64],
-    components: u64,
-    var_comp: &[u64],
-    bnd_comp: &[u64],
-    bnd_kind: &[u64],
-    bnd_type: &[u64],
-    p: &[u64],
-    answers: &mut [u64],
-    out_comp: &mut [u64],
-    out_kind: &mut [u64],
-    out_type: &mut [u64],
-    work: &mut [u64],
-) -> BpSolved {
-    let a = lists::end(p, 0);
-    if a == 0 {
-        return unread();
-    }
-    let b = lists::end(p, a);
-    if b <= a {
-        return unread();
-    }
-    let c = lists::end(p, b);
-    if c <= b {
-        return unread();
-    }
-    let d = lists::end(p, c);
-    if d <= c {
-        return unread();
-    }
-    if MOST < p.len() {
-        return unread();
-    }
-    cut_arrays(
-        names,
-        name_at,
-        name_len,
-        rec_flags,
-        rec_class,
-        rec_at,
-        rec_len,
-        parents,
-        components,
-        var_comp,
-        bnd_comp,
-        bnd_kind,
-        bnd_type,
-        &p[1..a],
-        &p[a + 1..b],
-        &p[b + 1..c],
-        &p[c + 1..d],
-        &p[d..],
-        answers,
-        out_comp,
-        out_kind,
-        out_type,
-        work,
-    )
+// The lists of upper flows, reads and writes.
+pub(crate) struct Links {
+    pub(crate) lowers: Span,
+    pub(crate) uppers: Span,
+    pub(crate) arrays: Span,
+    pub(crate) results: Span,
+    pub(crate) stores: Span,
+    pub(crate) values: Span,
 }
 
-// Cuts the lists of variables and bounds before those.
-fn cut_bounds(
-    names: &[u8],
-    name_at: &[u64],
-    name_len: &[u64],
-    rec_flags: &[u64],
-    rec_class: &[u64],
-    rec_at: &[u64],
-    rec_len: &[u64],
-    parents: &[u64],
-    components: u64,
-    p: &[u64],
-    answers: &mut [u64],
-    out_comp: &mut [u64],
-    out_kind: &mut [u64],
-    out_type: &mut [u64],
-    work: &mut [u64],
-) -> BpSolved {
-    let a = lists::end(p, 0);
-    if a == 0 {
-        return unread();
-    }
-    let b = lists::end(p, a);
-    if b <= a {
-        return unread();
-    }
-    let c = lists::end(p, b);
-    if c <= b {
-        return unread();
-    }
-    let d = lists::end(p, c);
-    if d <= c {
-        return unread();
-    }
-    if MOST < p.len() {
-        return unread();
-    }
-    cut_flows(
-        names,
-        name_at,
-        name_len,
-        rec_flags,
-        rec_class,
-        rec_at,
-        rec_len,
-        parents,
-        components,
-        &p[1..a],
-        &p[a + 1..b],
-        &p[b + 1..c],
-        &p[c + 1..d],
-        &p[d..],
-        answers,
-        out_comp,
-        out_kind,
-        out_type,
-        work,
-    )
+// How many entries are lent of each slice.
+pub(crate) struct Room {
+    pub(crate) answers: usize,
+    pub(crate) components: usize,
+    pub(crate) kinds: usize,
+    pub(crate) types: usize,
+    pub(crate) work: usize,
 }
 
-// Cuts the lists of records.
-fn cut_records(
-    names: &[u8],
-    name_at: &[u64],
-    name_len: &[u64],
-    t: &[u64],
-    components: u64,
-    p: &[u64],
-    answers: &mut [u64],
-    out_comp: &mut [u64],
-    out_kind: &mut [u64],
-    out_type: &mut [u64],
-    work: &mut [u64],
-) -> BpSolved {
-    let a = lists::end(t, 0);
-    if a == 0 {
-        return unread();
-    }
-    let b = lists::end(t, a);
-    if b <= a {
-        return unread();
-    }
-    let c = lists::end(t, b);
-    if c <= b {
-        return unread();
-    }
-    let d = lists::end(t, c);
-    if d <= c {
-        return unread();
-    }
-    let e = lists::end_before(t, d, 0);
-    if e <= d {
-        return unread();
-    }
-    if MOST < t.len() {
-        return unread();
-    }
-    cut_bounds(
-        names,
-        name_at,
-        name_len,
-        &t[1..a],
-        &t[a + 1..b],
-        &t[b + 1..c],
-        &t[c + 1..d],
-        &t[d + 1..e],
-        components,
-        p,
-        answers,
-        out_comp,
-        out_kind,
-        out_type,
-        work,
-    )
-}
-
-// Cuts the lists of names before those.
-fn cut_names(
-    names: &[u8],
-    t: &[u64],
-    components: u64,
-    p: &[u64],
-    answers: &mut [u64],
-    out_comp: &mut [u64],
-    out_kind: &mut [u64],
-    out_type: &mut [u64],
-    work: &mut [u64],
-) -> BpSolved {
-    let a = lists::end(t, 0);
-    if a == 0 {
-        return unread();
-    }
-    let b = lists::end(t, a);
-    if b <= a {
-        return unread();
-    }
-    cut_records(
-        names,
-        &t[1..a],
-        &t[a + 1..b],
-        &t[b..],
-        components,
-        p,
-        answers,
-        out_comp,
-        out_kind,
-        out_type,
-        work,
-    )
-}
-
-// The solve of a problem over a table, into these slices.
-pub(crate) fn solve(
-    t: &[u64],
-    store: &[u8],
-    components: u64,
-    p: &[u64],
-    answers: &mut [u64],
-    out_comp: &mut [u64],
-    out_kind: &mut [u64],
-    out_type: &mut [u64],
-    work: &mut [u64],
-) -> BpSolved {
+// The bytes between the two places at the start of a table; none where they do not stand so in the store.
+fn names_of(t: &[u64], store: usize) -> Span
+    ensures { λ r. ⌜ Inside r store ⌝ }
+{
     if t.len() < 2 {
-        return unread();
+        return Span { start: 0, end: 0 };
     }
-    let s = t[0] as usize;
-    let e = t[1] as usize;
-    if e < s {
-        return unread();
+    let start = t[0] as usize;
+    let end = t[1] as usize;
+    if end < start {
+        return Span { start: 0, end: 0 };
     }
-    if store.len() < e {
-        return unread();
+    if store < end {
+        return Span { start: 0, end: 0 };
     }
-    cut_names(
-        &store[s..e],
-        &t[2..],
+    Span { start, end }
+}
+
+pub(crate) fn table_of(t: &[u64], store: usize) -> Table
+    requires { ⌜ length (now t) ≤ 1600 ⌝ }
+    ensures { λ r. ⌜ TableIn r store (length (now (t .entry))) ⌝ }
+{
+    let at = lists::after(t, Span { start: 2, end: 2 });
+    let len = lists::after(t, at);
+    let flags = lists::after(t, len);
+    let class = lists::after(t, flags);
+    let first = lists::after(t, class);
+    let count = lists::after(t, first);
+    let parents = lists::after(t, count);
+    Table {
+        bytes: names_of(t, store),
+        at,
+        len,
+        flags,
+        class,
+        first,
+        count,
+        parents,
+    }
+}
+
+pub(crate) fn bounds_of(q: &[u64]) -> Bounds
+    requires { ⌜ length (now q) ≤ 1600 ⌝ }
+    ensures { λ r. ⌜ BoundsIn r (length (now (q .entry))) ⌝ }
+{
+    let variables = lists::after(q, Span { start: 6, end: 6 });
+    let components = lists::after(q, variables);
+    let kinds = lists::after(q, components);
+    let words = lists::after(q, kinds);
+    let sources = lists::after(q, words);
+    let targets = lists::after(q, sources);
+    Bounds {
+        variables,
         components,
-        p,
-        answers,
-        out_comp,
-        out_kind,
-        out_type,
-        work,
-    )
+        kinds,
+        words,
+        sources,
+        targets,
+    }
+}
+
+// Those that follow.
+pub(crate) fn links_of(q: &[u64], b: Bounds) -> Links
+    requires { ⌜ length (now q) ≤ 1600 ⌝ }
+    ensures { λ r. ⌜ LinksIn r (length (now (q .entry))) ⌝ }
+{
+    let lowers = lists::after(q, b.targets);
+    let uppers = lists::after(q, lowers);
+    let arrays = lists::after(q, uppers);
+    let results = lists::after(q, arrays);
+    let stores = lists::after(q, results);
+    let values = lists::after(q, stores);
+    Links {
+        lowers,
+        uppers,
+        arrays,
+        results,
+        stores,
+        values,
+    }
+}
+
+// The number at a place, 0 past the end.
+pub(crate) fn number_at(q: &[u64], i: usize) -> u64 {
+    if i < q.len() {
+        return q[i];
+    }
+    0
+}
+
+// A length that can be lent; another is no length of a case, and none is lent.
+fn at_most(n: u64, most: usize) -> usize
+    ensures { λ r. ⌜ r ≤ most ⌝ }
+{
+    if most < n as usize {
+        return 0;
+    }
+    n as usize
+}
+
+pub(crate) fn room_of(q: &[u64]) -> Room
+    ensures { λ r. ⌜ RoomIn r ⌝ }
+{
+    Room {
+        answers: at_most(number_at(q, 0), ANSWERS),
+        components: at_most(number_at(q, 1), BOUNDS),
+        kinds: at_most(number_at(q, 2), BOUNDS),
+        types: at_most(number_at(q, 3), BOUNDS),
+        work: at_most(number_at(q, 4), WORK),
+    }
+}
+
+// Whether the places of a table are those that its numbers say, up to the last number.
+pub(crate) fn is_table(t: &[u64], c: Table) -> bool {
+    if c.parents.start == 0 || c.parents.end != t.len() {
+        return false;
+    }
+    c.bytes.start == number_at(t, 0) as usize && c.bytes.end == number_at(t, 1) as usize
+}
+
+// The same of a problem and what is lent.
+pub(crate) fn is_problem(q: &[u64], l: Links, m: Room) -> bool {
+    if l.values.start == 0 || l.values.end != q.len() {
+        return false;
+    }
+    if m.answers != number_at(q, 0) as usize || m.components != number_at(q, 1) as usize {
+        return false;
+    }
+    if m.kinds != number_at(q, 2) as usize || m.types != number_at(q, 3) as usize {
+        return false;
+    }
+    m.work == number_at(q, 4) as usize
 }

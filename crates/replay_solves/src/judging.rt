@@ -1,10 +1,21 @@
 // What a solve left in lent slices, beside what was recorded. They were full of a pattern.
+use crate::calling;
 use crate::cutting;
+use crate::cutting::ANSWERS;
+use crate::cutting::BOUNDS;
+use crate::cutting::Bounds;
+use crate::cutting::Links;
+use crate::cutting::MOST;
+use crate::cutting::Room;
+use crate::cutting::Table;
+use crate::cutting::WORK;
 use bracepuffin::BpSolved;
 use replaying::answers;
-use replaying::answers::MISSING;
 use replaying::answers::Verdict;
 use replaying::lists;
+ghost use Prim.Native.Nat.{_≤_};
+ghost use lib.ListN.{length};
+ghost use Rattle.replay_solves.specs.Places.{TableIn, BoundsIn, LinksIn, RoomIn, LentIn};
 
 const PATTERN: u64 = 0xa5a5a5a5a5a5a5a5;
 
@@ -83,9 +94,6 @@ fn judge(
     out_kind: &[u64],
     out_type: &[u64],
 ) -> Verdict {
-    if s.refusal == MISSING {
-        return Verdict::Unread;
-    }
     let a = lists::end(r, 2);
     if a <= 2 {
         return Verdict::Unread;
@@ -99,93 +107,93 @@ fn judge(
     Verdict::Differs
 }
 
-// The solve of a problem into the first entries of these slices: their five lengths, then the problem.
-fn solve(
-    t: &[u64],
-    store: &[u8],
-    q: &[u64],
-    answers: &mut [u64],
-    out_comp: &mut [u64],
-    out_kind: &mut [u64],
-    out_type: &mut [u64],
-    work: &mut [u64],
-) -> BpSolved {
-    if q.len() < 6 {
-        return cutting::unread();
-    }
-    let a = q[0] as usize;
-    let b = q[1] as usize;
-    let c = q[2] as usize;
-    let d = q[3] as usize;
-    let e = q[4] as usize;
-    if answers.len() < a {
-        return cutting::unread();
-    }
-    if out_comp.len() < b {
-        return cutting::unread();
-    }
-    if out_kind.len() < c {
-        return cutting::unread();
-    }
-    if out_type.len() < d {
-        return cutting::unread();
-    }
-    if work.len() < e {
-        return cutting::unread();
-    }
-    cutting::solve(
-        t,
-        store,
-        q[5],
-        &q[6..],
-        &mut answers[0..a],
-        &mut out_comp[0..b],
-        &mut out_kind[0..c],
-        &mut out_type[0..d],
-        &mut work[0..e],
-    )
-}
-
 // The verdict on a solve into slices that are full of the pattern.
 fn into(
     t: &[u64],
     store: &[u8],
     q: &[u64],
     r: &[u64],
+    c: Table,
+    b: Bounds,
+    l: Links,
+    m: Room,
     answers: &mut [u64],
     out_comp: &mut [u64],
     out_kind: &mut [u64],
     out_type: &mut [u64],
     work: &mut [u64],
-) -> Verdict {
-    if q.len() < 6 {
-        return Verdict::Unread;
-    }
-    let room = q[4] as usize;
-    let s = solve(t, store, q, answers, out_comp, out_kind, out_type, work);
-    let verdict = judge(s, r, answers, out_comp, out_kind, out_type);
-    if is_work(work, room, s.refusal) {
-        return verdict;
+) -> Verdict
+    requires { ⌜ TableIn c (length (now store)) (length (now t)) × BoundsIn b (length (now q)) × LinksIn l (length (now q)) × RoomIn m × LentIn (now answers) (now «out_comp») (now «out_kind») (now «out_type») (now work) ⌝ }
+{
+    let s = calling::solve(
+        t,
+        store,
+        q,
+        c,
+        b,
+        l,
+        m,
+        answers,
+        out_comp,
+        out_kind,
+        out_type,
+        work,
+    );
+    if is_work(work, m.work, s.refusal) {
+        return judge(s, r, answers, out_comp, out_kind, out_type);
     }
     Verdict::Differs
 }
 
-// The verdict on a problem over a table: five lengths of lent slices, the problem, and what was recorded.
-pub(crate) fn over(t: &[u64], store: &[u8], q: &[u64], r: &[u64]) -> Verdict {
-    let mut answers = [PATTERN; 64];
-    let mut out_comp = [PATTERN; 4100];
-    let mut out_kind = [PATTERN; 4100];
-    let mut out_type = [PATTERN; 4100];
-    let mut work = [PATTERN; 8200];
+// The same in local arrays.
+fn afresh(
+    t: &[u64],
+    store: &[u8],
+    q: &[u64],
+    r: &[u64],
+    c: Table,
+    b: Bounds,
+    l: Links,
+    m: Room,
+) -> Verdict
+    requires { ⌜ TableIn c (length (now store)) (length (now t)) × BoundsIn b (length (now q)) × LinksIn l (length (now q)) × RoomIn m ⌝ }
+{
+    let mut answers = [PATTERN; ANSWERS];
+    let mut out_comp = [PATTERN; BOUNDS];
+    let mut out_kind = [PATTERN; BOUNDS];
+    let mut out_type = [PATTERN; BOUNDS];
+    let mut work = [PATTERN; WORK];
     into(
         t,
         store,
         q,
         r,
+        c,
+        b,
+        l,
+        m,
         &mut answers,
         &mut out_comp,
         &mut out_kind,
         &mut out_type,
         &mut work,
     )
+}
+
+// The verdict on a problem over a table: five lengths of lent slices, the problem, and what was recorded.
+pub(crate) fn over(t: &[u64], store: &[u8], q: &[u64], r: &[u64]) -> Verdict {
+    if MOST < t.len() || MOST < q.len() {
+        return Verdict::Unread;
+    }
+    let c = cutting::table_of(t, store.len());
+    let b = cutting::bounds_of(q);
+    let l = cutting::links_of(q, b);
+    let m = cutting::room_of(q);
+    if !cutting::is_table(t, c) {
+        return Verdict::Unread;
+    }
+    if !cutting::is_problem(q, l, m) {
+        return Verdict::Unread;
+    }
+    afresh(t, store, q, r, c, b, l, m)
 }

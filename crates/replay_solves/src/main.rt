@@ -2,6 +2,7 @@
 // of line how many cases agree, and of how many. The crate `replaying` says what a case looks like; the input's first lines
 // say what stands in a line. A line `table` holds the table that the problems after it are over. The slices that are lent are
 // full of a pattern, and what a solve must leave alone is looked at too.
+mod calling;
 mod cutting;
 mod judging;
 

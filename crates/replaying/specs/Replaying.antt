@@ -5,6 +5,7 @@ use mathlib.Core.Path.{_≡_}
 use Prim.Native.Nat.{ℕ, _+_, _-_, _*_, _%_, _^_, _≤_, _<_}
 use lib.Dec.{eqb, leb}
 use lib.ListN.{length, getD, set}
+use Rattle.replaying.specs.declared.lists.Span.{Span}
 use Rattle.replaying.specs.declared.answers.Verdict.{Verdict}
 use Rattle.replaying.specs.declared.answers.Verdict.the-variants.{Agrees, Differs, Unread}
 
@@ -25,6 +26,16 @@ pub record ListEnd (a : List ℕ) (at r : ℕ) : Type 0 where
 pub record LastEnd (a : List ℕ) (at more r : ℕ) : Type 0 where
   pub inside : r ≤ length a - more
   pub whole : (r ≡ 0 → ⊥) → (r ≡ at + 1 + getD a at 0) × (r + more ≡ length a)
+
+-- members stand inside so many numbers
+abbrev pub Inside : Span → ℕ → Type 0
+Inside s n = (s .start ≤ s .end) × (s .end ≤ n)
+
+-- r is where the members of the list after s stand, or both its numbers are 0
+pub record After (a : List ℕ) (s r : Span) : Type 0 where
+  pub ordered : r .start ≤ r .end
+  pub inside : r .end ≤ length a
+  pub whole : (r .start ≡ 0 → ⊥) → (r .start ≡ s .end + 1) × (r .end ≡ s .end + 1 + getD a (s .end) 0)
 
 -- the verdict on a comparison
 abbrev pub verdict : Bool → Verdict

@@ -2,61 +2,37 @@
 -- is promised. Assumes nothing.
 use mathlib.Core.Path.{_≡_, refl, sym, ap, ap₂, _∙_, subst}
 use mathlib.Core.Bool.{Bool, true, false, cond, not, _||_, false≢true}
-use mathlib.Core.List.{List, [], _∷_}
-use Prim.Native.Nat.{ℕ, _-_, _^_, _≤_, _<_}
-use native.Mathlib.Omega.{arith}
-use lib.Dec.{eqb, ltb}
+use mathlib.Core.List.{List}
+use Prim.Native.Nat.{ℕ}
+use lib.Dec.{eqb}
 use lib.ListN.{length, replicate}
-use borrow.Author.Tests.{eq-eqb, ne-eqb, lt-ltb, le-ltb, eqb-true, eqb-false, ltb-false}
+use borrow.Author.Tests.{ne-eqb, ltb-false}
 use Rattle.checks.specs.Checks.{check, firstRefusal}
 use Rattle.view.specs.View.{View}
-use Rattle.tables.specs.declared.Tables.{Tables}
-use Rattle.tables.specs.Table.{viewOf}
-use Rattle.lattice.specs.Lattice.{World}
 use Rattle.lattice.specs.World.{worldOf}
 use Rattle.rows.specs.declared.Outcome.{Outcome}
 use Rattle.rows.specs.Rows.{Fills}
 use Rattle.columns.specs.Given.{Given, even, checkedTable}
-use Rattle.tableview.specs.TableRows.{rowsView, rowsWorld, rowsIn}
+use Rattle.tableview.specs.TableRows.{rowsView, rowsIn}
 use Rattle.tableview.specs.RowRefusals.{tableRefusal}
 use Rattle.solving.specs.declared.Counts.{Counts}
-use Rattle.solving.specs.Solving.{Problem, Solution, Unsolved, Solved, solve}
-use Rattle.problems.specs.Problems.{Columns, evenProblem, problem}
-use Rattle.problemcolumns.specs.declared.ProblemCounts.{ProblemCounts}
-use Rattle.problemcolumns.specs.ProblemColumns.{Taken}
+use Rattle.solving.specs.Solving.{Solution, Unsolved, solve}
+use Rattle.problems.specs.Problems.{Columns, evenProblem}
+use Rattle.problemcolumns.specs.ProblemColumns.{evenRows}
+use Rattle.problemcolumns.specs.Steps.{even-rows}
 use Rattle.solver.specs.Solver.{counted}
 use Rattle.solves.specs.SolveResult.{Lent, lent, Roomy, countsOf, answersAfter, componentsAfter, kindsAfter, typesAfter, Solves}
+use Rattle.solvechecks.specs.SolveChecks.{shortLengths, lengthsRefusal, rowsRefusal, workLeft}
+use Rattle.solvechecks.specs.Steps.{lengths-none}
+use Rattle.solverows.specs.SolveRows.{columnsRefusal, solveRows}
+use Rattle.solverows.specs.Laws.{unsolved}
 use Rattle.questions.specs.Laws.{Stands, stands, built-refusal}
 use Rattle.solvedoor.specs.SolveDoor.{tooShort, problemOver, solveChecks, solveRefusal, solveIn, solveWork, SolvesIn}
-use Rattle.solvedoor.specs.Inside.{shortLengths, problemFront, KeepsFront, solveOf, rowsChecks, solveRows}
+use Rattle.solvedoor.specs.Inside.{solveOf}
 
--- ---- slices that are too short
+-- ---- by lengths
 
-module _ (v a c k t w : ℕ) where
-  pub short-answers : a < v → true ≡ shortLengths v a c k t w
-  unfolding shortLengths
-  short-answers h = rw (lt-ltb a v h)
-
-  module _ (h : v ≤ a) where
-    pub short-components : c < 4096 → true ≡ shortLengths v a c k t w
-    unfolding shortLengths
-    short-components i = rw (le-ltb a v h, lt-ltb c 4096 i)
-
-    module _ (i : 4096 ≤ c) where
-      pub short-kinds : k < 4096 → true ≡ shortLengths v a c k t w
-      unfolding shortLengths
-      short-kinds j = rw (le-ltb a v h, le-ltb c 4096 i, lt-ltb k 4096 j)
-
-      module _ (j : 4096 ≤ k) where
-        pub short-types : t < 4096 → true ≡ shortLengths v a c k t w
-        unfolding shortLengths
-        short-types l = rw (le-ltb a v h, le-ltb c 4096 i, le-ltb k 4096 j, lt-ltb t 4096 l)
-
-        pub short-work : 4096 ≤ t → ltb w 8192 ≡ shortLengths v a c k t w
-        unfolding shortLengths
-        short-work l = rw (le-ltb a v h, le-ltb c 4096 i, le-ltb k 4096 j, le-ltb t 4096 l)
-
-pub lengths-are : (c : Columns) (l : Lent)
+lengths-are : (c : Columns) (l : Lent)
     → tooShort c l ≡ shortLengths (length (c .variables)) (length (l .answers)) (length (l .components)) (length (l .kinds)) (length (l .types)) (length (l .work))
 unfolding tooShort shortLengths
 lengths-are c l = refl
@@ -84,62 +60,17 @@ roomy c l h =
 -- ---- a refused solve
 
 module _ (a oc ok ot w w′ : List ℕ) (r : Counts) (k : ℕ) (e : r ≡ counted k 0 0) (z : w′ ≡ replicate (length w) 0) where
-  unsolved : Solves (Unsolved k) (lent a oc ok ot w) (lent a oc ok ot w′) r
-  unfolding countsOf answersAfter componentsAfter kindsAfter typesAfter
-  unsolved = record { counts = e; answers = refl; components = refl; kinds = refl; types = refl; work = z }
-
-  -- by a check
   pub refused-of : (g : Given) (c : Columns) → (k ≡ 0 → ⊥) → firstRefusal (solveChecks g c) ≡ k → Solves (solveOf g c) (lent a oc ok ot w) (lent a oc ok ot w′) r
   unfolding solveOf
-  refused-of g c n f = rw (f, ne-eqb k 0 n) unsolved
+  refused-of g c n f = rw (f, ne-eqb k 0 n) (unsolved a oc ok ot w w′ r k e z)
 
-  pub refused-rows : (world : World) (t : Tables) (c : Columns) → (k ≡ 0 → ⊥) → firstRefusal (rowsChecks t c) ≡ k → Solves (solveRows world t c) (lent a oc ok ot w) (lent a oc ok ot w′) r
-  unfolding solveRows
-  refused-rows world t c n f = rw (f, ne-eqb k 0 n) unsolved
-
--- ---- which check
-
-pub uneven-problem : (g : Given) (c : Columns) → evenProblem c ≡ false → firstRefusal (solveChecks g c) ≡ 3
+uneven-problem : (g : Given) (c : Columns) → evenProblem c ≡ false → firstRefusal (solveChecks g c) ≡ 3
 unfolding solveChecks firstRefusal
 uneven-problem g c e = go (even g) refl
   where
     go : (b : Bool) → even g ≡ b → firstRefusal (solveChecks g c) ≡ 3
     go false d = rw d
     go true d = rw (d, e)
-
-module _ (t : Tables) (c : Columns) (k : ℕ) (e : k ≡ problem (t .names) c .refusal) where
-  pub rows-refused : (k ≡ 0 → ⊥) → firstRefusal (rowsChecks t c) ≡ k
-  unfolding rowsChecks firstRefusal
-  rows-refused n = rw (← e, ne-eqb k 0 n)
-
-  pub rows-object : k ≡ 0 → t .object ≡ 2 ^ 64 - 1 → firstRefusal (rowsChecks t c) ≡ 9
-  unfolding rowsChecks firstRefusal
-  rows-object z o = rw (← e, z, eq-eqb (t .object) (2 ^ 64 - 1) o)
-
-  rows-none : k ≡ 0 → (t .object ≡ 2 ^ 64 - 1 → ⊥) → firstRefusal (rowsChecks t c) ≡ 0
-  unfolding rowsChecks firstRefusal
-  rows-none z n = rw (← e, z, ne-eqb (t .object) (2 ^ 64 - 1) n)
-
-  -- THE SOLVE OF WHAT THE ROWS HAVE MADE
-  rows-solve : (world : World) (p : Problem) → k ≡ 0 → (t .object ≡ 2 ^ 64 - 1 → ⊥) → p ≡ problem (t .names) c .problem → solve world p ≡ solveRows world t c
-  unfolding solveRows
-  rows-solve world p z n q = rw (rows-none z n) (ap (solve world) q)
-
-  pub rows-solved : (world : World) (p : Problem) → k ≡ 0 → (t .object ≡ 2 ^ 64 - 1 → ⊥) → p ≡ problem (t .names) c .problem
-      → (before after : Lent) (r : Counts) → Solves (solve world p) before after r → Solves (solveRows world t c) before after r
-  rows-solved world p z n q before after r d = subst (λ (x : Solution). Solves x before after r) (rows-solve world p z n q) d
-
--- the parts that are lent keep the problem
-minus-none : (n : ℕ) → n - 0 ≡ n
-minus-none n = omega arith
-
-module _ (names : ℕ) (c : Columns) (bounds bounds′ flows flows′ uppers uppers′ reads reads′ writes writes′ : List ℕ) (r : ProblemCounts)
-    (t : Taken names c bounds bounds′ flows flows′ uppers uppers′ reads reads′ writes writes′ r) (z : r .refusal ≡ 0) where
-  pub parts-keep : KeepsFront names (c .components) (c .variables) r bounds′ flows′ uppers′ reads′ writes′
-  parts-keep = rw (minus-none (r .bounds), minus-none (r .flows), minus-none (r .uppers), minus-none (r .reads), minus-none (r .writes)) (t .keeps z)
-
-  pub parts-are : problemFront (c .components) (c .variables) r bounds′ flows′ uppers′ reads′ writes′ ≡ problem names c .problem
-  parts-are = rw (minus-none (r .bounds), minus-none (r .flows), minus-none (r .uppers), minus-none (r .reads), minus-none (r .writes)) (t .problem-is z)
 
 -- ---- over the table that was built
 
@@ -166,8 +97,8 @@ module _ (g : Given) (c : Columns) (even-c : evenProblem c ≡ true) (pairs pair
     object-is : o .tables .object ≡ rowsView (rowsIn g) .object
     object-is = ap (λ (v : View). v .object) (s .view-is)
 
-    checks-are : firstRefusal (rowsChecks (o .tables) c) ≡ firstRefusal (solveChecks g c)
-    unfolding rowsChecks solveChecks firstRefusal problemOver
+    checks-are : columnsRefusal (o .tables) c ≡ firstRefusal (solveChecks g c)
+    unfolding rowsRefusal solveChecks firstRefusal problemOver
     checks-are = rw (s .even-is, even-c, s .rows-taken, names-are, object-is)
 
     -- A SOLVE FROM THERE ON IS THE SOLVE OF THE COLUMNS
@@ -186,7 +117,7 @@ module _ (g : Given) (c : Columns) (l : Lent) where
   unfolding solveIn solveRefusal firstRefusal
   short-is h = rw h
 
-  pub door-short : (r : Counts) → tooShort c l ≡ true → r ≡ counted 22 0 0 → SolvesIn g c l l r
+  door-short : (r : Counts) → tooShort c l ≡ true → r ≡ counted 22 0 0 → SolvesIn g c l l r
   unfolding solveWork countsOf answersAfter componentsAfter kindsAfter typesAfter
   door-short r h e =
       let s = sym (short-is h) in
@@ -219,3 +150,34 @@ module _ (g : Given) (c : Columns) (l : Lent) where
           work = d .work ∙ sym (ap (λ (b : Bool). cond b (l .work) (replicate (length (l .work)) 0)) h);
         };
       }
+
+-- THE REFUSAL BY LENGTHS THAT THE CODE HAS FOUND
+pub lengths-refused : (c : Columns) (l : Lent) (k : ℕ)
+    → k
+    ≡ lengthsRefusal (shortLengths (length (c .variables)) (length (l .answers)) (length (l .components)) (length (l .kinds)) (length (l .types)) (length (l .work)))
+    (evenRows (length (c .boundComponents)) (length (c .boundKinds)) (length (c .boundWords)) (length (c .flowSources)) (length (c .flowTargets)) (length (c .upperSources)) (length (c .upperTargets))
+    (length (c .readArrays)) (length (c .readResults)) (length (c .writeArrays)) (length (c .writeValues)))
+    → k ≡ lengthsRefusal (tooShort c l) (evenProblem c)
+lengths-refused c l k e = e ∙ sym (ap₂ lengthsRefusal (lengths-are c l) (even-rows c))
+
+pub lengths-good : (c : Columns) (l : Lent) (k : ℕ) → k ≡ lengthsRefusal (tooShort c l) (evenProblem c) → k ≡ 0 → (tooShort c l ≡ false) × (evenProblem c ≡ true)
+lengths-good c l k e z = lengths-none (tooShort c l) (evenProblem c) (sym e ∙ z)
+
+module _ (g : Given) (c : Columns) (a oc ok ot w w′ : List ℕ) (r : Counts) (k : ℕ) (e : r ≡ counted k 0 0) (z : w′ ≡ workLeft k w) (n : k ≡ 0 → ⊥) where
+  abbrev slices : Lent
+  slices = lent a oc ok ot w
+
+  -- A SOLVE THAT IS REFUSED BY LENGTHS
+  pub door-lengths : k ≡ lengthsRefusal (tooShort c slices) (evenProblem c) → SolvesIn g c slices (lent a oc ok ot w′) r
+  unfolding lengthsRefusal firstRefusal workLeft
+  door-lengths f = go (tooShort c slices) refl (evenProblem c) refl
+    where
+      go : (s : Bool) → tooShort c slices ≡ s → (b : Bool) → evenProblem c ≡ b → SolvesIn g c slices (lent a oc ok ot w′) r
+      go true p b q =
+          let k22 : k ≡ 22 = f ∙ ap (λ (x : Bool). lengthsRefusal x (evenProblem c)) p in
+          let same : w ≡ w′ = sym (z ∙ ap (λ (x : ℕ). workLeft x w) k22) in
+          subst (λ (x : List ℕ). SolvesIn g c slices (lent a oc ok ot x) r) same (door-short g c slices r p (e ∙ ap (λ (x : ℕ). counted x 0 0) k22))
+      go false p true q = absurd (n (f ∙ ap₂ lengthsRefusal p q))
+      go false p false q =
+          let k3 : k ≡ 3 = f ∙ ap₂ lengthsRefusal p q in
+          door-long g c slices _ r p (refused-of a oc ok ot w w′ r k e (z ∙ ap (λ (x : ℕ). workLeft x w) k3) g c n (uneven-problem g c q ∙ sym k3))

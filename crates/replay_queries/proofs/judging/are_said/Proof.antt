@@ -3,14 +3,15 @@ use borrow.Author.Needs.{needs}
 use mathlib.Core.Path.{_≡_}
 use Prim.Native.Nat.{_-_, _^_, _≤_, _<_}
 use lib.ListN.{length}
+use Rattle.replay_queries.specs.Places.{TableIn}
 use Rattle.replay_queries.proofs.judging.are_said.Statement.{statement}
 use Rattle.replay_queries.proofs.judging.are_said.Tie as tie
 
 abbrev Inv-loop : tie.InvT-loop
-Inv-loop place names name-at name-len rec-flags rec-class rec-at rec-len parents types x y r work₀ refusal next₀ work next = (1 ≤ next) × (next ≤ length r) × (length r < 2 ^ 63) × (length work ≡ length work₀)
+Inv-loop place t store c types x y r work₀ refusal next₀ work next = (1 ≤ next) × (next ≤ length r) × (length r < 2 ^ 63) × (length work ≡ length work₀) × TableIn c (length store) (length t)
 
 abbrev μ-loop : tie.MeasureT-loop
-μ-loop place names name-at name-len rec-flags rec-class rec-at rec-len parents types x y r work₀ refusal next₀ work next = length r - next
+μ-loop place t store c types x y r work₀ refusal next₀ work next = length r - next
 
 returns : tie.Need-returns Inv-loop μ-loop
 returns c = search needs
@@ -45,8 +46,8 @@ question-requires c κs = search needs
 other-requires : tie.Need-other-requires Inv-loop μ-loop
 other-requires c κs = search needs
 
-answer-requires : tie.Need-answer-requires Inv-loop μ-loop
-answer-requires c κs = search needs
+ask-requires : tie.Need-ask-requires Inv-loop μ-loop
+ask-requires c κs = search needs
 
 same-length : tie.Need-same-length Inv-loop μ-loop
 same-length c = search needs
@@ -86,7 +87,7 @@ are-said-spec =
     sub-i
     question-requires
     other-requires
-    answer-requires
+    ask-requires
     same-length
     returns-3
     add-next

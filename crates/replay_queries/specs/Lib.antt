@@ -1,0 +1,2 @@
+-- Where the lists of a table stand.
+pub mod Places

@@ -1,0 +1,2 @@
+-- Where the lists of a line stand.
+pub mod Places

@@ -1,0 +1,2 @@
+-- What needs the contracts as the check reads them.
+pub mod Unique
