@@ -504,6 +504,8 @@ fn stored_problem(rng: &mut Rng, classes: &Classes) -> Columns {
     for (component, word) in filled {
         all.bound(component, DOMAIN, word);
     }
+    let solved = judge.run(&all).expect("room for the last one");
+    assert_eq!(solved.bounds.len(), MAX_BOUNDS);
     all
 }
 
