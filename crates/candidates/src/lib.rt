@@ -14,9 +14,9 @@ ghost use mathlib.Core.Path.{_≡_};
 ghost use mathlib.Core.Bool.{true, false, cond, _&&_};
 ghost use mathlib.Core.List.{map};
 ghost use Prim.Native.Nat.{_≤_, _<_};
-ghost use lib.ListN.{length};
 ghost use mathlib.Core.Option.{some};
-ghost use Rattle.tables.specs.Table.{namesRoom, marksRoom};
+ghost use Rattle.tables.specs.Table.{namesRoom};
+ghost use Rattle.prepared.specs.Prepared.{Prepared};
 ghost use Rattle.ty.specs.Types.{isReference, concreteHint};
 ghost use Rattle.ty.specs.Words.{Legal, tagOf, typeOf};
 ghost use Rattle.ty.specs.Answers.{maybeWord};
@@ -45,7 +45,7 @@ pub fn producer_bound_compatible(
     produced: TypeWord,
     expected: TypeWord,
 ) -> bool
-    requires { ⌜ (length (now marks) ≡ marksRoom) × Legal (produced .word) × Legal (expected .word) ⌝ }
+    requires { ⌜ Prepared (now pairs) (now marks) t × Legal (produced .word) × Legal (expected .word) ⌝ }
     ensures { λ r. ⌜ r ≡ producerBoundCompatible (worldOf (now (pairs .entry)) (now (marks .entry)) t) (typeOf (produced .word)) (typeOf (expected .word)) ⌝ }
 {
     if are_references(produced, expected) {
@@ -122,7 +122,7 @@ fn is_assignable_to_each(
     candidate: TypeWord,
     upper: &[u64],
 ) -> bool
-    requires { ⌜ (length (now marks) ≡ marksRoom) × Legal (candidate .word) × AllLegal (now upper) ⌝ }
+    requires { ⌜ Prepared (now pairs) (now marks) t × Legal (candidate .word) × AllLegal (now upper) ⌝ }
     ensures { λ r. ⌜ r ≡ assignableToAll (worldOf (now (pairs .entry)) (now (marks .entry)) t) (typeOf (candidate .word)) (map typeOf (now (upper .entry))) ⌝ }
 {
     let mut i = upper.len();
@@ -141,7 +141,7 @@ fn is_assignable_to_each(
 // Whether a class may stand where each class of a set is expected: one walk finds those that are its ancestors, and where one is left
 // the answer about that one is the answer about all.
 fn stands_for_all(pairs: &[u64], marks: &[u64], t: Tables, class: u64, s: Set) -> bool
-    requires { ⌜ length (now marks) ≡ marksRoom ⌝ }
+    requires { ⌜ Prepared (now pairs) (now marks) t ⌝ }
     ensures { λ r. ⌜ Stands (worldOf (now (pairs .entry)) (now (marks .entry)) t) class (s .words) r ⌝ }
 {
     let others = s.without(class);
@@ -149,12 +149,12 @@ fn stands_for_all(pairs: &[u64], marks: &[u64], t: Tables, class: u64, s: Set) -
     if left.lowest() == NAMES {
         return true;
     }
-    let missing = left.difference(hierarchy::reached(pairs, marks, t, class));
+    let missing = left.difference(prepared::reached_from(pairs, marks, t, class));
     let first = missing.lowest();
     if first == NAMES {
         return true;
     }
-    is_open(hierarchy::subtype_relation(pairs, marks, t, class, first))
+    is_open(prepared::relation_of(pairs, marks, t, class, first))
 }
 
 // What is not known of the classes counts as assignable.
@@ -185,7 +185,7 @@ fn with_other(
     g: Group,
     other: TypeWord,
 ) -> Group
-    requires { ⌜ (length (now marks) ≡ marksRoom) × ClassAt (g .head) (candidate .word) × Legal (other .word) ⌝ }
+    requires { ⌜ Prepared (now pairs) (now marks) t × ClassAt (g .head) (candidate .word) × Legal (other .word) ⌝ }
     ensures { λ r. ⌜ (r .head ≡ g .head) × Adds (worldOf (now (pairs .entry)) (now (marks .entry)) t) (g .head) (g .classes .words) (other .word) (r .rest) (r .classes .words) ⌝ }
 {
     let head = g.head;
@@ -207,7 +207,7 @@ fn with_other(
 
 // The group of a candidate's head. Where one of the others refuses it, the rest is not looked at.
 fn group_of(pairs: &[u64], marks: &[u64], t: Tables, candidate: TypeWord, upper: &[u64]) -> Group
-    requires { ⌜ (length (now marks) ≡ marksRoom) × Legal (candidate .word) × (tagOf (candidate .word) ≡ 1) × AllLegal (now upper) ⌝ }
+    requires { ⌜ Prepared (now pairs) (now marks) t × Legal (candidate .word) × (tagOf (candidate .word) ≡ 1) × AllLegal (now upper) ⌝ }
     ensures { λ r. ⌜ (r .head ≡ headOf (candidate .word)) × Grouped (worldOf (now (pairs .entry)) (now (marks .entry)) t) (map typeOf (now (upper .entry))) (r .head) (r .rest) (r .classes .words) ⌝ }
 {
     let mut g = Group {
@@ -231,7 +231,7 @@ fn group_of(pairs: &[u64], marks: &[u64], t: Tables, candidate: TypeWord, upper:
 
 // Whether the bounds of a group take a class of its head.
 fn takes(pairs: &[u64], marks: &[u64], t: Tables, g: Group, candidate: TypeWord) -> bool
-    requires { ⌜ (length (now marks) ≡ marksRoom) × ClassAt (g .head) (candidate .word) ⌝ }
+    requires { ⌜ Prepared (now pairs) (now marks) t × ClassAt (g .head) (candidate .word) ⌝ }
     ensures { λ r. ⌜ Takes (worldOf (now (pairs .entry)) (now (marks .entry)) t) (g .head) (g .rest) (g .classes .words) (candidate .word) r ⌝ }
 {
     if g.rest {
@@ -248,7 +248,7 @@ pub fn is_assignable_to_all(
     candidate: TypeWord,
     upper: &[u64],
 ) -> bool
-    requires { ⌜ (length (now marks) ≡ marksRoom) × Legal (candidate .word) × AllLegal (now upper) ⌝ }
+    requires { ⌜ Prepared (now pairs) (now marks) t × Legal (candidate .word) × AllLegal (now upper) ⌝ }
     ensures { λ r. ⌜ r ≡ assignableToAll (worldOf (now (pairs .entry)) (now (marks .entry)) t) (typeOf (candidate .word)) (map typeOf (now (upper .entry))) ⌝ }
 {
     if MANY <= upper.len() {
@@ -304,7 +304,7 @@ fn with_hint(
     hint: TypeWord,
     best: MaybeType,
 ) -> MaybeType
-    requires { ⌜ (length (now marks) ≡ marksRoom) × AllLegal (now upper) × Legal (hint .word) × LegalMaybe best ⌝ }
+    requires { ⌜ Prepared (now pairs) (now marks) t × AllLegal (now upper) × Legal (hint .word) × LegalMaybe best ⌝ }
     ensures { λ r. ⌜ LegalMaybe r × (maybeType r ≡ candidate (worldOf (now (pairs .entry)) (now (marks .entry)) t) (map typeOf (now (upper .entry))) (some (typeOf (hint .word))) (maybeType best)) ⌝ }
 {
     let taken = is_assignable_to_each(pairs, marks, t, hint, upper);
@@ -320,7 +320,7 @@ fn with_bound(
     bound: TypeWord,
     best: MaybeType,
 ) -> MaybeType
-    requires { ⌜ (length (now marks) ≡ marksRoom) × (t .object < namesRoom) × AllLegal (now upper) × Legal (bound .word) × LegalMaybe best ⌝ }
+    requires { ⌜ Prepared (now pairs) (now marks) t × (t .object < namesRoom) × AllLegal (now upper) × Legal (bound .word) × LegalMaybe best ⌝ }
     ensures { λ r. ⌜ LegalMaybe r × (maybeType r ≡ candidate (worldOf (now (pairs .entry)) (now (marks .entry)) t) (map typeOf (now (upper .entry))) (concreteHint (t .object) (typeOf (bound .word))) (maybeType best)) ⌝ }
 {
     let object = t.object;
@@ -332,7 +332,7 @@ fn with_bound(
 
 // The least hint of an upper bound that is assignable to all of them, from the last bound to the first: every two are compared.
 fn least_of_few(pairs: &[u64], marks: &[u64], t: Tables, upper: &[u64]) -> MaybeType
-    requires { ⌜ (length (now marks) ≡ marksRoom) × (t .object < namesRoom) × AllLegal (now upper) ⌝ }
+    requires { ⌜ Prepared (now pairs) (now marks) t × (t .object < namesRoom) × AllLegal (now upper) ⌝ }
     ensures { λ r. ⌜ r ≡ maybeWord (mostSpecificUpper (worldOf (now (pairs .entry)) (now (marks .entry)) t) (map typeOf (now (upper .entry)))) ⌝ }
 {
     let mut best = MaybeType::Nothing;
@@ -360,7 +360,7 @@ fn group_for(
     hint: TypeWord,
     g: Group,
 ) -> Group
-    requires { ⌜ (length (now marks) ≡ marksRoom) × AllLegal (now upper) × Legal (hint .word) × (tagOf (hint .word) ≡ 1) × Grouped (worldOf (now pairs) (now marks) t) (map typeOf (now upper)) (g .head) (g .rest) (g .classes .words) ⌝ }
+    requires { ⌜ Prepared (now pairs) (now marks) t × AllLegal (now upper) × Legal (hint .word) × (tagOf (hint .word) ≡ 1) × Grouped (worldOf (now pairs) (now marks) t) (map typeOf (now upper)) (g .head) (g .rest) (g .classes .words) ⌝ }
     ensures { λ r. ⌜ (r .head ≡ headOf (hint .word)) × Grouped (worldOf (now (pairs .entry)) (now (marks .entry)) t) (map typeOf (now (upper .entry))) (r .head) (r .rest) (r .classes .words) ⌝ }
 {
     if hint.word / TAG == g.head {
@@ -378,7 +378,7 @@ fn with_class_hint(
     hint: TypeWord,
     b: Best,
 ) -> Best
-    requires { ⌜ (length (now marks) ≡ marksRoom) × AllLegal (now upper) × Legal (hint .word) × (tagOf (hint .word) ≡ 1) × BestOf (worldOf (now pairs) (now marks) t) (map typeOf (now upper)) (b .best) (b .group .head) (b .group .rest) (b .group .classes .words) (maybeType (b .best)) ⌝ }
+    requires { ⌜ Prepared (now pairs) (now marks) t × AllLegal (now upper) × Legal (hint .word) × (tagOf (hint .word) ≡ 1) × BestOf (worldOf (now pairs) (now marks) t) (map typeOf (now upper)) (b .best) (b .group .head) (b .group .rest) (b .group .classes .words) (maybeType (b .best)) ⌝ }
     ensures { λ r. ⌜ BestOf (worldOf (now (pairs .entry)) (now (marks .entry)) t) (map typeOf (now (upper .entry))) (r .best) (r .group .head) (r .group .rest) (r .group .classes .words) (candidate (worldOf (now (pairs .entry)) (now (marks .entry)) t) (map typeOf (now (upper .entry))) (some (typeOf (hint .word))) (maybeType (b .best))) ⌝ }
 {
     let best = b.best;
@@ -399,7 +399,7 @@ fn with_any_hint(
     hint: TypeWord,
     b: Best,
 ) -> Best
-    requires { ⌜ (length (now marks) ≡ marksRoom) × AllLegal (now upper) × Legal (hint .word) × BestOf (worldOf (now pairs) (now marks) t) (map typeOf (now upper)) (b .best) (b .group .head) (b .group .rest) (b .group .classes .words) (maybeType (b .best)) ⌝ }
+    requires { ⌜ Prepared (now pairs) (now marks) t × AllLegal (now upper) × Legal (hint .word) × BestOf (worldOf (now pairs) (now marks) t) (map typeOf (now upper)) (b .best) (b .group .head) (b .group .rest) (b .group .classes .words) (maybeType (b .best)) ⌝ }
     ensures { λ r. ⌜ BestOf (worldOf (now (pairs .entry)) (now (marks .entry)) t) (map typeOf (now (upper .entry))) (r .best) (r .group .head) (r .group .rest) (r .group .classes .words) (candidate (worldOf (now (pairs .entry)) (now (marks .entry)) t) (map typeOf (now (upper .entry))) (some (typeOf (hint .word))) (maybeType (b .best))) ⌝ }
 {
     if hint.tag() == 1 {
@@ -422,7 +422,7 @@ fn with_any_bound(
     bound: TypeWord,
     b: Best,
 ) -> Best
-    requires { ⌜ (length (now marks) ≡ marksRoom) × (t .object < namesRoom) × AllLegal (now upper) × Legal (bound .word) × BestOf (worldOf (now pairs) (now marks) t) (map typeOf (now upper)) (b .best) (b .group .head) (b .group .rest) (b .group .classes .words) (maybeType (b .best)) ⌝ }
+    requires { ⌜ Prepared (now pairs) (now marks) t × (t .object < namesRoom) × AllLegal (now upper) × Legal (bound .word) × BestOf (worldOf (now pairs) (now marks) t) (map typeOf (now upper)) (b .best) (b .group .head) (b .group .rest) (b .group .classes .words) (maybeType (b .best)) ⌝ }
     ensures { λ r. ⌜ BestOf (worldOf (now (pairs .entry)) (now (marks .entry)) t) (map typeOf (now (upper .entry))) (r .best) (r .group .head) (r .group .rest) (r .group .classes .words) (candidate (worldOf (now (pairs .entry)) (now (marks .entry)) t) (map typeOf (now (upper .entry))) (concreteHint (t .object) (typeOf (bound .word))) (maybeType (b .best))) ⌝ }
 {
     let object = t.object;
@@ -434,7 +434,7 @@ fn with_any_bound(
 
 // The same as of few; no word has the head 0 and a class.
 fn least_of_many(pairs: &[u64], marks: &[u64], t: Tables, upper: &[u64]) -> MaybeType
-    requires { ⌜ (length (now marks) ≡ marksRoom) × (t .object < namesRoom) × AllLegal (now upper) ⌝ }
+    requires { ⌜ Prepared (now pairs) (now marks) t × (t .object < namesRoom) × AllLegal (now upper) ⌝ }
     ensures { λ r. ⌜ r ≡ maybeWord (mostSpecificUpper (worldOf (now (pairs .entry)) (now (marks .entry)) t) (map typeOf (now (upper .entry)))) ⌝ }
 {
     let mut b = Best {
@@ -456,7 +456,7 @@ fn least_of_many(pairs: &[u64], marks: &[u64], t: Tables, upper: &[u64]) -> Mayb
 
 // The least hint of an upper bound that is assignable to all of them.
 pub fn most_specific_upper(pairs: &[u64], marks: &[u64], t: Tables, upper: &[u64]) -> MaybeType
-    requires { ⌜ (length (now marks) ≡ marksRoom) × (t .object < namesRoom) × AllLegal (now upper) ⌝ }
+    requires { ⌜ Prepared (now pairs) (now marks) t × (t .object < namesRoom) × AllLegal (now upper) ⌝ }
     ensures { λ r. ⌜ r ≡ maybeWord (mostSpecificUpper (worldOf (now (pairs .entry)) (now (marks .entry)) t) (map typeOf (now (upper .entry)))) ⌝ }
 {
     if MANY <= upper.len() {

@@ -32,8 +32,8 @@ returns c =
     (left .without2 .ensures ∙ ap (λ (x : List ℕ). remove x (a .t .object)) (left .before .without .ensures))
     (sym (c .before .lowest .ensures) ∙ c .if1 .taken)
 
-reached-requires : tie.Need-reached-requires
-reached-requires c κs = search needs
+reached-from-requires : tie.Need-reached-from-requires
+reached-from-requires c κs = search needs
 
 difference-requires : tie.Need-difference-requires
 difference-requires c κs = search needs
@@ -50,11 +50,11 @@ returns-2 c =
     stands-reached (viewOf (a .pairs .now) (a .marks .now) (a .t)) (present (a .t .cloneable)) (present (a .t .serializable)) (a .class) (a .s .words) (left .without2 .result .words)
     (array-length 16 (a .s .words) _ (s .good .1 .1 .1 .1 .0 .1 .1 .0))
     (left .without2 .ensures ∙ ap (λ (x : List ℕ). remove x (a .t .object)) (left .before .without .ensures))
-    (d .difference .result .words) (d .difference .ensures ∙ ap (λ (x : List ℕ). subtract (left .without2 .result .words) x) (d .before .reached .ensures))
+    (d .difference .result .words) (d .difference .ensures ∙ ap (λ (x : List ℕ). subtract (left .without2 .result .words) x) (d .before .reached-from .ensures))
     (sym (c .before .lowest2 .ensures) ∙ c .if2 .taken)
 
-subtype-relation-requires : tie.Need-subtype-relation-requires
-subtype-relation-requires c κs = search needs
+relation-of-requires : tie.Need-relation-of-requires
+relation-of-requires c κs = search needs
 
 is-open-requires : tie.Need-is-open-requires
 is-open-requires c κs = search needs
@@ -69,9 +69,9 @@ returns-3 c =
     stands-by-one (viewOf (a .pairs .now) (a .marks .now) (a .t)) (present (a .t .cloneable)) (present (a .t .serializable)) (a .class) (a .s .words) (left .without2 .result .words)
     (array-length 16 (a .s .words) _ (s .good .1 .1 .1 .1 .0 .1 .1 .0))
     (left .without2 .ensures ∙ ap (λ (x : List ℕ). remove x (a .t .object)) (left .before .without .ensures))
-    (d .difference .result .words) (d .difference .ensures ∙ ap (λ (x : List ℕ). subtract (left .without2 .result .words) x) (d .before .reached .ensures))
+    (d .difference .result .words) (d .difference .ensures ∙ ap (λ (x : List ℕ). subtract (left .without2 .result .words) x) (d .before .reached-from .ensures))
     (e .before .lowest2 .result) (e .before .lowest2 .ensures) (e .if2 .left) (c .is-open .result)
-    (c .is-open .ensures ∙ ap notNo (c .before .subtype-relation .ensures))
+    (c .is-open .ensures ∙ ap notNo (c .before .relation-of .ensures))
 
 pub stands-for-all-spec : {M : Type 1} → statement M
 stands-for-all-spec =
@@ -81,10 +81,10 @@ stands-for-all-spec =
     without-requires-2
     lowest-requires
     returns
-    reached-requires
+    reached-from-requires
     difference-requires
     lowest-requires-2
     returns-2
-    subtype-relation-requires
+    relation-of-requires
     is-open-requires
     returns-3)
