@@ -15,6 +15,10 @@ use Rattle.lattice.specs.Lattice.{World}
 use Rattle.lattice.specs.World.{present, worldWith, worldOf}
 use Rattle.prepared.specs.Prepared.{tableRoom, Prepared, Laid, plain-prepared, laid-view, laid-prepared}
 use Rattle.resolving.specs.Bounds.{Classes, Classed}
+use Rattle.solving.specs.declared.Counts.{Counts}
+use Rattle.solving.specs.Solving.{Problem, solve}
+use Rattle.solves.specs.SolveResult.{Lent}
+use Rattle.solves.specs.Laws.{Leaves}
 
 -- every member is below n
 abbrev pub Inside : ℕ → List ℕ → Type 0
@@ -47,3 +51,7 @@ module _ (pairs marks : List ℕ) (t : Tables) (s table : List ℕ) (classes : C
   -- and gives the same world
   pub laid-world : worldOf table marks t ≡ worldOf pairs marks t
   laid-world = ap (λ (v : View). worldWith v (present (t .cloneable)) (present (t .serializable))) (laid-view pairs marks t s table p few there)
+
+-- a solve over the same world leaves the same
+pub leaves-along : {before after : Lent} {r : Counts} (w w′ : World) → w ≡ w′ → (p : Problem) → Leaves (solve w p) before after r → Leaves (solve w′ p) before after r
+leaves-along {before} {after} {r} w w′ e p l = subst (λ (x : World). Leaves (solve x p) before after r) e l

@@ -257,7 +257,10 @@ fn is_prepared(len: usize, pairs: usize, given: usize) -> bool
     if len == TABLE {
         return true;
     }
-    MANY <= given
+    if MANY <= given {
+        return true;
+    }
+    false
 }
 
 // The solve with or without rows.

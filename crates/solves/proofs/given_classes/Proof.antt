@@ -1,51 +1,43 @@
+-- `given_classes` meets its contract: so far only classes of the table are in.
+use borrow.Author.Needs.{needs}
+use Prim.Native.Nat.{_-_}
+use lib.ListN.{length}
+use Rattle.solves.specs.Choice.{Inside, inside-none}
 use Rattle.solves.proofs.given_classes.Statement.{statement}
 use Rattle.solves.proofs.given_classes.Tie as tie
-use Rattle.solves.proofs.given_classes.Reads as reads
-use Rattle.solves.proofs.given_classes.Lts as lts
-use Rattle.sets.proofs.Set.empty.Reads as empty-reads
-use Rattle.solves.proofs.with_given.Reads as with-given-reads
 
 abbrev Inv-loop : tie.InvT-loop
-Inv-loop names bounds s₀ i₀ s i = ?
+Inv-loop names bounds s₀ i₀ s i = Inside names (s .words)
 
 abbrev μ-loop : tie.MeasureT-loop
-μ-loop names bounds s₀ i₀ s i = ?
+μ-loop names bounds s₀ i₀ s i = length bounds - i
 
--- src/lib.rt:195:9
 empty-requires : tie.Need-empty-requires Inv-loop μ-loop
-empty-requires c κs = ?
+empty-requires c κs = search needs
 
--- src/lib.rt:197:5
 loop-holds : tie.Need-loop-holds Inv-loop μ-loop
-loop-holds c = ?
+loop-holds c = inside-none _ (c .empty .result .words) (c .empty .ensures)
 
--- src/lib.rt:198:31
 mul-with-given : tie.Need-mul-with-given Inv-loop μ-loop
-mul-with-given c = ?
+mul-with-given c = search needs
 
--- src/lib.rt:198:31
 shared-slice-read-with-given : tie.Need-shared-slice-read-with-given Inv-loop μ-loop
-shared-slice-read-with-given c = ?
+shared-slice-read-with-given c = search needs
 
--- src/lib.rt:198:9
 with-given-requires : tie.Need-with-given-requires Inv-loop μ-loop
-with-given-requires c κs = ?
+with-given-requires c κs = search needs
 
--- src/lib.rt:199:9
 add-i : tie.Need-add-i Inv-loop μ-loop
-add-i c = ?
+add-i c = search needs
 
--- src/lib.rt:197:5
 loop-less : tie.Need-loop-less Inv-loop μ-loop
-loop-less c = ?
+loop-less c = search needs
 
--- src/lib.rt:197:5
 loop-again : tie.Need-loop-again Inv-loop μ-loop
-loop-again c = ?
+loop-again c = c .with-given .ensures
 
--- src/lib.rt:192:1
 returns : tie.Need-returns Inv-loop μ-loop
-returns c = ?
+returns c = c .before .loop .inv
 
 pub given-classes-spec : {M : Type 1} → statement M
 given-classes-spec =
