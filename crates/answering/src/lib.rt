@@ -13,7 +13,7 @@ ghost use Rattle.ty.specs.Answers.{maybeWord};
 ghost use Rattle.lattice.specs.World.{worldOf};
 ghost use Rattle.solving.specs.Queue.{Below};
 ghost use Rattle.solving.specs.Solving.{stateOf, resolveState};
-ghost use Rattle.resolving.specs.Bounds.{Classes};
+ghost use Rattle.resolving.specs.Bounds.{Classed};
 ghost use Rattle.answering.specs.Answering.{partsOf, stateWords, InOrder, PartsLegal, partsState, tableIn, Final, numberIn, answerWords};
 
 // Where the words of each kind end; each begins where the one before it ends, the domain's at 0.
@@ -46,7 +46,7 @@ pub fn copy_state(keys: &[u64], component: u64, out: &mut [u64]) -> Parts
 
 // The answer from the words of each kind.
 fn answer_from(pairs: &[u64], marks: &[u64], t: Tables, out: &[u64], p: Parts) -> MaybeType
-    requires { ⌜ Classes (now marks) t × InOrder p (now out) × PartsLegal t p (now out) ⌝ }
+    requires { ⌜ Classed (now pairs) (now marks) t × InOrder p (now out) × PartsLegal t p (now out) ⌝ }
     ensures { λ r. ⌜ r ≡ maybeWord (resolveState (worldOf (now (pairs .entry)) (now (marks .entry)) t) (partsState p (now (out .entry)))) ⌝ }
 {
     let domain = p.domain;
@@ -75,7 +75,7 @@ pub fn answer(
     component: u64,
     out: &mut [u64],
 ) -> MaybeType
-    requires { ⌜ Classes (now marks) t × Final (t .names) (now keys) × (component < 512) × (length (now keys) ≤ length (now out)) ⌝ }
+    requires { ⌜ Classed (now pairs) (now marks) t × Final (t .names) (now keys) × (component < 512) × (length (now keys) ≤ length (now out)) ⌝ }
     ensures { λ r. ⌜ r ≡ maybeWord (resolveState (worldOf (now (pairs .entry)) (now (marks .entry)) t) (stateOf (tableIn (now (keys .entry))) component)) ⌝ }
 {
     let p = copy_state(keys, component, out);
@@ -102,7 +102,7 @@ pub fn answers(
     out: &mut [u64],
     into: &mut [u64],
 )
-    requires { ⌜ Classes (now marks) t × Final (t .names) (now keys) × Below 512 (now variables) × (length (now keys) ≤ length (now out)) × (length (now variables) ≤ length (now into)) ⌝ }
+    requires { ⌜ Classed (now pairs) (now marks) t × Final (t .names) (now keys) × Below 512 (now variables) × (length (now keys) ≤ length (now out)) × (length (now variables) ≤ length (now into)) ⌝ }
     ensures { λ _. ⌜ now (into .exit) ≡ paste (now (into .entry)) 0 (answerWords (worldOf (now (pairs .entry)) (now (marks .entry)) t) (tableIn (now (keys .entry))) (now (variables .entry))) (length (now (variables .entry))) ⌝ }
 {
     let mut i: usize = 0;

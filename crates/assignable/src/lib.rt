@@ -8,8 +8,8 @@ ghost use mathlib.Core.Path.{_≡_};
 ghost use mathlib.Core.Bool.{true, false, _&&_};
 ghost use mathlib.Core.List.{[]};
 ghost use Prim.Native.Nat.{_^_, _≤_, _<_};
-ghost use lib.ListN.{length};
-ghost use Rattle.tables.specs.Table.{namesRoom, marksRoom};
+ghost use Rattle.tables.specs.Table.{namesRoom};
+ghost use Rattle.prepared.specs.Prepared.{Prepared};
 ghost use Rattle.ty.specs.Types.{Object, categories, isKnown, isArray};
 ghost use Rattle.ty.specs.Words.{Legal, typeOf};
 ghost use Rattle.lattice.specs.Lattice.{notNo, unknownAccepts, primitiveAssignable, arrayParent, assignableApart, isAssignable};
@@ -68,14 +68,14 @@ fn not_no(r: Relation) -> bool
 
 // A known type to a class.
 fn to_class(pairs: &[u64], marks: &[u64], t: Tables, value: TypeWord, class: u64) -> bool
-    requires { ⌜ (length (now marks) ≡ marksRoom) × (isKnown (typeOf (value .word)) ≡ true) × (class < namesRoom) ⌝ }
+    requires { ⌜ Prepared (now pairs) (now marks) t × (isKnown (typeOf (value .word)) ≡ true) × (class < namesRoom) ⌝ }
     ensures { λ r. ⌜ r ≡ assignableApart (worldOf (now (pairs .entry)) (now (marks .entry)) t) (typeOf (value .word)) (Object class) ⌝ }
 {
     if value.is_array() {
         return array_parent(t, class);
     }
     if value.is_object() {
-        let r = hierarchy::subtype_relation(pairs, marks, t, value.load(), class);
+        let r = prepared::relation_of(pairs, marks, t, value.load(), class);
         return not_no(r);
     }
     false
@@ -89,7 +89,7 @@ fn known_assignable(
     value: TypeWord,
     expected: TypeWord,
 ) -> bool
-    requires { ⌜ (length (now marks) ≡ marksRoom) × Legal (expected .word) × (isKnown (typeOf (value .word)) ≡ true) × (isKnown (typeOf (expected .word)) ≡ true) × ((isArray (typeOf (value .word)) && isArray (typeOf (expected .word))) ≡ false) ⌝ }
+    requires { ⌜ Prepared (now pairs) (now marks) t × Legal (expected .word) × (isKnown (typeOf (value .word)) ≡ true) × (isKnown (typeOf (expected .word)) ≡ true) × ((isArray (typeOf (value .word)) && isArray (typeOf (expected .word))) ≡ false) ⌝ }
     ensures { λ r. ⌜ r ≡ assignableApart (worldOf (now (pairs .entry)) (now (marks .entry)) t) (typeOf (value .word)) (typeOf (expected .word)) ⌝ }
 {
     if expected.is_object() {
@@ -112,7 +112,7 @@ fn bases_assignable(
     value: TypeWord,
     expected: TypeWord,
 ) -> bool
-    requires { ⌜ (length (now marks) ≡ marksRoom) × Legal (value .word) × Legal (expected .word) × ((isArray (typeOf (value .word)) && isArray (typeOf (expected .word))) ≡ false) ⌝ }
+    requires { ⌜ Prepared (now pairs) (now marks) t × Legal (value .word) × Legal (expected .word) × ((isArray (typeOf (value .word)) && isArray (typeOf (expected .word))) ≡ false) ⌝ }
     ensures { λ r. ⌜ r ≡ assignableApart (worldOf (now (pairs .entry)) (now (marks .entry)) t) (typeOf (value .word)) (typeOf (expected .word)) ⌝ }
 {
     if expected.is_known() {
@@ -141,7 +141,7 @@ pub fn is_assignable(
     value: TypeWord,
     expected: TypeWord,
 ) -> bool
-    requires { ⌜ (length (now marks) ≡ marksRoom) × Legal (value .word) × Legal (expected .word) ⌝ }
+    requires { ⌜ Prepared (now pairs) (now marks) t × Legal (value .word) × Legal (expected .word) ⌝ }
     ensures { λ r. ⌜ r ≡ isAssignable (worldOf (now (pairs .entry)) (now (marks .entry)) t) (typeOf (value .word)) (typeOf (expected .word)) ⌝ }
 {
     if value.word == expected.word {
@@ -155,7 +155,7 @@ pub fn is_assignable(
 
 // Two arrays: equal primitives, no mix with a primitive, else the question about the elements.
 fn array_rule(pairs: &[u64], marks: &[u64], t: Tables, value: TypeWord, expected: TypeWord) -> bool
-    requires { ⌜ (length (now marks) ≡ marksRoom) × Legal (value .word) × Legal (expected .word) × (2 ^ 56 ≤ value .word) × (2 ^ 56 ≤ expected .word) ⌝ }
+    requires { ⌜ Prepared (now pairs) (now marks) t × Legal (value .word) × Legal (expected .word) × (2 ^ 56 ≤ value .word) × (2 ^ 56 ≤ expected .word) ⌝ }
     ensures { λ r. ⌜ r ≡ assignableApart (worldOf (now (pairs .entry)) (now (marks .entry)) t) (typeOf (value .word)) (typeOf (expected .word)) ⌝ }
 {
     let v = value.word - DIMENSION;

@@ -3,7 +3,7 @@ use mathlib.Core.Path.{_≡_, refl, sym, ap, _∙_}
 use mathlib.Core.Bool.{Bool, true, false, cond, not, _&&_, _||_, true≢false}
 use mathlib.Core.List.{List, [], _∷_, map}
 use mathlib.Core.Option.{Option, some, none}
-use Prim.Native.Nat.{ℕ, _+_, _-_, _≤_, _<_}
+use Prim.Native.Nat.{ℕ, suc, _+_, _-_, _≤_, _<_}
 use native.Mathlib.Omega.{arith}
 use native.Mathlib.Numerals.{add-one}
 use lib.ListN.{length, drop, getD, drop-of-length-le}
@@ -131,8 +131,14 @@ module _ (ws : List ℕ) (i : ℕ) where
   types-step h =
       ap (map typeOf) (drop-cons ws i 0 h) ∙ ap (λ (k : ℕ). typeOf (getD ws i 0) ∷ map typeOf (drop k ws)) (sym (add-one i))
 
-  types-end : length ws ≤ i → typesFrom i ws ≡ []
+  pub types-end : length ws ≤ i → typesFrom i ws ≡ []
   types-end h = ap (map typeOf) (drop-of-length-le ws h)
+
+  -- the types from the place before on
+  pub types-before : 0 < i → i ≤ length ws → typesFrom (i - 1) ws ≡ typeOf (getD ws (i - 1) 0) ∷ typesFrom i ws
+  types-before g h =
+      ap (map typeOf) (drop-cons ws (i - 1) 0 (omega arith))
+      ∙ ap (λ (k : ℕ). typeOf (getD ws (i - 1) 0) ∷ map typeOf (drop k ws)) (let q : suc (i - 1) ≡ i = omega arith in q)
 
   pub any-here : (u : ArgType) → i < length ws → observedAccepts (typeOf (getD ws i 0)) u ≡ true → anyAccepts (typesFrom i ws) u ≡ true
   unfolding anyAccepts

@@ -6,7 +6,7 @@ use native.Mathlib.Omega.{arith}
 use lib.ListN.{length, take, drop}
 use Rattle.sorted.specs.Sorted.{Sorted}
 use Rattle.tables.specs.declared.Tables.{Tables}
-use Rattle.tables.specs.Table.{marksRoom}
+use Rattle.prepared.specs.Prepared.{Prepared}
 use Rattle.view.specs.View.{numbers}
 use Rattle.lattice.specs.World.{worldOf}
 use Rattle.lattice.specs.Lattice.{World, Lawful}
@@ -25,7 +25,7 @@ use Rattle.turning.specs.Turning.{Turnable}
 
 pub record Runnable (pairs marks : List ℕ) (t : Tables) (a : List ℕ) (count : ℕ) (ring words fallbacks uppers flows incoming reads writes : List ℕ) (components : ℕ) : Type 0 where
   pub lawful : Lawful (worldOf pairs marks t)
-  pub long : length marks ≡ marksRoom
+  pub long : Prepared pairs marks t
   pub fits : Fits t
   pub within : components ≤ 512
   pub among : Among components (linksIn flows incoming reads writes)

@@ -271,7 +271,7 @@ fn number(t: TypeWord) -> u64
 }
 
 fn value_of(pairs: &[u64], marks: &[u64], t: Tables, q: Question, a: u64, b: u64) -> u64
-    requires { ⌜ (length (now marks) ≡ marksRoom) × Fits t × (goodNumbers (ofTypes q) (t .names) (a ∷ b ∷ []) ≡ true) ⌝ }
+    requires { ⌜ (length (now marks) ≡ marksRoom) × Fits t × (goodNumbers (ofTypes q) (t .names) (a ∷ b ∷ []) ≡ true) × (length (now pairs) ≡ pairsRoom) ⌝ }
     ensures { λ r. ⌜ r ≡ valueOf (viewOf (now (pairs .entry)) (now (marks .entry)) t) (worldOf (now (pairs .entry)) (now (marks .entry)) t) q a b ⌝ }
 {
     let l = TypeWord { word: a };

@@ -16,6 +16,7 @@ use Rattle.tables.specs.declared.Tables.{Tables}
 use Rattle.tables.specs.Table.{marksRoom}
 use Rattle.lattice.specs.Lattice.{World, domainAccepts, joinAll, assignableToAll, mostSpecificUpper}
 use Rattle.lattice.specs.JoinAll.{Ascend}
+use Rattle.prepared.specs.Prepared.{Prepared}
 use Rattle.joins.specs.Joins.{Fits, AllLegal}
 use Rattle.solving.specs.Solving.{TypeState, orElse, onlyConcrete, hintsOf}
 use Rattle.solving.specs.Resolve.{passing, allProduce, producesAll, single}
@@ -35,6 +36,10 @@ stateIn exact lower upper domain fallback = record {
 -- the class tables are within the limits, and Object is a name
 abbrev pub Classes : List ℕ → Tables → Type 0
 Classes marks t = (length marks ≡ marksRoom) × Fits t
+
+-- and, where rows stand behind the keys, they are what the classes reach
+abbrev pub Classed : List ℕ → List ℕ → Tables → Type 0
+Classed pairs marks t = Prepared pairs marks t × Fits t
 
 -- types over the names, in their order, none twice
 abbrev pub Bounds : Tables → List ℕ → Type 0

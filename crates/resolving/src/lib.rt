@@ -18,7 +18,7 @@ ghost use Rattle.joins.specs.Joins.{Fits, AllLegal};
 ghost use Rattle.candidates.specs.Maybe.{LegalMaybe, maybeType};
 ghost use Rattle.solving.specs.Solving.{producedType, orElse, onlyConcrete, elementOf, arrayElement, hintsOf, resolveState};
 ghost use Rattle.solving.specs.Resolve.{allProduce, producesAll, single};
-ghost use Rattle.resolving.specs.Bounds.{stateIn, Bounds, Classes, keptIf, differs, bothDiffer, eitherOf, fitting, byUpper, byCast, byFallback, byHint, fromFallback, fromCast, fromUpper, upperPasses, castPasses, fallbackPasses};
+ghost use Rattle.resolving.specs.Bounds.{stateIn, Bounds, Classed, keptIf, differs, bothDiffer, eitherOf, fitting, byUpper, byCast, byFallback, byHint, fromFallback, fromCast, fromUpper, upperPasses, castPasses, fallbackPasses};
 
 // The join of the exact bounds, of the lower ones if there are none.
 pub fn produced_type(
@@ -45,7 +45,7 @@ fn or_upper(
     produced: MaybeType,
     upper: &[u64],
 ) -> MaybeType
-    requires { ⌜ Classes (now marks) t × LegalMaybe produced × AllLegal t (now upper) ⌝ }
+    requires { ⌜ Classed (now pairs) (now marks) t × LegalMaybe produced × AllLegal t (now upper) ⌝ }
     ensures { λ r. ⌜ LegalMaybe r × (maybeType r ≡ orElse (maybeType produced) (mostSpecificUpper (worldOf (now (pairs .entry)) (now (marks .entry)) t) (map typeOf (now (upper .entry))))) ⌝ }
 {
     match produced {
@@ -73,7 +73,7 @@ pub fn element_of(
     produced: MaybeType,
     upper: &[u64],
 ) -> MaybeType
-    requires { ⌜ Classes (now marks) t × LegalMaybe produced × AllLegal t (now upper) ⌝ }
+    requires { ⌜ Classed (now pairs) (now marks) t × LegalMaybe produced × AllLegal t (now upper) ⌝ }
     ensures { λ r. ⌜ r ≡ maybeWord (elementOf (orElse (maybeType produced) (mostSpecificUpper (worldOf (now (pairs .entry)) (now (marks .entry)) t) (map typeOf (now (upper .entry)))))) ⌝ }
 {
     let array = or_upper(pairs, marks, t, produced, upper);
@@ -89,7 +89,7 @@ pub fn array_element(
     lower: &[u64],
     upper: &[u64],
 ) -> MaybeType
-    requires { ⌜ Classes (now marks) t × Bounds t (now exact) × Bounds t (now lower) × AllLegal t (now upper) ⌝ }
+    requires { ⌜ Classed (now pairs) (now marks) t × Bounds t (now exact) × Bounds t (now lower) × AllLegal t (now upper) ⌝ }
     ensures { λ r. ⌜ r ≡ maybeWord (arrayElement (worldOf (now (pairs .entry)) (now (marks .entry)) t) (stateIn (now (exact .entry)) (now (lower .entry)) (now (upper .entry)) [] [])) ⌝ }
 {
     let produced = produced_type(pairs, marks, t, exact, lower);
@@ -118,7 +118,7 @@ fn only_concrete(t: MaybeType) -> MaybeType
 
 // Whether each of some bounds can be produced where the candidate is expected.
 fn all_produce(pairs: &[u64], marks: &[u64], t: Tables, bounds: &[u64], candidate: TypeWord) -> bool
-    requires { ⌜ Classes (now marks) t × AllLegal t (now bounds) × Legal (candidate .word) ⌝ }
+    requires { ⌜ Classed (now pairs) (now marks) t × AllLegal t (now bounds) × Legal (candidate .word) ⌝ }
     ensures { λ r. ⌜ r ≡ allProduce (worldOf (now (pairs .entry)) (now (marks .entry)) t) (map typeOf (now (bounds .entry))) (typeOf (candidate .word)) ⌝ }
 {
     let mut i: usize = 0;
@@ -135,7 +135,7 @@ fn all_produce(pairs: &[u64], marks: &[u64], t: Tables, bounds: &[u64], candidat
 
 // Whether a type can be produced where each upper bound is expected.
 fn produces_all(pairs: &[u64], marks: &[u64], t: Tables, ty: TypeWord, upper: &[u64]) -> bool
-    requires { ⌜ Classes (now marks) t × Legal (ty .word) × AllLegal t (now upper) ⌝ }
+    requires { ⌜ Classed (now pairs) (now marks) t × Legal (ty .word) × AllLegal t (now upper) ⌝ }
     ensures { λ r. ⌜ r ≡ producesAll (worldOf (now (pairs .entry)) (now (marks .entry)) t) (typeOf (ty .word)) (map typeOf (now (upper .entry))) ⌝ }
 {
     let mut i: usize = 0;
@@ -158,7 +158,7 @@ fn fits_upper(
     candidate: MaybeType,
     upper: &[u64],
 ) -> MaybeType
-    requires { ⌜ Classes (now marks) t × LegalMaybe candidate × AllLegal t (now upper) ⌝ }
+    requires { ⌜ Classed (now pairs) (now marks) t × LegalMaybe candidate × AllLegal t (now upper) ⌝ }
     ensures { λ r. ⌜ r ≡ maybeWord (fitting (worldOf (now (pairs .entry)) (now (marks .entry)) t) (maybeType candidate) (map typeOf (now (upper .entry)))) ⌝ }
 {
     match candidate {
@@ -177,7 +177,7 @@ fn upper_passes(
     domain: &[u64],
     candidate: TypeWord,
 ) -> bool
-    requires { ⌜ Classes (now marks) t × AllLegal t (now exact) × AllLegal t (now lower) × AllLegal t (now domain) × Legal (candidate .word) ⌝ }
+    requires { ⌜ Classed (now pairs) (now marks) t × AllLegal t (now exact) × AllLegal t (now lower) × AllLegal t (now domain) × Legal (candidate .word) ⌝ }
     ensures { λ r. ⌜ r ≡ upperPasses (worldOf (now (pairs .entry)) (now (marks .entry)) t) (map typeOf (now (exact .entry))) (map typeOf (now (lower .entry))) (map typeOf (now (domain .entry))) (typeOf (candidate .word)) ⌝ }
 {
     if all_produce(pairs, marks, t, exact, candidate) {
@@ -199,7 +199,7 @@ fn upper_candidate(
     upper: &[u64],
     domain: &[u64],
 ) -> MaybeType
-    requires { ⌜ Classes (now marks) t × AllLegal t (now exact) × AllLegal t (now lower) × AllLegal t (now upper) × AllLegal t (now domain) ⌝ }
+    requires { ⌜ Classed (now pairs) (now marks) t × AllLegal t (now exact) × AllLegal t (now lower) × AllLegal t (now upper) × AllLegal t (now domain) ⌝ }
     ensures { λ r. ⌜ r ≡ maybeWord (byUpper (worldOf (now (pairs .entry)) (now (marks .entry)) t) (map typeOf (now (exact .entry))) (map typeOf (now (lower .entry))) (map typeOf (now (upper .entry))) (map typeOf (now (domain .entry)))) ⌝ }
 {
     match most_specific_upper(pairs, marks, t, upper) {
@@ -217,7 +217,7 @@ fn cast_passes(
     upper: &[u64],
     domain: &[u64],
 ) -> bool
-    requires { ⌜ Classes (now marks) t × Legal (ty .word) × AllLegal t (now upper) × AllLegal t (now domain) ⌝ }
+    requires { ⌜ Classed (now pairs) (now marks) t × Legal (ty .word) × AllLegal t (now upper) × AllLegal t (now domain) ⌝ }
     ensures { λ r. ⌜ r ≡ castPasses (worldOf (now (pairs .entry)) (now (marks .entry)) t) (map typeOf (now (upper .entry))) (map typeOf (now (domain .entry))) (typeOf (ty .word)) ⌝ }
 {
     if produces_all(pairs, marks, t, ty, upper) {
@@ -235,7 +235,7 @@ fn evidence_cast(
     upper: &[u64],
     domain: &[u64],
 ) -> MaybeType
-    requires { ⌜ Classes (now marks) t × LegalMaybe evidence × AllLegal t (now upper) × AllLegal t (now domain) ⌝ }
+    requires { ⌜ Classed (now pairs) (now marks) t × LegalMaybe evidence × AllLegal t (now upper) × AllLegal t (now domain) ⌝ }
     ensures { λ r. ⌜ r ≡ maybeWord (byCast (worldOf (now (pairs .entry)) (now (marks .entry)) t) (maybeType evidence) (map typeOf (now (upper .entry))) (map typeOf (now (domain .entry)))) ⌝ }
 {
     match evidence {
@@ -253,7 +253,7 @@ fn fallback_passes(
     upper: &[u64],
     domain: &[u64],
 ) -> bool
-    requires { ⌜ Classes (now marks) t × Legal (ty .word) × AllLegal t (now upper) × AllLegal t (now domain) ⌝ }
+    requires { ⌜ Classed (now pairs) (now marks) t × Legal (ty .word) × AllLegal t (now upper) × AllLegal t (now domain) ⌝ }
     ensures { λ r. ⌜ r ≡ fallbackPasses (worldOf (now (pairs .entry)) (now (marks .entry)) t) (map typeOf (now (upper .entry))) (map typeOf (now (domain .entry))) (typeOf (ty .word)) ⌝ }
 {
     if is_assignable_to_all(pairs, marks, t, ty, upper) {
@@ -271,7 +271,7 @@ fn fallback_join(
     domain: &[u64],
     fallback: &[u64],
 ) -> MaybeType
-    requires { ⌜ Classes (now marks) t × AllLegal t (now upper) × AllLegal t (now domain) × Bounds t (now fallback) ⌝ }
+    requires { ⌜ Classed (now pairs) (now marks) t × AllLegal t (now upper) × AllLegal t (now domain) × Bounds t (now fallback) ⌝ }
     ensures { λ r. ⌜ r ≡ maybeWord (byFallback (worldOf (now (pairs .entry)) (now (marks .entry)) t) (map typeOf (now (upper .entry))) (map typeOf (now (domain .entry))) (map typeOf (now (fallback .entry)))) ⌝ }
 {
     let joined = join_all(pairs, marks, t, fallback);
@@ -338,7 +338,7 @@ fn one_hint(t: Tables, domain: &[u64]) -> MaybeType
 
 // Way 5: the one hint of the domain, where the upper bounds allow it.
 fn domain_hint(pairs: &[u64], marks: &[u64], t: Tables, upper: &[u64], domain: &[u64]) -> MaybeType
-    requires { ⌜ Classes (now marks) t × AllLegal t (now upper) × AllLegal t (now domain) ⌝ }
+    requires { ⌜ Classed (now pairs) (now marks) t × AllLegal t (now upper) × AllLegal t (now domain) ⌝ }
     ensures { λ r. ⌜ r ≡ maybeWord (byHint (worldOf (now (pairs .entry)) (now (marks .entry)) t) (map typeOf (now (upper .entry))) (map typeOf (now (domain .entry)))) ⌝ }
 {
     let hint = one_hint(t, domain);
@@ -354,7 +354,7 @@ fn from_fallback(
     domain: &[u64],
     fallback: &[u64],
 ) -> MaybeType
-    requires { ⌜ Classes (now marks) t × AllLegal t (now upper) × AllLegal t (now domain) × Bounds t (now fallback) ⌝ }
+    requires { ⌜ Classed (now pairs) (now marks) t × AllLegal t (now upper) × AllLegal t (now domain) × Bounds t (now fallback) ⌝ }
     ensures { λ r. ⌜ r ≡ maybeWord (fromFallback (worldOf (now (pairs .entry)) (now (marks .entry)) t) (map typeOf (now (upper .entry))) (map typeOf (now (domain .entry))) (map typeOf (now (fallback .entry)))) ⌝ }
 {
     match fallback_join(pairs, marks, t, upper, domain, fallback) {
@@ -373,7 +373,7 @@ fn from_cast(
     domain: &[u64],
     fallback: &[u64],
 ) -> MaybeType
-    requires { ⌜ Classes (now marks) t × LegalMaybe evidence × AllLegal t (now upper) × AllLegal t (now domain) × Bounds t (now fallback) ⌝ }
+    requires { ⌜ Classed (now pairs) (now marks) t × LegalMaybe evidence × AllLegal t (now upper) × AllLegal t (now domain) × Bounds t (now fallback) ⌝ }
     ensures { λ r. ⌜ r ≡ maybeWord (fromCast (worldOf (now (pairs .entry)) (now (marks .entry)) t) (maybeType evidence) (map typeOf (now (upper .entry))) (map typeOf (now (domain .entry))) (map typeOf (now (fallback .entry)))) ⌝ }
 {
     match evidence_cast(pairs, marks, t, evidence, upper, domain) {
@@ -394,7 +394,7 @@ fn from_upper(
     domain: &[u64],
     fallback: &[u64],
 ) -> MaybeType
-    requires { ⌜ Classes (now marks) t × LegalMaybe evidence × AllLegal t (now exact) × AllLegal t (now lower) × AllLegal t (now upper) × AllLegal t (now domain) × Bounds t (now fallback) ⌝ }
+    requires { ⌜ Classed (now pairs) (now marks) t × LegalMaybe evidence × AllLegal t (now exact) × AllLegal t (now lower) × AllLegal t (now upper) × AllLegal t (now domain) × Bounds t (now fallback) ⌝ }
     ensures { λ r. ⌜ r ≡ maybeWord (fromUpper (worldOf (now (pairs .entry)) (now (marks .entry)) t) (maybeType evidence) (stateIn (now (exact .entry)) (now (lower .entry)) (now (upper .entry)) (now (domain .entry)) (now (fallback .entry)))) ⌝ }
 {
     match upper_candidate(pairs, marks, t, exact, lower, upper, domain) {
@@ -414,7 +414,7 @@ pub fn resolve_state(
     domain: &[u64],
     fallback: &[u64],
 ) -> MaybeType
-    requires { ⌜ Classes (now marks) t × Bounds t (now exact) × Bounds t (now lower) × AllLegal t (now upper) × AllLegal t (now domain) × Bounds t (now fallback) ⌝ }
+    requires { ⌜ Classed (now pairs) (now marks) t × Bounds t (now exact) × Bounds t (now lower) × AllLegal t (now upper) × AllLegal t (now domain) × Bounds t (now fallback) ⌝ }
     ensures { λ r. ⌜ r ≡ maybeWord (resolveState (worldOf (now (pairs .entry)) (now (marks .entry)) t) (stateIn (now (exact .entry)) (now (lower .entry)) (now (upper .entry)) (now (domain .entry)) (now (fallback .entry)))) ⌝ }
 {
     let produced = produced_type(pairs, marks, t, exact, lower);

@@ -10,7 +10,8 @@ use lib.Seq.{take-append-seam}
 use borrow.Author.Tests.{eq-eqb, ne-eqb}
 use Rattle.sorted.specs.Sorted.{Sorted}
 use Rattle.tables.specs.declared.Tables.{Tables}
-use Rattle.tables.specs.Table.{marksRoom, viewOf, view-good}
+use Rattle.tables.specs.Table.{viewOf, view-good}
+use Rattle.prepared.specs.Prepared.{Prepared}
 use Rattle.view.specs.View.{numbers}
 use Rattle.lattice.specs.World.{present, worldOf, with-lawful}
 use Rattle.lattice.specs.Lattice.{Lawful}
@@ -28,8 +29,8 @@ use Rattle.propagating.specs.declared.Ran.{Ran}
 use Rattle.propagating.specs.Propagating.{Runnable}
 
 -- WHAT IS ASKED: class tables within the limits, sorted links among the components, and the keys of a tidy table with room for 4,096
-pub record Solvable (marks : List ℕ) (t : Tables) (given a flows incoming reads writes : List ℕ) (components : ℕ) : Type 0 where
-  pub long : length marks ≡ marksRoom
+pub record Solvable (pairs marks : List ℕ) (t : Tables) (given a flows incoming reads writes : List ℕ) (components : ℕ) : Type 0 where
+  pub long : Prepared pairs marks t
   pub fits : Fits t
   pub within : components ≤ 512
   pub among : Among components (linksIn flows incoming reads writes)
@@ -90,7 +91,7 @@ solved-one (Ended t q n) a b r s h g =
 
 -- ---- the given bounds, loaded
 
-module _ (pairs marks : List ℕ) (t : Tables) (given a flows incoming reads writes : List ℕ) (components : ℕ) (y : Solvable marks t given a flows incoming reads writes components) where
+module _ (pairs marks : List ℕ) (t : Tables) (given a flows incoming reads writes : List ℕ) (components : ℕ) (y : Solvable pairs marks t given a flows incoming reads writes components) where
   lawful : Lawful (worldOf pairs marks t)
   lawful = with-lawful (viewOf pairs marks t) (present (t .cloneable)) (present (t .serializable)) (view-good pairs marks t (y .fits .0) (y .fits .1))
 

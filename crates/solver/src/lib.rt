@@ -49,7 +49,7 @@ fn solve_over(
     writes: &[u64],
     components: u64,
 ) -> Counts
-    requires { ⌜ Solvable (now marks) t (now given) (now a) (now flows) (now incoming) (now reads) (now writes) components × Scratch (now ring) (now words) (now fallbacks) (now uppers) ⌝ }
+    requires { ⌜ Solvable (now pairs) (now marks) t (now given) (now a) (now flows) (now incoming) (now reads) (now writes) components × Scratch (now ring) (now words) (now fallbacks) (now uppers) ⌝ }
     ensures { λ r. ⌜ Solved (propagate (worldOf (now (pairs .entry)) (now (marks .entry)) t) (linksIn (now (flows .entry)) (now (incoming .entry)) (now (reads .entry)) (now (writes .entry))) components (map boundOf (now (given .entry)))) (now (a .exit)) r ⌝ }
 {
     load(given, a);
@@ -86,7 +86,7 @@ pub fn solve(
     writes: &[u64],
     components: u64,
 ) -> Counts
-    requires { ⌜ Solvable (now marks) t (now given) (now a) (now flows) (now incoming) (now reads) (now writes) components ⌝ }
+    requires { ⌜ Solvable (now pairs) (now marks) t (now given) (now a) (now flows) (now incoming) (now reads) (now writes) components ⌝ }
     ensures { λ r. ⌜ Solved (propagate (worldOf (now (pairs .entry)) (now (marks .entry)) t) (linksIn (now (flows .entry)) (now (incoming .entry)) (now (reads .entry)) (now (writes .entry))) components (map boundOf (now (given .entry)))) (now (a .exit)) r ⌝ }
 {
     let mut ring = [0u64; 512];

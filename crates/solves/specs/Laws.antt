@@ -33,7 +33,7 @@ use Rattle.problems.specs.Kept.{problemOf, Keeps, keeps-checked, keeps-flows, k
 use Rattle.rules.specs.Rules.{linksIn}
 use Rattle.copying.specs.Copies.{wordIn}
 use Rattle.copying.specs.Steps.{paste-front}
-use Rattle.resolving.specs.Bounds.{Classes}
+use Rattle.resolving.specs.Bounds.{Classed}
 use Rattle.answering.specs.Answering.{tableIn, Final, answerWord, answerWords}
 use Rattle.answering.specs.FromFinal.{keys-final, keys-answers}
 use Rattle.solver.specs.Solver.{Solvable, counted, Solved}
@@ -83,7 +83,7 @@ column-filled f t keys out out′ g e h =
     ∙ paste-front out (map (λ x. f (boundOf x)) (keysOf t)) ∙ ap (λ (l : List ℕ). filled l out) (parts-back f t g)
 
 module _ (pairs marks : List ℕ) (t : Tables) (components : ℕ) (variables bounds flows uppers reads writes : List ℕ)
-    (classes : Classes marks t) (k : Keeps (t .names) components variables bounds flows uppers reads writes) where
+    (classes : Classed pairs marks t) (k : Keeps (t .names) components variables bounds flows uppers reads writes) where
   abbrev p : Problem
   p = problemOf components variables bounds flows uppers reads writes
 
@@ -126,7 +126,7 @@ module _ (pairs marks : List ℕ) (t : Tables) (components : ℕ) (variables bou
     links-front = ap (λ (m : ℕ). take m i′) (minus-none n) ∙ ap (take n) f ∙ take-filled (incomingOf flows uppers) i n e
 
   module _ (links : List ℕ) (e : links ≡ incomingOf flows uppers) where
-    pub kept-solvable : (a : List ℕ) → length a ≡ room → Solvable marks t bounds a flows links reads writes components
+    pub kept-solvable : (a : List ℕ) → length a ≡ room → Solvable pairs marks t bounds a flows links reads writes components
     kept-solvable a l = record {
       long = classes .0;
       fits = classes .1;

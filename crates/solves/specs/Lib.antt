@@ -2,3 +2,4 @@
 pub mod SolveResult
 pub mod Laws
 pub mod Examples
+pub mod Choice

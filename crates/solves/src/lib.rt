@@ -3,9 +3,14 @@
 use answering::answers;
 use clearing::clear;
 use columnsout::write_columns;
+use keys::key_type;
 use linking::incoming_links;
+use prepared::TABLE;
+use prepared::prepare;
+use sets::Set;
 use solver::solve;
 use solving::Counts;
+use tables::PAIRS;
 use tables::Tables;
 ghost use mathlib.Core.Path.{_≡_};
 ghost use Prim.Native.Nat.{_≤_};
@@ -15,12 +20,17 @@ ghost use Rattle.lattice.specs.World.{worldOf};
 ghost use Rattle.solving.specs.Queue.{Below};
 ghost use Rattle.solving.specs.Solving.{room, solve};
 ghost use Rattle.problems.specs.Kept.{problemOf, Keeps};
-ghost use Rattle.resolving.specs.Bounds.{Classes};
+ghost use Rattle.tables.specs.Table.{pairsRoom};
+ghost use Rattle.resolving.specs.Bounds.{Classes, Classed};
 ghost use Rattle.answering.specs.Answering.{tableIn, Final, answerWords};
 ghost use Rattle.solver.specs.Solver.{Solved};
 ghost use Rattle.columnsout.specs.Columns.{Written};
 ghost use Rattle.solves.specs.SolveResult.{lent, Roomy, Solves};
 ghost use Rattle.solves.specs.Laws.{runOf, Leaves};
+ghost use Rattle.solves.specs.Choice.{Inside, Decides};
+
+// From how many given bounds on rows are made.
+const MANY: usize = 32;
 
 // The run, with its incoming links in a lent slice.
 fn run_linked(
@@ -37,7 +47,7 @@ fn run_linked(
     incoming: &mut [u64],
     a: &mut [u64],
 ) -> Counts
-    requires { ⌜ Classes (now marks) t × Keeps (t .names) components (now variables) (now bounds) (now flows) (now uppers) (now reads) (now writes) × (length (now incoming) ≡ 3072) × (length (now a) ≡ room) ⌝ }
+    requires { ⌜ Classed (now pairs) (now marks) t × Keeps (t .names) components (now variables) (now bounds) (now flows) (now uppers) (now reads) (now writes) × (length (now incoming) ≡ 3072) × (length (now a) ≡ room) ⌝ }
     ensures { λ r. ⌜ Solved (runOf (worldOf (now (pairs .entry)) (now (marks .entry)) t) (problemOf components (now (variables .entry)) (now (bounds .entry)) (now (flows .entry)) (now (uppers .entry)) (now (reads .entry)) (now (writes .entry)))) (now (a .exit)) r ⌝ }
 {
     let n = incoming_links(flows, uppers, incoming);
@@ -69,7 +79,7 @@ fn run_problem(
     writes: &[u64],
     a: &mut [u64],
 ) -> Counts
-    requires { ⌜ Classes (now marks) t × Keeps (t .names) components (now variables) (now bounds) (now flows) (now uppers) (now reads) (now writes) × (length (now a) ≡ room) ⌝ }
+    requires { ⌜ Classed (now pairs) (now marks) t × Keeps (t .names) components (now variables) (now bounds) (now flows) (now uppers) (now reads) (now writes) × (length (now a) ≡ room) ⌝ }
     ensures { λ r. ⌜ Solved (runOf (worldOf (now (pairs .entry)) (now (marks .entry)) t) (problemOf components (now (variables .entry)) (now (bounds .entry)) (now (flows .entry)) (now (uppers .entry)) (now (reads .entry)) (now (writes .entry)))) (now (a .exit)) r ⌝ }
 {
     let mut incoming = [0u64; 3072];
@@ -101,7 +111,7 @@ fn write_solution(
     out_kind: &mut [u64],
     out_type: &mut [u64],
 )
-    requires { ⌜ Classes (now marks) t × Final (t .names) (now keys) × Below 512 (now variables) × (length (now keys) ≤ room) × (length (now variables) ≤ length (now into)) × (room ≤ length (now «out_comp»)) × (room ≤ length (now «out_kind»)) × (room ≤ length (now «out_type»)) ⌝ }
+    requires { ⌜ Classed (now pairs) (now marks) t × Final (t .names) (now keys) × Below 512 (now variables) × (length (now keys) ≤ room) × (length (now variables) ≤ length (now into)) × (room ≤ length (now «out_comp»)) × (room ≤ length (now «out_kind»)) × (room ≤ length (now «out_type»)) ⌝ }
     ensures { λ _. ⌜ (now (into .exit) ≡ paste (now (into .entry)) 0 (answerWords (worldOf (now (pairs .entry)) (now (marks .entry)) t) (tableIn (now (keys .entry))) (now (variables .entry))) (length (now (variables .entry)))) × Written (now (keys .entry)) (now («out_comp» .entry)) (now («out_kind» .entry)) (now («out_type» .entry)) (now («out_comp» .exit)) (now («out_kind» .exit)) (now («out_type» .exit)) ⌝ }
 {
     let mut copies = [0u64; 4096];
@@ -127,7 +137,7 @@ fn solve_into(
     out_type: &mut [u64],
     a: &mut [u64],
 ) -> Counts
-    requires { ⌜ Classes (now marks) t × Keeps (t .names) components (now variables) (now bounds) (now flows) (now uppers) (now reads) (now writes) × (length (now variables) ≤ length (now into)) × (room ≤ length (now «out_comp»)) × (room ≤ length (now «out_kind»)) × (room ≤ length (now «out_type»)) × (length (now a) ≡ room) ⌝ }
+    requires { ⌜ Classed (now pairs) (now marks) t × Keeps (t .names) components (now variables) (now bounds) (now flows) (now uppers) (now reads) (now writes) × (length (now variables) ≤ length (now into)) × (room ≤ length (now «out_comp»)) × (room ≤ length (now «out_kind»)) × (room ≤ length (now «out_type»)) × (length (now a) ≡ room) ⌝ }
     ensures { λ r. ⌜ Leaves (solve (worldOf (now (pairs .entry)) (now (marks .entry)) t) (problemOf components (now (variables .entry)) (now (bounds .entry)) (now (flows .entry)) (now (uppers .entry)) (now (reads .entry)) (now (writes .entry)))) (lent (now (into .entry)) (now («out_comp» .entry)) (now («out_kind» .entry)) (now («out_type» .entry)) (now (a .entry))) (lent (now (into .exit)) (now («out_comp» .exit)) (now («out_kind» .exit)) (now («out_type» .exit)) (now (a .exit))) r ⌝ }
 {
     let c = run_problem(
@@ -162,6 +172,156 @@ fn solve_into(
     c
 }
 
+// The set with the class of a key, where that is a class of the table, or an array of one.
+fn with_given(names: u64, key: u64, s: Set) -> Set
+    requires { ⌜ Inside names (s .words) ⌝ }
+    ensures { λ r. ⌜ Inside names (r .words) ⌝ }
+{
+    let ty = key_type(key);
+    if ty.tag() == 1 {
+        let class = ty.load();
+        if class < names {
+            return s.with(class);
+        }
+        return s;
+    }
+    s
+}
+
+// The classes that the given bounds speak of.
+fn given_classes(names: u64, bounds: &[u64]) -> Set
+    ensures { λ r. ⌜ Inside names (r .words) ⌝ }
+{
+    let mut s = Set::empty();
+    let mut i: usize = 0;
+    while i < bounds.len() {
+        s = with_given(names, bounds[i], s);
+        i += 1;
+    }
+    s
+}
+
+// The same with a row for each class that can occur: what is joined of given classes stands above them.
+fn solve_prepared(
+    pairs: &[u64],
+    marks: &[u64],
+    t: Tables,
+    components: u64,
+    variables: &[u64],
+    bounds: &[u64],
+    flows: &[u64],
+    uppers: &[u64],
+    reads: &[u64],
+    writes: &[u64],
+    into: &mut [u64],
+    out_comp: &mut [u64],
+    out_kind: &mut [u64],
+    out_type: &mut [u64],
+    a: &mut [u64],
+) -> Counts
+    requires { ⌜ Classes (now marks) t × (t .pairs ≤ pairsRoom) × (t .pairs ≤ length (now pairs)) × Keeps (t .names) components (now variables) (now bounds) (now flows) (now uppers) (now reads) (now writes) × (length (now variables) ≤ length (now into)) × (room ≤ length (now «out_comp»)) × (room ≤ length (now «out_kind»)) × (room ≤ length (now «out_type»)) × (length (now a) ≡ room) ⌝ }
+    ensures { λ r. ⌜ Leaves (solve (worldOf (now (pairs .entry)) (now (marks .entry)) t) (problemOf components (now (variables .entry)) (now (bounds .entry)) (now (flows .entry)) (now (uppers .entry)) (now (reads .entry)) (now (writes .entry)))) (lent (now (into .entry)) (now («out_comp» .entry)) (now («out_kind» .entry)) (now («out_type» .entry)) (now (a .entry))) (lent (now (into .exit)) (now («out_comp» .exit)) (now («out_kind» .exit)) (now («out_type» .exit)) (now (a .exit))) r ⌝ }
+{
+    let mut table = [0u64; TABLE];
+    let given = given_classes(t.names, bounds);
+    prepare(pairs, marks, t, given, &mut table);
+    solve_into(
+        &table,
+        marks,
+        t,
+        components,
+        variables,
+        bounds,
+        flows,
+        uppers,
+        reads,
+        writes,
+        into,
+        out_comp,
+        out_kind,
+        out_type,
+        a,
+    )
+}
+
+// Whether rows are made: of few given bounds nothing is asked often enough. A slice as long as a table with rows has none yet.
+fn is_prepared(len: usize, pairs: usize, given: usize) -> bool
+    ensures { λ r. ⌜ Decides len pairs r ⌝ }
+{
+    if PAIRS < pairs {
+        return false;
+    }
+    if len < pairs {
+        return false;
+    }
+    if len == TABLE {
+        return true;
+    }
+    if MANY <= given {
+        return true;
+    }
+    false
+}
+
+// The solve with or without rows.
+fn solve_either(
+    pairs: &[u64],
+    marks: &[u64],
+    t: Tables,
+    components: u64,
+    variables: &[u64],
+    bounds: &[u64],
+    flows: &[u64],
+    uppers: &[u64],
+    reads: &[u64],
+    writes: &[u64],
+    into: &mut [u64],
+    out_comp: &mut [u64],
+    out_kind: &mut [u64],
+    out_type: &mut [u64],
+    a: &mut [u64],
+) -> Counts
+    requires { ⌜ Classes (now marks) t × Keeps (t .names) components (now variables) (now bounds) (now flows) (now uppers) (now reads) (now writes) × (length (now variables) ≤ length (now into)) × (room ≤ length (now «out_comp»)) × (room ≤ length (now «out_kind»)) × (room ≤ length (now «out_type»)) × (length (now a) ≡ room) ⌝ }
+    ensures { λ r. ⌜ Leaves (solve (worldOf (now (pairs .entry)) (now (marks .entry)) t) (problemOf components (now (variables .entry)) (now (bounds .entry)) (now (flows .entry)) (now (uppers .entry)) (now (reads .entry)) (now (writes .entry)))) (lent (now (into .entry)) (now («out_comp» .entry)) (now («out_kind» .entry)) (now («out_type» .entry)) (now (a .entry))) (lent (now (into .exit)) (now («out_comp» .exit)) (now («out_kind» .exit)) (now («out_type» .exit)) (now (a .exit))) r ⌝ }
+{
+    if is_prepared(pairs.len(), t.pairs, bounds.len()) {
+        return solve_prepared(
+            pairs,
+            marks,
+            t,
+            components,
+            variables,
+            bounds,
+            flows,
+            uppers,
+            reads,
+            writes,
+            into,
+            out_comp,
+            out_kind,
+            out_type,
+            a,
+        );
+    }
+    solve_into(
+        pairs,
+        marks,
+        t,
+        components,
+        variables,
+        bounds,
+        flows,
+        uppers,
+        reads,
+        writes,
+        into,
+        out_comp,
+        out_kind,
+        out_type,
+        a,
+    )
+}
+
 // The table stands at the front of the work while it is made; what is past 4,096 words stays free.
 pub fn solve_problem(
     pairs: &[u64],
@@ -183,7 +343,7 @@ pub fn solve_problem(
     requires { ⌜ Classes (now marks) t × Keeps (t .names) components (now variables) (now bounds) (now flows) (now uppers) (now reads) (now writes) × Roomy (length (now variables)) (lent (now answers) (now «out_comp») (now «out_kind») (now «out_type») (now work)) ⌝ }
     ensures { λ r. ⌜ Solves (solve (worldOf (now (pairs .entry)) (now (marks .entry)) t) (problemOf components (now (variables .entry)) (now (bounds .entry)) (now (flows .entry)) (now (uppers .entry)) (now (reads .entry)) (now (writes .entry)))) (lent (now (answers .entry)) (now («out_comp» .entry)) (now («out_kind» .entry)) (now («out_type» .entry)) (now (work .entry))) (lent (now (answers .exit)) (now («out_comp» .exit)) (now («out_kind» .exit)) (now («out_type» .exit)) (now (work .exit))) r ⌝ }
 {
-    let c = solve_into(
+    let c = solve_either(
         pairs,
         marks,
         t,

@@ -10,7 +10,7 @@ use lib.ListN.{length, length-append, length-map, length-take, take, drop, getD}
 use lib.Seq.{paste, take-append-seam}
 use Rattle.sorted.specs.Sorted.{Sorted}
 use Rattle.tables.specs.declared.Tables.{Tables}
-use Rattle.tables.specs.Table.{marksRoom}
+use Rattle.prepared.specs.Prepared.{Prepared}
 use Rattle.ty.specs.declared.MaybeType.{MaybeType}
 use Rattle.ty.specs.declared.MaybeType.the-variants.{Is, Nothing}
 use Rattle.ty.specs.declared.TypeWord.{TypeWord}
@@ -52,7 +52,7 @@ stateIn keys root = stateOf (map boundOf keys) root
 
 pub record Asks (pairs marks : List ℕ) (t : Tables) (keys : List ℕ) : Type 0 where
   pub lawful : Lawful (worldOf pairs marks t)
-  pub long : length marks ≡ marksRoom
+  pub long : Prepared pairs marks t
   pub fits : Fits t
   pub components : ℕ
   pub table : Table
@@ -212,7 +212,7 @@ module _ (pairs marks : List ℕ) (t : Tables) (keys : List ℕ) (y : Asks pairs
 -- WHAT A TURN ASKS
 pub record Turnable (pairs marks : List ℕ) (t : Tables) (s : Store) (words fallbacks uppers flows incoming reads writes : List ℕ) : Type 0 where
   pub lawful : Lawful (worldOf pairs marks t)
-  pub long : length marks ≡ marksRoom
+  pub long : Prepared pairs marks t
   pub fits : Fits t
   pub components : ℕ
   pub table : Table

@@ -28,8 +28,8 @@ is-object-requires c κs = search needs
 load-requires : tie.Need-load-requires
 load-requires c κs = search needs
 
-subtype-relation-requires : tie.Need-subtype-relation-requires
-subtype-relation-requires c κs = search needs
+relation-of-requires : tie.Need-relation-of-requires
+relation-of-requires c κs = search needs
 
 not-no-requires : tie.Need-not-no-requires
 not-no-requires c κs = search needs
@@ -39,7 +39,7 @@ returns-2 c =
     let a = c .before .before .before .before .before .before .before .before .before .args in
     let l = c .before .before .load in
     c .not-no .ensures
-    ∙ ap notNo (c .before .subtype-relation .ensures)
+    ∙ ap notNo (c .before .relation-of .ensures)
     ∙ class-to-class (worldOf (a .pairs .now) (a .marks .now) (a .t)) (typeOf (a .value .word)) (l .result) (a .class)
     (object-load (a .value .word) (sym (c .before .before .before .before .is-object .ensures) ∙ c .before .before .before .if2 .taken) ∙ ap Object (sym (l .ensures)))
 
@@ -58,7 +58,7 @@ to-class-spec =
     returns
     is-object-requires
     load-requires
-    subtype-relation-requires
+    relation-of-requires
     not-no-requires
     returns-2
     returns-3)

@@ -1,74 +1,50 @@
--- `is_assignable_to_all` meets its contract: what is left to ask is the question of the words from `i` on. Assumes nothing.
+-- `is_assignable_to_all` meets its contract: at once or one by one. Assumes nothing.
 use borrow.Author.Needs.{needs}
-use mathlib.Core.Path.{_≡_, refl, sym, _∙_}
+use mathlib.Core.Path.{sym, _∙_}
 use mathlib.Core.List.{map}
-use Prim.Native.Nat.{_-_, _≤_}
-use native.Mathlib.Omega.{arith}
-use lib.ListN.{length}
 use Rattle.ty.specs.Words.{typeOf}
-use Rattle.lattice.specs.Lattice.{assignableToAll}
-use Rattle.lattice.specs.World.{worldOf}
-use Rattle.candidates.specs.Steps.{typesFrom, all-later, all-not, all-end}
 use Rattle.candidates.proofs.is_assignable_to_all.Statement.{statement}
 use Rattle.candidates.proofs.is_assignable_to_all.Tie as tie
 
-abbrev Inv-loop : tie.InvT-loop
-Inv-loop pairs marks t candidate upper i₀ i = (i ≤ length upper) × (assignableToAll (worldOf pairs marks t) (typeOf (candidate .word)) (map typeOf upper) ≡ assignableToAll (worldOf pairs marks t) (typeOf (candidate .word)) (typesFrom i upper))
+tag-requires : tie.Need-tag-requires
+tag-requires c κs = search needs
 
-abbrev μ-loop : tie.MeasureT-loop
-μ-loop pairs marks t candidate upper i₀ i = length upper - i
+group-of-requires : tie.Need-group-of-requires
+group-of-requires c κs =
+    let p = c .before .before .before .before .before .before .pre in
+    (p .0, p .1, sym (c .before .tag .ensures) ∙ c .if2 .taken, p .2)
 
-loop-holds : tie.Need-loop-holds Inv-loop μ-loop
-loop-holds c = (omega arith, refl)
+takes-requires : tie.Need-takes-requires
+takes-requires c κs =
+    let p = c .before .before .before .before .before .before .before .pre in
+    (p .0, (p .1, sym (c .before .before .tag .ensures) ∙ c .before .if2 .taken, sym (c .group-of .ensures .0)))
 
-mul-t8 : tie.Need-mul-t8 Inv-loop μ-loop
-mul-t8 c = search needs
-
-shared-slice-read-t11 : tie.Need-shared-slice-read-t11 Inv-loop μ-loop
-shared-slice-read-t11 c = search needs
-
-is-assignable-requires : tie.Need-is-assignable-requires Inv-loop μ-loop
-is-assignable-requires c κs =
-    let s = c .before .before .before .before .before .before in
-    let l = s .pre .2 (c .before .before .loop .i) (omega arith) in
-    search needs
-
-add-i : tie.Need-add-i Inv-loop μ-loop
-add-i c = search needs
-
-loop-less : tie.Need-loop-less Inv-loop μ-loop
-loop-less c = search needs
-
-loop-again : tie.Need-loop-again Inv-loop μ-loop
-loop-again c =
-    let a = c .before .before .before .before .before .before .before .before .args in
-    let l = c .before .before .before .before .loop in
-    (omega arith, l .inv .1 ∙ all-later (a .upper .now) (l .i) (worldOf (a .pairs .now) (a .marks .now) (a .t)) (typeOf (a .candidate .word)) (omega arith) (sym (c .before .is-assignable .ensures) ∙ c .if1 .taken))
-
-returns : tie.Need-returns Inv-loop μ-loop
+returns : tie.Need-returns
 returns c =
     let a = c .before .before .before .before .before .before .before .before .args in
-    let l = c .before .before .before .before .loop in
-    sym (l .inv .1 ∙ all-not (a .upper .now) (l .i) (worldOf (a .pairs .now) (a .marks .now) (a .t)) (typeOf (a .candidate .word)) (omega arith) (sym (c .before .is-assignable .ensures) ∙ c .if1 .left))
+    c .takes .ensures (map typeOf (a .upper .now)) (c .before .group-of .ensures .1)
 
-returns-2 : tie.Need-returns-2 Inv-loop μ-loop
-returns-2 c =
-    let a = c .before .before .before .before .before .args in
-    let l = c .before .loop in
-    sym (l .inv .1 ∙ all-end (a .upper .now) (l .i) (worldOf (a .pairs .now) (a .marks .now) (a .t)) (typeOf (a .candidate .word)) (omega arith))
+is-assignable-to-each-requires : tie.Need-is-assignable-to-each-requires
+is-assignable-to-each-requires c κs = search needs
+
+returns-2 : tie.Need-returns-2
+returns-2 c = search needs
+
+is-assignable-to-each-requires-2 : tie.Need-is-assignable-to-each-requires-2
+is-assignable-to-each-requires-2 c κs = search needs
+
+returns-3 : tie.Need-returns-3
+returns-3 c = search needs
 
 pub is-assignable-to-all-spec : {M : Type 1} → statement M
 is-assignable-to-all-spec =
     tie.close
     (tie.spec
-    Inv-loop
-    μ-loop
-    loop-holds
-    mul-t8
-    shared-slice-read-t11
-    is-assignable-requires
-    add-i
-    loop-less
-    loop-again
+    tag-requires
+    group-of-requires
+    takes-requires
     returns
-    returns-2)
+    is-assignable-to-each-requires
+    returns-2
+    is-assignable-to-each-requires-2
+    returns-3)

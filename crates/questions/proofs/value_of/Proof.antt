@@ -1,6 +1,8 @@
 -- `value_of` meets its contract: each question by the function of the crate that answers it.
 use borrow.Author.Needs.{needs}
 use mathlib.Core.Path.{ap, _∙_}
+use native.Mathlib.Omega.{arith}
+use Rattle.prepared.specs.Prepared.{plain-prepared}
 use Rattle.questions.specs.Questions.{ofTypes}
 use Rattle.questions.specs.Laws.{are-classes, are-types, legal-words, value-relation, value-distance, value-supertype, value-cast, value-join, value-assignable}
 use Rattle.questions.proofs.value_of.Statement.{statement}
@@ -66,9 +68,7 @@ is-assignable-requires c κs =
     let a = s .args in
     let p = are-types (a .t .names) (a .a) (a .b) (ofTypes (a .q)) (ap ofTypes (c .enum-told6 .given .1)) (s .pre .2) in
     let l = legal-words (a .t .names) (a .a) (a .b) (s .pre .1 .0) p in
-    let left = l .0 in
-    let right = l .1 in
-    search needs
+    (plain-prepared (a .pairs .now) (a .marks .now) (a .t) (s .pre .0) (λ e n. let r = s .pre .3 in omega arith), l .0, l .1)
 
 flag-requires-2 : tie.Need-flag-requires-2
 flag-requires-2 c κs = search needs

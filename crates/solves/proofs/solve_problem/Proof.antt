@@ -6,17 +6,17 @@ use lib.ListN.{length, replicate}
 use Rattle.solves.proofs.solve_problem.Statement.{statement}
 use Rattle.solves.proofs.solve_problem.Tie as tie
 
-sub-solve-into : tie.Need-sub-solve-into
-sub-solve-into c = search needs
+sub-solve-either : tie.Need-sub-solve-either
+sub-solve-either c = search needs
 
-part-solve-into-start : tie.Need-part-solve-into-start
-part-solve-into-start c = search needs
+part-solve-either-start : tie.Need-part-solve-either-start
+part-solve-either-start c = search needs
 
-part-solve-into-end : tie.Need-part-solve-into-end
-part-solve-into-end c = search needs
+part-solve-either-end : tie.Need-part-solve-either-end
+part-solve-either-end c = search needs
 
-solve-into-requires : tie.Need-solve-into-requires
-solve-into-requires c κs = search needs
+solve-either-requires : tie.Need-solve-either-requires
+solve-either-requires c κs = search needs
 
 clear-requires : tie.Need-clear-requires
 clear-requires c κs = search needs
@@ -39,7 +39,7 @@ same-length-5 c = search needs
 returns : tie.Need-returns
 returns c =
     let x = c .before .before .before .before .before .before .before .before .before .before .before .before .before .before .before .before .before .before .before .before .before .before .before .before .before .before .before .before .before .before .before .before .before .args in
-    let o = c .before .before .before .before .before .before .before .before .before .before .before .before .before .before .solve-into .ensures in
+    let o = c .before .before .before .before .before .before .before .before .before .before .before .before .before .before .solve-either .ensures in
     let d = c .before .before .clear in
     let e : length (d .last .0) ≡ length (x .work .now) = search needs in
     record {
@@ -55,10 +55,10 @@ pub solve-problem-spec : {M : Type 1} → statement M
 solve-problem-spec =
     tie.close
     (tie.spec
-    sub-solve-into
-    part-solve-into-start
-    part-solve-into-end
-    solve-into-requires
+    sub-solve-either
+    part-solve-either-start
+    part-solve-either-end
+    solve-either-requires
     clear-requires
     same-length
     same-length-2

@@ -1,4 +1,4 @@
--- `most_specific_upper` meets its contract: the best so far is the least hint of the bounds from `i` on. Assumes nothing.
+-- `least_of_few` meets its contract: the best so far is the least hint of the bounds from `i` on. Assumes nothing.
 use borrow.Author.Needs.{needs}
 use mathlib.Core.Path.{_≡_, sym, ap, _∙_}
 use mathlib.Core.List.{map}
@@ -13,8 +13,8 @@ use Rattle.lattice.specs.Lattice.{candidate, leastHint, mostSpecificUpper}
 use Rattle.lattice.specs.World.{worldOf}
 use Rattle.candidates.specs.Maybe.{LegalMaybe, maybeType, maybe-word}
 use Rattle.candidates.specs.Steps.{typesFrom, least-end, least-step}
-use Rattle.candidates.proofs.most_specific_upper.Statement.{statement}
-use Rattle.candidates.proofs.most_specific_upper.Tie as tie
+use Rattle.candidates.proofs.least_of_few.Statement.{statement}
+use Rattle.candidates.proofs.least_of_few.Tie as tie
 
 abbrev Inv-loop : tie.InvT-loop
 Inv-loop pairs marks t upper best₀ i₀ best i =
@@ -66,8 +66,8 @@ returns c =
     maybe-word (l .best) (l .inv .1)
     ∙ ap maybeWord (l .inv .2 ∙ ap (λ (k : ℕ). leastHint (worldOf (a .pairs .now) (a .marks .now) (a .t)) (map typeOf (a .upper .now)) (typesFrom k (a .upper .now))) (let q : l .i ≡ 0 = omega arith in q))
 
-pub most-specific-upper-spec : {M : Type 1} → statement M
-most-specific-upper-spec =
+pub least-of-few-spec : {M : Type 1} → statement M
+least-of-few-spec =
     tie.close
     (tie.spec
     Inv-loop

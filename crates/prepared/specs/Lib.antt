@@ -1,0 +1,2 @@
+-- When a slice of keys is ready to be asked, and what a prepared one is.
+pub mod Prepared
