@@ -1,0 +1,2 @@
+-- What the program holds from line to line.
+pub mod Held
