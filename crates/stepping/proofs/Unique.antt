@@ -9,31 +9,36 @@ use borrow.Fn.Kinds.{Dens, resT, endedOf}
 use denote.Triple.Clauses.{AtExit}
 use denote.Ref.{now}
 use contract.Lifetimes.{Lfts}
-use Rattle.frames.specs.Frames.{Stepped}
+use Rattle.frames.specs.Frames.{Store, Stepped}
+use Rattle.framestate.specs.declared.Numbers.{Numbers}
 use Rattle.framestate.specs.declared.Framed.{Framed}
 use Rattle.framestate.specs.FrameState.{Slices, Shows, Leaves}
 use Rattle.solveframe.specs.Parts.{part, problemRoom, slicesOf}
 use Rattle.stepping.proofs.frame.Reads as frame
 use Rattle.stepping.proofs.frame.Kinds as frame-kinds
 
+-- one state is shown in one way
+pub state-one : (s : Store) (l l₁ l₂ : Slices) (n₁ n₂ : Numbers) → Shows s l l₁ n₁ → Shows s l l₂ n₂ → (n₁ ≡ n₂) × (l₁ ≡ l₂)
+state-one s l l₁ l₂ n₁ n₂ p q =
+    let b = p .last-is ∙ sym (q .last-is) in
+    let c = p .pairs-are ∙ sym (q .pairs-are) in
+    let d = p .marks-are ∙ sym (q .marks-are) in
+    let e = p .variables-are ∙ sym (q .variables-are) in
+    let f = p .bounds-are ∙ sym (q .bounds-are) in
+    let g = p .flows-are ∙ sym (q .flows-are) in
+    let h = p .uppers-are ∙ sym (q .uppers-are) in
+    let j = p .reads-are ∙ sym (q .reads-are) in
+    let k = p .writes-are ∙ sym (q .writes-are) in (
+      p .numbers-are ∙ sym (q .numbers-are),
+      λ i. record { last = b i; pairs = c i; marks = d i; variables = e i; bounds = f i; flows = g i; uppers = h i; reads = j i; writes = k i },
+    )
+
 -- one step leaves one state
 shows-one : (step : Stepped) (l l₁ l₂ : Slices) (a a₁ a₂ : List ℕ) (r₁ r₂ : Framed) → Leaves step l l₁ a a₁ r₁ → Leaves step l l₂ a a₂ r₂ → (r₁ ≡ r₂) × (l₁ ≡ l₂) × (a₁ ≡ a₂)
 shows-one step l l₁ l₂ a a₁ a₂ r₁ r₂ p q =
     let s = p .said-is ∙ sym (q .said-is) in
-    let n = p .shows .numbers-are ∙ sym (q .shows .numbers-are) in
-    let b = p .shows .last-is ∙ sym (q .shows .last-is) in
-    let c = p .shows .pairs-are ∙ sym (q .shows .pairs-are) in
-    let d = p .shows .marks-are ∙ sym (q .shows .marks-are) in
-    let e = p .shows .variables-are ∙ sym (q .shows .variables-are) in
-    let f = p .shows .bounds-are ∙ sym (q .shows .bounds-are) in
-    let g = p .shows .flows-are ∙ sym (q .shows .flows-are) in
-    let h = p .shows .uppers-are ∙ sym (q .shows .uppers-are) in
-    let j = p .shows .reads-are ∙ sym (q .shows .reads-are) in
-    let k = p .shows .writes-are ∙ sym (q .shows .writes-are) in (
-      λ i. record { said = s i; numbers = n i },
-      λ i. record { last = b i; pairs = c i; marks = d i; variables = e i; bounds = f i; flows = g i; uppers = h i; reads = j i; writes = k i },
-      p .answers-are ∙ sym (q .answers-are),
-    )
+    let o = state-one (step .store) l l₁ l₂ (r₁ .numbers) (r₂ .numbers) (p .shows) (q .shows) in
+    let n = o .0 in (λ i. record { said = s i; numbers = n i }, o .1, p .answers-are ∙ sym (q .answers-are))
 
 -- the rows are their six parts
 six : (l : List ℕ) → length l ≡ problemRoom → l ≡ part 0 2048 l ++ (part 2048 4096 l ++ (part 6144 2048 l ++ (part 8192 1024 l ++ (part 9216 1024 l ++ part 10240 1024 l))))
@@ -46,7 +51,7 @@ six l h =
     (drop-drop 2048 6144 l ∙ sym (take-append-drop 1024 (drop 8192 l)) ∙ ap (λ (z : List ℕ). part 8192 1024 l ++ z)
     (drop-drop 1024 8192 l ∙ sym (take-append-drop 1024 (drop 9216 l)) ∙ ap (λ (z : List ℕ). part 9216 1024 l ++ z) (drop-drop 1024 9216 l ∙ sym w)))))
 
-rows-one : (b₁ b₂ c₁ c₂ d₁ d₂ l m : List ℕ) → length l ≡ problemRoom → length m ≡ problemRoom → slicesOf b₁ c₁ d₁ l ≡ slicesOf b₂ c₂ d₂ m → l ≡ m
+pub rows-one : (b₁ b₂ c₁ c₂ d₁ d₂ l m : List ℕ) → length l ≡ problemRoom → length m ≡ problemRoom → slicesOf b₁ c₁ d₁ l ≡ slicesOf b₂ c₂ d₂ m → l ≡ m
 rows-one b₁ b₂ c₁ c₂ d₁ d₂ l m h k e =
     six l h ∙ ap (λ (s : Slices). s .variables ++ (s .bounds ++ (s .flows ++ (s .uppers ++ (s .reads ++ s .writes))))) e ∙ sym (six m k)
 

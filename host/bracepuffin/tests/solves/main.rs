@@ -1,13 +1,15 @@
 //! The solve of the boundary against lattice.rs, in one process.
 //!
 //! lattice.rs answers whatever is not refused, and says which limit a run passes. It has no columns, no words and no lent
-//! memory: there the rules of the paper decide (`judge::solves`). Every slice is lent full of a pattern, between guards.
+//! memory: there the rules of the paper decide (`judge::solves`). Every slice is lent full of a pattern, between guards; and
+//! in `pages` every slice, read or written, stands against a page that may not be touched.
 //!
 //! BRACEPUFFIN_CASES sets the number of random cases as in the other tests.
 
 mod faults;
 mod lent;
 mod limits;
+mod pages;
 mod random;
 #[allow(dead_code)]
 #[path = "../shared/mod.rs"]

@@ -1,0 +1,2 @@
+-- That the contract allows one outcome.
+pub mod Unique
