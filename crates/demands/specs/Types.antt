@@ -1,22 +1,24 @@
 -- What the exported questions about types return, in the words of the rows that the columns hold: of every result that their contracts allow,
 -- as the check reads them, where it is not refused. Assumes nothing of cycles and of parents of Object.
 use mathlib.Core.Path.{_≡_, refl, sym, ap, ap₂, _∙_, subst}
-use mathlib.Core.Bool.{Bool, true, false, cond, true≢false}
-use mathlib.Core.Logic.{_⊎_, _↔_}
+use mathlib.Core.Bool.{Bool, true, false, cond, _||_, true≢false}
+use mathlib.Core.Logic.{_⊎_, inl, inr, ⊎-elim, _↔_}
 use mathlib.Core.Option.{some}
 use Prim.Native.Nat.{ℕ, _^_, _≤_, _<_}
 use native.Mathlib.Omega.{arith}
+use lib.Dec.{eqb}
 use lib.ListN.{length}
-use borrow.Author.Tests.{ltb-true}
+use borrow.Author.Tests.{ltb-true, leb-true, eqb-true, eq-eqb}
 use borrow.Fn.Kinds.{Dens, resT, endedOf}
 use denote.Triple.Clauses.{AtExit}
 use contract.Lifetimes.{Lfts}
-use Rattle.ty.specs.Types.{ArgType, Object, Array, isConcrete, isPrimitive}
+use Rattle.ty.specs.Types.{ArgType, Primitive, Object, Array, isConcrete, isPrimitive}
 use Rattle.ty.specs.Words.{typeOf, wordOf, legalWord, legalAtBase, legalType}
 use Rattle.ty.specs.Round.{legal-of-word, word-type}
 use Rattle.view.specs.Reach.{Good}
-use Rattle.lattice.specs.Lattice.{isAssignable, join}
-use Rattle.lattice.specs.References.{assignable-self, assignable-arrays}
+use Rattle.lattice.specs.Lattice.{World, assignableApart, isAssignable, join}
+use Rattle.lattice.specs.References.{assignable-self, assignable-arrays, same-primitives, primitive-arrays}
+use Rattle.lattice.specs.Jls.{widens, assignable-widens}
 use Rattle.lattice.specs.Legality.{legal-base}
 use Rattle.rows.specs.Rows.{cloneableName, serializableName}
 use Rattle.columns.specs.Given.{Given}
@@ -46,7 +48,8 @@ pub record JoinSays (t : Rows) (left right w : ℕ) : Type 0 where
   pub classes : (c d : ℕ) → typeOf left ≡ Object c → typeOf right ≡ Object d → (e : ℕ) × (typeOf w ≡ Object e) × LeastCommon t c d e
 
 -- 1 or 0; 1 for equal types; of two classes 0 exactly where the relation is No; of an array and a class 1 exactly for Object, Cloneable and
--- Serializable; of two arrays as of their elements, where these are not primitive
+-- Serializable; of two arrays as of their elements, where these are not primitive, and of two primitive ones where they are equal; of two
+-- primitives exactly where they are equal or JLS 5.1.2 widens the one to the other
 pub record AssignableSays (t : Rows) (value expected n : ℕ) : Type 0 where
   pub passes : (n ≡ 1) ↔ (isAssignable (rowsWorld t) (typeOf value) (typeOf expected) ≡ true)
   pub otherwise : (n ≡ 1 → ⊥) → n ≡ 0
@@ -56,6 +59,8 @@ pub record AssignableSays (t : Rows) (value expected n : ℕ) : Type 0 where
       → (n ≡ 1) ↔ (IsObject t c ⊎ ((placeOf cloneableName (t .names) ≡ some c) ⊎ (placeOf serializableName (t .names) ≡ some c)))
   pub arrays : (u v : ArgType) → typeOf value ≡ Array u → typeOf expected ≡ Array v → isPrimitive u ≡ false → isPrimitive v ≡ false
       → (n ≡ 1) ↔ (isAssignable (rowsWorld t) u v ≡ true)
+  pub primitive-arrays : (j k : ℕ) → typeOf value ≡ Array (Primitive j) → typeOf expected ≡ Array (Primitive k) → (n ≡ 1) ↔ (j ≡ k)
+  pub primitives : (j k : ℕ) → typeOf value ≡ Primitive j → typeOf expected ≡ Primitive k → (n ≡ 1) ↔ ((j ≡ k) ⊎ (widens j k ≡ true))
 
 -- ---- over a good table
 
@@ -63,6 +68,26 @@ pub record AssignableSays (t : Rows) (value expected n : ℕ) : Type 0 where
 class-in : (names c : ℕ) (t : ArgType) → t ≡ Object c → legalType names t ≡ true → c < names
 unfolding legalAtBase
 class-in names c t e h = ltb-true c names (legal-base names (Object c) (ap (legalType names) (sym e) ∙ h))
+
+-- a primitive of a legal type is one of the eleven categories
+category-in : (names k : ℕ) (t : ArgType) → t ≡ Primitive k → legalType names t ≡ true → k < 11
+unfolding legalAtBase
+category-in names k t e h = let l = leb-true k 10 (legal-base names (Primitive k) (ap (legalType names) (sym e) ∙ h)) in omega arith
+
+-- JLS 5.1.2, of the whole question about two primitives
+primitives-widen : (w : World) (j k : ℕ) → j < 11 → k < 11 → (isAssignable w (Primitive j) (Primitive k) ≡ true) ↔ ((j ≡ k) ⊎ (widens j k ≡ true))
+unfolding isAssignable assignableApart
+primitives-widen w j k hj hk =
+    let is = ap₂ (λ (a b : Bool). a || b) (same-primitives j k) (assignable-widens j k hj hk) in
+    (λ h. to (eqb j k) refl (sym is ∙ h), λ s. is ∙ ⊎-elim (λ e. ap (λ (b : Bool). b || widens j k) (eq-eqb j k e)) (λ h. or-right (eqb j k) (widens j k) h) s)
+  where
+    to : (b : Bool) → eqb j k ≡ b → (b || widens j k) ≡ true → (j ≡ k) ⊎ (widens j k ≡ true)
+    to true e h = inl (eqb-true j k e)
+    to false e h = inr h
+
+    or-right : (a b : Bool) → b ≡ true → (a || b) ≡ true
+    or-right true b h = refl
+    or-right false b h = h
 
 module _ (t : Rows) (g : Good (rowsView t)) (a b : ℕ) (la : a < 2 ^ 64) (lb : b < 2 ^ 64) (ha : legalWord (length (t .names)) a ≡ true) (hb : legalWord (length (t .names)) b ≡ true) where
   few : length (t .names) ≤ 1024
@@ -96,6 +121,9 @@ module _ (t : Rows) (g : Good (rowsView t)) (a b : ℕ) (la : a < 2 ^ 64) (lb : 
       same : (u v : ArgType) → typeOf a ≡ u → typeOf b ≡ v → isAssignable (rowsWorld t) (typeOf a) (typeOf b) ≡ isAssignable (rowsWorld t) u v
       same u v p q = ap₂ (isAssignable (rowsWorld t)) p q
 
+      widening : (j k : ℕ) → typeOf a ≡ Primitive j → typeOf b ≡ Primitive k → (isAssignable (rowsWorld t) (Primitive j) (Primitive k) ≡ true) ↔ ((j ≡ k) ⊎ (widens j k ≡ true))
+      widening j k p q = primitives-widen (rowsWorld t) j k (category-in (length (t .names)) j (typeOf a) p ta) (category-in (length (t .names)) k (typeOf b) q tb)
+
       go : (n : Bool) → isAssignable (rowsWorld t) (typeOf a) (typeOf b) ≡ n → AssignableSays t a b (cond n 1 0)
       go true e = record {
         passes = (λ z. e, λ z. refl);
@@ -107,6 +135,8 @@ module _ (t : Rows) (g : Good (rowsView t)) (a b : ℕ) (la : a < 2 ^ 64) (lb : 
         );
         array-class = λ u c p q. (λ z. assignable-rows-array t g u c .0 (sym (same (Array u) (Object c) p q) ∙ e), λ w. refl);
         arrays = λ u v p q i j. (λ z. sym (assignable-arrays (rowsWorld t) u v i j) ∙ sym (same (Array u) (Array v) p q) ∙ e, λ w. refl);
+        primitive-arrays = λ j k p q. (λ z. eqb-true j k (sym (primitive-arrays (rowsWorld t) j k) ∙ sym (same (Array (Primitive j)) (Array (Primitive k)) p q) ∙ e), λ w. refl);
+        primitives = λ j k p q. (λ z. widening j k p q .0 (sym (same (Primitive j) (Primitive k) p q) ∙ e), λ w. refl);
       }
       go false e = record {
         passes = (λ z. absurd (omega arith), λ z. absurd (true≢false (sym z ∙ e)));
@@ -120,6 +150,14 @@ module _ (t : Rows) (g : Good (rowsView t)) (a b : ℕ) (la : a < 2 ^ 64) (lb : 
         arrays = λ u v p q i j. (
           λ z. absurd (omega arith),
           λ w. absurd (true≢false (sym (same (Array u) (Array v) p q ∙ assignable-arrays (rowsWorld t) u v i j ∙ w) ∙ e)),
+        );
+        primitive-arrays = λ j k p q. (
+          λ z. absurd (omega arith),
+          λ w. absurd (true≢false (sym (same (Array (Primitive j)) (Array (Primitive k)) p q ∙ primitive-arrays (rowsWorld t) j k ∙ eq-eqb j k w) ∙ e)),
+        );
+        primitives = λ j k p q. (
+          λ z. absurd (omega arith),
+          λ w. absurd (true≢false (sym (same (Primitive j) (Primitive k) p q ∙ widening j k p q .1 w) ∙ e)),
         );
       }
 
