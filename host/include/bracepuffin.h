@@ -5,16 +5,16 @@
  * length in elements. The pointer is never null, not even for length 0; slices that are written overlap no other slice
  * of the call. A compiler that knows the attribute warns of a null.
  *
- * Each function over a table comes in two forms. Its own takes every slice, up to twenty arguments. The one with _of
- * takes a struct of them, a BpNames or a BpClasses, and there a null with length 0 is an empty slice, but for memory that
- * is written.
+ * Each function over a table comes in two forms. Its own takes every slice, a query up to twenty arguments, a solve
+ * fifty-one. The one with _of takes structs of them, a BpNames, a BpClasses or a BpProblem, and there a null with
+ * length 0 is an empty slice, but for memory that is written.
  *
  * Whoever includes this header refers to bp_abi_1, so a program must be linked with an archive whose structs and
  * parameters are those below: one with others exports another number, and the linker says so.
  *
  * A result begins with its refusal, 0 for none: test it before any other field. In a refused result every other field
  * is 0, but for offset and byte where the refusal has them. A refused call leaves all lent memory as it came, but for
- * the working slice of a query. The numbers below are those of BP_REFUSED_LENGTH and so on.
+ * the working slice of a query or of a solve. The numbers below are those of BP_REFUSED_LENGTH and so on.
  *
  * UTF-8 is standard UTF-8, well-formed by Unicode. The modified form of class files is refused where it differs, c0 80
  * for NUL and six bytes for a supplementary character: 10 in a table of names, 12 in a descriptor. Convert it first.
@@ -51,12 +51,12 @@ enum {
                                              inside its slice; a record of more than 254 parents, or whose parents are
                                              not inside their slice */
     BP_REFUSED_NAME_ORDER = 5,            /* a name not above the one before it */
-    BP_REFUSED_NUMBER = 6,                /* flags, a class or a parent of a record, or a class asked about, out of
-                                             range */
+    BP_REFUSED_NUMBER = 6,                /* flags, a class or a parent of a record, a class asked about, or a component
+                                             or kind of a problem's row, out of range */
     BP_REFUSED_TYPE = 7,                  /* no type word, or its class number not in the table */
     BP_REFUSED_ROOM = 8,                  /* more than 1,024 names, 24,576 name bytes, 4,096 distinct pairs of a class
-                                             and a parent, or 255 parameters */
-    BP_REFUSED_NO_OBJECT = 9,             /* a query over a table without the name java/lang/Object */
+                                             and a parent, or 255 parameters; of a problem, see BP_PROBLEM */
+    BP_REFUSED_NO_OBJECT = 9,             /* a query or a solve over a table without the name java/lang/Object */
     BP_REFUSED_UTF8 = 10,                 /* a name that is not well-formed UTF-8 */
     BP_REFUSED_UNEXPECTED_END = 11,       /* the descriptor ends too early: offset */
     BP_REFUSED_UNEXPECTED_BYTE = 12,      /* a byte that begins no type, or a name not well-formed from here on:
@@ -419,7 +419,7 @@ static inline BpAnswer bp_assignable_of(const BpClasses *t, uint64_t value, uint
     return bp_assignable(BP_CLASSES_(t), value, expected, work->words, BP_WORK);
 }
 
-/* answers has an entry for each variable. */
+/* answers has an entry for each variable; null has none, and is refused 22 where there are variables. */
 static inline BpSolved bp_solve_of(const BpClasses *t, const BpProblem *p, uint64_t *answers, BpBounds *out,
                                    BpWork *work) {
     static uint64_t none[1];
@@ -429,7 +429,7 @@ static inline BpSolved bp_solve_of(const BpClasses *t, const BpProblem *p, uint6
                     BP_WORDS_(p->flow_dst), p->flow_count, BP_WORDS_(p->up_src), p->up_count,
                     BP_WORDS_(p->up_dst), p->up_count, BP_WORDS_(p->read_arr), p->read_count,
                     BP_WORDS_(p->read_res), p->read_count, BP_WORDS_(p->write_arr), p->write_count,
-                    BP_WORDS_(p->write_val), p->write_count, answers ? answers : none, p->var_count,
+                    BP_WORDS_(p->write_val), p->write_count, answers ? answers : none, answers ? p->var_count : 0,
                     out->comp, BP_BOUNDS, out->kind, BP_BOUNDS, out->type, BP_BOUNDS, work->words, BP_WORK);
 }
 

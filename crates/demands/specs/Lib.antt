@@ -13,3 +13,5 @@ pub mod Types
 pub mod NotRefused
 pub mod CheckTable
 pub mod Solves
+pub mod Lines
+pub mod Refused

@@ -52,7 +52,7 @@ abbrev pub countsIn : BpSolved → Counts
 countsIn r = record { refusal = r .refusal; bounds = r .bounds; turns = r .turns }
 
 -- the contract, as the solve's laws have it
-solves-in : (κs : Lfts 25) (a : Dens κs bp-solve-kinds.ps) (r : resT bp-solve-kinds.r κs .Denot) (x : AtExit (endedOf 25 bp-solve-kinds.ps bp-solve-kinds.r) κs)
+pub solves-in : (κs : Lfts 25) (a : Dens κs bp-solve-kinds.ps) (r : resT bp-solve-kinds.r κs .Denot) (x : AtExit (endedOf 25 bp-solve-kinds.ps bp-solve-kinds.r) κs)
     → bp-solve-reads.Post κs a r x → SolvesIn (tableGiven κs a) (problemGiven κs a) (lentBefore κs a) (lentAfter κs x) (countsIn r)
 unfolding solvedTold
 solves-in κs a r x p = record { counts = ap countsIn (p .0); memory = p .1 }
