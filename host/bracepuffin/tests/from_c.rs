@@ -175,17 +175,47 @@ fn the_header_names_no_other_refusal() {
     assert_eq!(header.lines().filter(named).count(), REFUSALS.len());
 }
 
-/// What an example in C prints.
-fn printed(example: &str) -> String {
+/// What a program in C prints.
+fn prints(source: &Path, name: &str) -> String {
     let compiler = compiler(&["cc", "gcc", "x86_64-linux-gnu-gcc"], ARCH);
-    let program = Path::new(env!("CARGO_TARGET_TMPDIR")).join(example);
+    let program = Path::new(env!("CARGO_TARGET_TMPDIR")).join(name);
     let mut command = Command::new(compiler);
     command.arg("-std=c99").args(WARNINGS);
     command.arg("-I").arg(include());
-    command.arg(include().join(format!("../examples/{example}.c")));
+    command.arg(source);
     command.arg(env!("BRACEPUFFIN_ARCHIVE"));
     run(command.arg("-o").arg(&program));
     run(&mut emulated(&program))
+}
+
+/// What an example in C prints.
+fn printed(example: &str) -> String {
+    let source = include().join(format!("../examples/{example}.c"));
+    prints(&source, example)
+}
+
+const NO_ANSWERS: &str = r#"#include <stdio.h>
+#include "bracepuffin.h"
+static BpBounds final;
+static BpWork work;
+int main(void) {
+    static const uint8_t names[] = "java/lang/Object";
+    static const uint64_t at[] = {0}, len[] = {16}, var_comp[] = {0};
+    BpClasses table = {{names, 16, at, len, 1}, NULL, NULL, NULL, NULL, 0, NULL, 0};
+    BpProblem problem = {0};
+    printf("%d", (int)bp_solve_of(&table, &problem, NULL, &final, &work).refusal);
+    problem.components = 1, problem.var_comp = var_comp, problem.var_count = 1;
+    printf(" %d", (int)bp_solve_of(&table, &problem, NULL, &final, &work).refusal);
+    return 0;
+}
+"#;
+
+/// Null for the answers has room for no variable.
+#[test]
+fn null_for_the_answers() {
+    let source = Path::new(env!("CARGO_TARGET_TMPDIR")).join("no_answers.c");
+    fs::write(&source, NO_ANSWERS).expect("written");
+    assert_eq!(prints(&source, "no_answers"), "0 22");
 }
 
 #[test]
