@@ -24,14 +24,28 @@ use shared::{cases, columns, POISON};
 const GUARD: usize = 16;
 
 fn problem_columns(problem: &Columns) -> ProblemColumns<'_> {
-    let [bnd_comp, bnd_kind, bnd_type] = &problem.bounds;
-    let [flow_src, flow_dst] = &problem.flows;
-    let [up_src, up_dst] = &problem.upper_flows;
-    let [read_arr, read_res] = &problem.reads;
-    let [write_arr, write_val] = &problem.writes;
+    let bounds = problem.bounds.each_ref().map(Vec::as_slice);
+    let links = [
+        &problem.flows,
+        &problem.upper_flows,
+        &problem.reads,
+        &problem.writes,
+    ]
+    .map(|pair| pair.each_ref().map(Vec::as_slice));
+    columns_of(problem.components, &problem.variables, bounds, links)
+}
+
+/// The columns of a problem: bounds by component, kind and type; flows, upper flows, reads, writes by their two sides.
+fn columns_of<'a>(
+    components: u64,
+    var_comp: &'a [u64],
+    [bnd_comp, bnd_kind, bnd_type]: [&'a [u64]; 3],
+    [[flow_src, flow_dst], [up_src, up_dst], [read_arr, read_res], [write_arr, write_val]]: [[&'a [u64]; 2];
+        4],
+) -> ProblemColumns<'a> {
     ProblemColumns {
-        components: problem.components,
-        var_comp: &problem.variables,
+        components,
+        var_comp,
         bnd_comp,
         bnd_kind,
         bnd_type,

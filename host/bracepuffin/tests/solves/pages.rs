@@ -1,13 +1,13 @@
 //! Each slice of a solve, lent and read, against a page that may not be touched: one word before or behind it ends the process.
 
-use bracepuffin::slices::{self, ClassColumns, Columns, ProblemColumns, SolvedColumns};
+use bracepuffin::slices::{self, ClassColumns, Columns, SolvedColumns};
 use judge::class_cases::any_classes;
 use judge::classes::Classes;
 use judge::rng::Rng;
 use judge::solve_cases::{any_problem, damage_problem, faulty, telling_problems};
 use judge::solves;
 
-use crate::{cases, is_written, POISON};
+use crate::{cases, columns_of, is_written, POISON};
 
 const PAGE: usize = 65536;
 
@@ -135,11 +135,14 @@ fn agree(classes: &Classes, problem: &solves::Columns, fence: Fence) {
     ]
     .map(|pair| pair.each_ref().map(|column| words(column)));
     let variables = words(&problem.variables);
-    let [bnd_comp, bnd_kind, bnd_type] = bounds.each_ref().map(Fenced::read);
-    let [[flow_src, flow_dst], [up_src, up_dst], [read_arr, read_res], [write_arr, write_val]] =
+    let asked = columns_of(
+        problem.components,
+        variables.read(),
+        bounds.each_ref().map(Fenced::read),
         links
             .each_ref()
-            .map(|pair| pair.each_ref().map(Fenced::read));
+            .map(|pair| pair.each_ref().map(Fenced::read)),
+    );
     let [comp, kind, ty] = lent.columns;
     let mut slices =
         [lent.answers, comp, kind, ty, lent.work].map(|length| words(&vec![POISON; length]));
@@ -157,21 +160,7 @@ fn agree(classes: &Classes, problem: &solves::Columns, fence: Fence) {
             rec_len,
             parents,
         },
-        ProblemColumns {
-            components: problem.components,
-            var_comp: variables.read(),
-            bnd_comp,
-            bnd_kind,
-            bnd_type,
-            flow_src,
-            flow_dst,
-            up_src,
-            up_dst,
-            read_arr,
-            read_res,
-            write_arr,
-            write_val,
-        },
+        asked,
         SolvedColumns {
             answers,
             out_comp,
