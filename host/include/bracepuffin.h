@@ -19,7 +19,26 @@
  * UTF-8 is standard UTF-8, well-formed by Unicode. The modified form of class files is refused where it differs, c0 80
  * for NUL and six bytes for a supplementary character: 10 in a table of names, 12 in a descriptor. Convert it first.
  *
- * A question about a table takes up to 230 KB of stack, a solve 370 KB, a method reader 80 KB, the other calls less.
+ * What a call takes from the stack at most, in KB of 1,024 bytes (tools/stack measures it). Give a thread that much more.
+ *
+ * stack: begin
+ *     bp_read_type             21
+ *     bp_read_type_strict      21
+ *     bp_read_method           77
+ *     bp_read_method_strict    77
+ *     bp_write_type             1
+ *     bp_write_method           1
+ *     bp_lookup                 1
+ *     bp_check_table           34
+ *     bp_relation             163
+ *     bp_distance             163
+ *     bp_ancestors            163
+ *     bp_supertype            173
+ *     bp_cast                 163
+ *     bp_join                 226
+ *     bp_assignable           163
+ *     bp_solve                585
+ * stack: end
  *
  * A type is handed over as a word of 64 bits, see BP_PRIMITIVE, BP_CLASS and BP_ARRAY.
  */

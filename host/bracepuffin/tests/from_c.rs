@@ -1,33 +1,15 @@
-//! The header compiles as C and as C++ and names the refusals as `Refusal` does, and the worked calls from C print what
-//! the manual says. A machine without a compiler fails these tests: `.ci/host-env` installs one.
+//! The header compiles as C and as C++ and names the refusals as `Refusal` does; what the worked calls from C print is compared
+//! with the manual in `tests/manual`. A machine without a compiler fails these tests: `.ci/host-env` installs one.
 
-use std::env::consts::ARCH;
-use std::path::{Path, PathBuf};
+#[path = "shared/programs.rs"]
+mod programs;
+
+use std::fs;
+use std::path::Path;
 use std::process::Command;
-use std::{env, fs};
 
 use bracepuffin::{ffi, PARAMETERS, TYPE_BYTES, WORK};
-
-const PRINTED: &str = "\
-[Ljava/lang/String;: word 0101000000000001
-I: word 0000000000000005
-Ljava/util/List;: word 0001000000000002
-2 parameters, written: ([Ljava/lang/String;I)Ljava/util/List;
-bp_relation: 2
-bp_ancestors: 2 classes, words[0] 3
-bp_supertype: 0
-bp_distance: 1
-bp_cast: 0
-bp_assignable: 1
-bp_join: word 0002215000000000
-bp_check_table: refusal 6, part 2, row 1
-bp_read_method: refusal 13, offset 3
-I: word 0000000000000005
-bp_lookup: refusal 23, offset 0
-bp_distance: refusal 6, offset 0
-";
-
-const WARNINGS: [&str; 4] = ["-Wall", "-Wextra", "-Werror", "-pedantic"];
+use programs::{compiler, file, include, linking, prints, run, WARNINGS};
 
 /// The header's names of refusals with the numbers that the declarations in Rust have for them.
 macro_rules! refusals {
@@ -66,28 +48,6 @@ const MACROS: [(&str, u64); 14] = [
         0x0001_0000_0000_0007,
     ),
 ];
-
-fn include() -> PathBuf {
-    Path::new(env!("CARGO_MANIFEST_DIR")).join("../include")
-}
-
-/// The first of these compilers that is there and whose programs are for the machine, if one is named.
-fn compiler(names: &[&'static str], machine: &str) -> &'static str {
-    let fits = |name: &&'static str| {
-        let asked = Command::new(name).arg("-dumpmachine").output();
-        asked.is_ok_and(|said| said.status.success() && said.stdout.starts_with(machine.as_bytes()))
-    };
-    let found = names.iter().copied().find(fits);
-    found.unwrap_or_else(|| panic!("none of {names:?} is here, or none for {machine:?}"))
-}
-
-/// Runs a command, which must succeed; what it printed.
-fn run(command: &mut Command) -> String {
-    let output = command.output().expect("the command starts");
-    let errors = String::from_utf8_lossy(&output.stderr);
-    assert!(output.status.success(), "{command:?}\n{errors}");
-    String::from_utf8(output.stdout).expect("text")
-}
 
 /// A program that compiles where each of these expressions has its value.
 fn program(values: &[(&str, u64)]) -> String {
@@ -150,7 +110,7 @@ fn the_header_of_another_version_does_not_link() {
         let source = folder.join("main.c");
         let text = "#include \"bracepuffin.h\"\nint main(void) { return 0; }\n";
         fs::write(&source, text).expect("written");
-        let mut command = Command::new(compiler(&["cc", "gcc", "x86_64-linux-gnu-gcc"], ARCH));
+        let mut command = Command::new(linking());
         command.args(["-O2", "-I"]).arg(&folder).arg(&source);
         command.arg(env!("BRACEPUFFIN_ARCHIVE"));
         let output = command.arg("-o").arg(folder.join("main")).output();
@@ -175,25 +135,6 @@ fn the_header_names_no_other_refusal() {
     assert_eq!(header.lines().filter(named).count(), REFUSALS.len());
 }
 
-/// What a program in C prints.
-fn prints(source: &Path, name: &str) -> String {
-    let compiler = compiler(&["cc", "gcc", "x86_64-linux-gnu-gcc"], ARCH);
-    let program = Path::new(env!("CARGO_TARGET_TMPDIR")).join(name);
-    let mut command = Command::new(compiler);
-    command.arg("-std=c99").args(WARNINGS);
-    command.arg("-I").arg(include());
-    command.arg(source);
-    command.arg(env!("BRACEPUFFIN_ARCHIVE"));
-    run(command.arg("-o").arg(&program));
-    run(&mut emulated(&program))
-}
-
-/// What an example in C prints.
-fn printed(example: &str) -> String {
-    let source = include().join(format!("../examples/{example}.c"));
-    prints(&source, example)
-}
-
 const NO_ANSWERS: &str = r#"#include <stdio.h>
 #include "bracepuffin.h"
 static BpBounds final;
@@ -215,41 +156,26 @@ int main(void) {
 fn null_for_the_answers() {
     let source = Path::new(env!("CARGO_TARGET_TMPDIR")).join("no_answers.c");
     fs::write(&source, NO_ANSWERS).expect("written");
-    assert_eq!(prints(&source, "no_answers"), "0 22");
+    assert_eq!(prints(&source, "no_answers", &["-std=c99"]), "0 22");
 }
 
+/// The program of the manual ends well, with a compiler's warnings as errors, also as C11.
 #[test]
 fn the_worked_call() {
-    assert_eq!(printed("call"), PRINTED);
+    let call = file("host/examples/call.c");
+    let printed = prints(&call, "call", &["-std=c99"]);
+    assert!(printed.starts_with("[La/TrussA; is 0101000000000001\n"));
+    assert_eq!(printed, prints(&call, "call11", &["-std=c11", "-O2"]));
 }
 
-/// What the manual shows of the worked problem, line by line.
+/// It ends with the worked problem.
 #[test]
 fn the_worked_solve() {
-    let manual = include().join("../../docs/MANUAL.md");
-    let manual = fs::read_to_string(manual).expect("the manual");
-    let printed = printed("solve");
-    assert_eq!(
-        printed.lines().next(),
-        Some("refusal 0, 5 bounds after 3 turns")
-    );
-    let shown: String = printed
-        .lines()
-        .map(|line| format!("    {line}\n"))
-        .collect();
-    assert!(manual.contains(&shown), "{printed}");
-}
-
-/// Through the emulator where cargo runs the tests through one.
-fn emulated(program: &Path) -> Command {
-    let runner = env::var("CARGO_TARGET_X86_64_UNKNOWN_LINUX_GNU_RUNNER").unwrap_or_default();
-    let mut words = runner.split_whitespace();
-    match words.next() {
-        Some(emulator) => {
-            let mut command = Command::new(emulator);
-            command.args(words).arg(program);
-            command
-        }
-        None => Command::new(program),
-    }
+    let printed = prints(&file("host/examples/call.c"), "call_solve", &["-std=c99"]);
+    let (_, solve) = printed.split_once("variable 0: ").expect("a solve");
+    let mut lines = solve.lines();
+    assert_eq!(lines.next(), Some("0001000000000000"));
+    assert_eq!(lines.next(), Some("variable 1: 0001000000000000"));
+    assert_eq!(lines.next(), Some("5 bounds after 3 turns"));
+    assert_eq!(lines.count(), 5);
 }

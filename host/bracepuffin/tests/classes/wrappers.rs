@@ -11,7 +11,6 @@ use judge::rng::Rng;
 
 use crate::cases;
 
-/// The example of the manual.
 #[test]
 fn a_small_program() -> Result<(), TableError> {
     let mut classes = ClassTableBuilder::new();

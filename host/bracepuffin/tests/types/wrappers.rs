@@ -13,7 +13,6 @@ fn table() -> ClassTable {
     classes.build().expect("a table")
 }
 
-/// The example of the manual.
 #[test]
 fn joins_and_assignability() {
     let table = table();
