@@ -14,7 +14,7 @@
 
 #include "bracepuffin.h"
 
-enum { STACK = 16 << 20, NAMES = 1024, PAIRS = 4092, PAINT = 0xa5 };
+enum { STACK = 2 << 20, NAMES = 1024, PAIRS = 4092, PAINT = 0xa5 };
 
 /* ---- the largest table: 1,023 names that are not ASCII and java/lang/Object, four parents a class. With cycles, classes 2
    to 65 are above each other, and 0 and 1 below them, so that no order of the classes settles a supertype. */

@@ -4,6 +4,8 @@
 #[path = "shared/programs.rs"]
 mod programs;
 
+use std::env::consts::ARCH;
+
 use programs::{file, prints, text};
 
 /// What stands between two lines of a file.
@@ -68,8 +70,12 @@ fn the_header_and_the_manual_say_the_same() {
     );
 }
 
+/// What is stated is of the archive for x86-64.
 #[test]
 fn no_call_takes_more() {
+    if ARCH != "x86_64" {
+        return;
+    }
     let stated = stated();
     let options = ["-O2", "-pthread", "-Wl,-z,now"];
     let printed = prints(&file("host/examples/stack.c"), "stack", &options);

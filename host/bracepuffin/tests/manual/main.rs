@@ -9,6 +9,7 @@ mod short;
 
 use std::cell::RefCell;
 use std::collections::BTreeMap;
+use std::env::consts::ARCH;
 use std::error::Error;
 use std::fmt::{Arguments, Write};
 
@@ -100,8 +101,12 @@ fn all_that_is_printed_is_shown() {
     }
 }
 
+/// `typeline` is for x86-64: tests that are built for another machine cannot run it.
 #[test]
 fn frames_say_what_is_shown() {
+    if ARCH != "x86_64" {
+        return;
+    }
     let mut input = String::new();
     let mut compared = 0;
     for block in DOCUMENTS.iter().flat_map(|document| blocks(document)) {
