@@ -6,7 +6,6 @@ use denote.Ref.{now}
 use contract.Lifetimes.{Lfts}
 use Rattle.ancestry.specs.Spread.{spread-unique}
 use Rattle.ancestry.specs.Closure.{rows-unique}
-use Rattle.ancestry.specs.Levels.{distances-unique}
 use Rattle.ancestry.proofs.spread.Reads as spread-reads
 use Rattle.ancestry.proofs.spread.Kinds as spread-kinds
 use Rattle.ancestry.proofs.row_of.Reads as row-of-reads
@@ -15,8 +14,6 @@ use Rattle.ancestry.proofs.is_in.Reads as is-in-reads
 use Rattle.ancestry.proofs.is_in.Kinds as is-in-kinds
 use Rattle.ancestry.proofs.fill.Reads as fill-reads
 use Rattle.ancestry.proofs.fill.Kinds as fill-kinds
-use Rattle.ancestry.proofs.distances.Reads as distances-reads
-use Rattle.ancestry.proofs.distances.Kinds as distances-kinds
 
 pub spread-one : (κs : Lfts 2) (a : Dens κs spread-kinds.ps) (r₁ r₂ : resT spread-kinds.r κs .Denot) (x₁ x₂ : AtExit (endedOf 2 spread-kinds.ps spread-kinds.r) κs)
     → spread-reads.Post κs a r₁ x₁ → spread-reads.Post κs a r₂ x₂ → r₁ ≡ r₂
@@ -34,7 +31,3 @@ is-in-one κs a r₁ r₂ x₁ x₂ p q = p ∙ sym q
 pub fill-one : (κs : Lfts 3) (a : Dens κs fill-kinds.ps) (r₁ r₂ : resT fill-kinds.r κs .Denot) (x₁ x₂ : AtExit (endedOf 3 fill-kinds.ps fill-kinds.r) κs)
     → fill-reads.Post κs a r₁ x₁ → fill-reads.Post κs a r₂ x₂ → now (x₁ .1 .1 .1 .1 .0) ≡ now (x₂ .1 .1 .1 .1 .0)
 fill-one κs a r₁ r₂ x₁ x₂ p q = rows-unique _ _ _ _ p q
-
-pub distances-one : (κs : Lfts 3) (a : Dens κs distances-kinds.ps) (r₁ r₂ : resT distances-kinds.r κs .Denot) (x₁ x₂ : AtExit (endedOf 3 distances-kinds.ps distances-kinds.r) κs)
-    → distances-reads.Post κs a r₁ x₁ → distances-reads.Post κs a r₂ x₂ → now (x₁ .1 .1 .1 .1 .0) ≡ now (x₂ .1 .1 .1 .1 .0)
-distances-one κs a r₁ r₂ x₁ x₂ p q = distances-unique _ _ _ _ p q

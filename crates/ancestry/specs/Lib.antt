@@ -2,4 +2,3 @@
 pub mod Spread
 pub mod Rows
 pub mod Closure
-pub mod Levels

@@ -9,13 +9,12 @@ ghost use mathlib.Core.Path.{_≡_};
 ghost use mathlib.Core.Bool.{true};
 ghost use Prim.Native.Nat.{ℕ, _≤_, _<_};
 ghost use lib.ListN.{length, replicate};
-ghost use Rattle.sets.specs.Sets.{at, member, members};
-ghost use Rattle.view.specs.View.{reach, far};
+ghost use Rattle.sets.specs.Sets.{member};
+ghost use Rattle.view.specs.View.{reach};
 ghost use Rattle.tables.specs.Table.{namesRoom, viewOf};
 ghost use Rattle.ancestry.specs.Spread.{Spread};
 ghost use Rattle.ancestry.specs.Rows.{rowsRoom, row, Joined, JoinedIf, Through};
 ghost use Rattle.ancestry.specs.Closure.{Rows, Bases};
-ghost use Rattle.ancestry.specs.Levels.{written, Distances};
 
 // How many words the rows have.
 pub const ROWS: usize = 16384;
@@ -123,39 +122,5 @@ pub fn fill(pairs: &[u64], marks: &[u64], t: Tables, s: Set, rows: &mut [u64])
         through(rows, t.names, k);
         left = left.without(k);
         k = left.lowest();
-    }
-}
-
-// Writes k for each class of a set.
-fn write_level(out: &mut [u64], front: Set, k: u64)
-    requires { ⌜ length (now out) ≡ namesRoom ⌝ }
-    ensures { λ _. ⌜ now (out .exit) ≡ written (now (out .entry)) k (members (at (front .words)) 0 1024) ⌝ }
-{
-    let mut left = front;
-    let mut c = left.lowest();
-    while c < NAMES {
-        out[c as usize] = k;
-        left = left.without(c);
-        c = left.lowest();
-    }
-}
-
-// How far each class is from x, in one walk; `out` says far of each before.
-pub fn distances(pairs: &[u64], marks: &[u64], t: Tables, x: u64, out: &mut [u64])
-    requires { ⌜ (t .names ≤ namesRoom) × (t .object < t .names) × (x < t .names) × (now out ≡ replicate namesRoom far) ⌝ }
-    ensures { λ _. ⌜ Distances (viewOf (now (pairs .entry)) (now (marks .entry)) t) x (now (out .exit)) ⌝ }
-{
-    let none = Set::empty();
-    let mut seen = none.with(x);
-    let mut front = seen;
-    let mut k: u64 = 0;
-    let mut c = front.lowest();
-    while c < NAMES {
-        write_level(out, front, k);
-        let next = expand(pairs, marks, t, seen, front);
-        front = next.difference(seen);
-        seen = next;
-        k += 1;
-        c = front.lowest();
     }
 }

@@ -11,7 +11,7 @@ ghost use mathlib.Core.Bool.{cond};
 ghost use Prim.Native.Nat.{_-_, _^_, _≤_, _<_};
 ghost use lib.ListN.{length};
 ghost use Rattle.view.specs.View.{relation, relationNumber, supertype, numberOf, cast};
-ghost use Rattle.tables.specs.Table.{namesRoom, marksRoom, viewOf};
+ghost use Rattle.tables.specs.Table.{namesRoom, marksRoom, viewOf, pairsRoom};
 ghost use Rattle.hexline.specs.Hex.{numberAt};
 ghost use Rattle.framestate.specs.declared.Said.the-variants.{Related, Supertyped, Castable};
 ghost use Rattle.framestate.specs.FrameState.{framed, askNumbers};
@@ -81,7 +81,7 @@ pub fn relation_frame(body: &[u8], pairs: &[u64], marks: &[u64], n: Numbers) -> 
 
 // 0c: the least common supertype.
 pub fn supertype_frame(body: &[u8], pairs: &[u64], marks: &[u64], n: Numbers) -> Framed
-    requires { ⌜ (length (now body) ≡ 4) × (n .tables .names ≤ namesRoom) × ((n .tables .object ≡ 2 ^ 64 - 1 → ⊥) → n .tables .object < n .tables .names) ⌝ }
+    requires { ⌜ (length (now body) ≡ 4) × (n .tables .names ≤ namesRoom) × ((n .tables .object ≡ 2 ^ 64 - 1 → ⊥) → n .tables .object < n .tables .names) × (length (now marks) ≡ marksRoom) × (length (now pairs) ≡ pairsRoom) ⌝ }
     ensures { λ r. ⌜ r ≡ asked (askRefusal (n .tables) (numberAt 0 (now (body .entry))) (numberAt 2 (now (body .entry)))) (Supertyped (numberOf (supertype (viewOf (now (pairs .entry)) (now (marks .entry)) (n .tables)) (numberAt 0 (now (body .entry))) (numberAt 2 (now (body .entry)))))) n ⌝ }
 {
     let a = number_at(body, 0);

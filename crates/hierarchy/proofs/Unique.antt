@@ -19,8 +19,6 @@ use Rattle.hierarchy.proofs.cast.Reads as cast-reads
 use Rattle.hierarchy.proofs.cast.Kinds as cast-kinds
 use Rattle.hierarchy.proofs.reaches.Reads as reaches-reads
 use Rattle.hierarchy.proofs.reaches.Kinds as reaches-kinds
-use Rattle.hierarchy.proofs.distance_or_far.Reads as distance-or-far-reads
-use Rattle.hierarchy.proofs.distance_or_far.Kinds as distance-or-far-kinds
 
 pub with-parents-one : (κs : Lfts 2) (a : Dens κs with-parents-kinds.ps) (r₁ r₂ : resT with-parents-kinds.r κs .Denot) (x₁ x₂ : AtExit (endedOf 2 with-parents-kinds.ps with-parents-kinds.r) κs)
     → with-parents-reads.Post κs a r₁ x₁ → with-parents-reads.Post κs a r₂ x₂ → r₁ ≡ r₂
@@ -53,7 +51,3 @@ cast-one κs a r₁ r₂ x₁ x₂ p q = p ∙ sym q
 pub reaches-one : (κs : Lfts 2) (a : Dens κs reaches-kinds.ps) (r₁ r₂ : resT reaches-kinds.r κs .Denot) (x₁ x₂ : AtExit (endedOf 2 reaches-kinds.ps reaches-kinds.r) κs)
     → reaches-reads.Post κs a r₁ x₁ → reaches-reads.Post κs a r₂ x₂ → r₁ ≡ r₂
 reaches-one κs a r₁ r₂ x₁ x₂ p q = p ∙ sym q
-
-pub distance-or-far-one : (κs : Lfts 2) (a : Dens κs distance-or-far-kinds.ps) (r₁ r₂ : resT distance-or-far-kinds.r κs .Denot) (x₁ x₂ : AtExit (endedOf 2 distance-or-far-kinds.ps distance-or-far-kinds.r) κs)
-    → distance-or-far-reads.Post κs a r₁ x₁ → distance-or-far-reads.Post κs a r₂ x₂ → r₁ ≡ r₂
-distance-or-far-one κs a r₁ r₂ x₁ x₂ p q = p .0 ∙ sym (q .0)

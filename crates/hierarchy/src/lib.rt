@@ -5,12 +5,12 @@ use tables::Tables;
 use view::Relation;
 ghost use mathlib.Core.Path.{_≡_};
 ghost use mathlib.Core.Bool.{cond};
-ghost use Prim.Native.Nat.{_≤_, _<_};
+ghost use Prim.Native.Nat.{_<_};
 ghost use lib.Dec.{ltb};
 ghost use lib.ListN.{length};
 ghost use Rattle.sets.specs.Sets.{at, member, members, insert};
-ghost use Rattle.view.specs.View.{insertAll, withParents, reached, reach, ancestors, distance, ancestor, relation, cast, far, distanceOr, numberOf};
-ghost use Rattle.tables.specs.Table.{namesRoom, marksRoom, mark, viewOf};
+ghost use Rattle.view.specs.View.{insertAll, withParents, reached, reach, ancestors, distance, ancestor, relation, cast, numberOf};
+ghost use Rattle.tables.specs.Table.{marksRoom, mark, viewOf};
 ghost use Rattle.hierarchy.specs.Walked.{castMarked, Walked};
 
 // usize::MAX / 4, the distance of an Object that is not reached.
@@ -135,18 +135,6 @@ pub fn distance(pairs: &[u64], marks: &[u64], t: Tables, value: u64, expected: u
         return FAR;
     }
     u64::MAX
-}
-
-// The distance; far where there is none.
-pub fn distance_or_far(pairs: &[u64], marks: &[u64], t: Tables, x: u64, y: u64) -> u64
-    requires { ⌜ t .names ≤ namesRoom ⌝ }
-    ensures { λ r. ⌜ (r ≡ distanceOr (distance (viewOf (now (pairs .entry)) (now (marks .entry)) t) x y)) × (r ≤ far) ⌝ }
-{
-    let w = walk_to(pairs, marks, t, x, y);
-    if w.found {
-        return w.level;
-    }
-    FAR
 }
 
 // Whether `expected` is an ancestor: recorded_ancestor.

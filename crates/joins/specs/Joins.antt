@@ -9,6 +9,7 @@ use Rattle.ty.specs.Types.{isKnown, isArray}
 use Rattle.ty.specs.Words.{legalWord, typeOf}
 use Rattle.tables.specs.declared.Tables.{Tables}
 use Rattle.tables.specs.Table.{namesRoom}
+use Rattle.prepared.specs.Prepared.{Prepared}
 
 -- the payload of a list with c before it
 unfoldable pub withFirst : ℕ → ℕ → ℕ
@@ -18,13 +19,13 @@ withFirst c load = (load / 2 ^ 44 + 1) * 2 ^ 44 + c * 2 ^ 40 + load % 2 ^ 44 / 1
 abbrev pub Fits : Tables → Type 0
 Fits t = (t .names ≤ namesRoom) × (t .object < t .names)
 
--- and both words are types over its names
-abbrev pub Joinable : Tables → ℕ → ℕ → Type 0
-Joinable t left right = Fits t × (legalWord (t .names) left ≡ true) × (legalWord (t .names) right ≡ true)
+-- and both words are types over its names; what rows there are is right
+abbrev pub Joinable : List ℕ → List ℕ → Tables → ℕ → ℕ → Type 0
+Joinable pairs marks t left right = Fits t × (legalWord (t .names) left ≡ true) × (legalWord (t .names) right ≡ true) × Prepared pairs marks t
 
 -- and they are not the same
-abbrev pub Apart : Tables → ℕ → ℕ → Type 0
-Apart t left right = Joinable t left right × (left ≡ right → ⊥)
+abbrev pub Apart : List ℕ → List ℕ → Tables → ℕ → ℕ → Type 0
+Apart pairs marks t left right = Joinable pairs marks t left right × (left ≡ right → ⊥)
 
 -- the type of the word is no Unknown
 abbrev pub Known : ℕ → Type 0

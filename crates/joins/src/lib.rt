@@ -12,6 +12,7 @@ ghost use mathlib.Core.Bool.{true, false, cond};
 ghost use mathlib.Core.List.{[], _∷_, map};
 ghost use Prim.Native.Nat.{_*_, _/_, _^_, _≤_, _<_};
 ghost use Rattle.tables.specs.Table.{namesRoom};
+ghost use Rattle.prepared.specs.Prepared.{Prepared};
 ghost use Rattle.ty.specs.Types.{Object, categories, isKnown};
 ghost use Rattle.ty.specs.Words.{Legal, typeOf, wordOf, listOf};
 ghost use Rattle.ty.specs.Answers.{maybeWord};
@@ -277,7 +278,7 @@ fn join_array(object: u64, array: TypeWord, other: TypeWord) -> TypeWord
 
 // Two classes: their least common supertype.
 fn join_classes(pairs: &[u64], marks: &[u64], t: Tables, left: u64, right: u64) -> TypeWord
-    requires { ⌜ Fits t × (left < t .names) × (right < t .names) ⌝ }
+    requires { ⌜ Fits t × (left < t .names) × (right < t .names) × Prepared (now pairs) (now marks) t ⌝ }
     ensures { λ r. ⌜ r .word ≡ wordOf (joinApart (worldOf (now (pairs .entry)) (now (marks .entry)) t) (Object left) (Object right)) ⌝ }
 {
     let c = supertype::supertype(pairs, marks, t, left, right);
@@ -286,7 +287,7 @@ fn join_classes(pairs: &[u64], marks: &[u64], t: Tables, left: u64, right: u64) 
 
 // Two known types that are no arrays.
 fn join_bases(pairs: &[u64], marks: &[u64], t: Tables, left: TypeWord, right: TypeWord) -> TypeWord
-    requires { ⌜ Apart t (left .word) (right .word) × Base (left .word) × Base (right .word) ⌝ }
+    requires { ⌜ Apart (now pairs) (now marks) t (left .word) (right .word) × Base (left .word) × Base (right .word) ⌝ }
     ensures { λ r. ⌜ r .word ≡ wordOf (join (worldOf (now (pairs .entry)) (now (marks .entry)) t) (typeOf (left .word)) (typeOf (right .word))) ⌝ }
 {
     if left.is_primitive() {
@@ -303,7 +304,7 @@ fn join_bases(pairs: &[u64], marks: &[u64], t: Tables, left: TypeWord, right: Ty
 
 // Two known types, of which one at most is an array.
 fn join_knowns(pairs: &[u64], marks: &[u64], t: Tables, left: TypeWord, right: TypeWord) -> TypeWord
-    requires { ⌜ Apart t (left .word) (right .word) × Known (left .word) × Known (right .word) × (bothArrays (left .word) (right .word) ≡ false) ⌝ }
+    requires { ⌜ Apart (now pairs) (now marks) t (left .word) (right .word) × Known (left .word) × Known (right .word) × (bothArrays (left .word) (right .word) ≡ false) ⌝ }
     ensures { λ r. ⌜ r .word ≡ wordOf (join (worldOf (now (pairs .entry)) (now (marks .entry)) t) (typeOf (left .word)) (typeOf (right .word))) ⌝ }
 {
     if left.is_array() {
@@ -317,7 +318,7 @@ fn join_knowns(pairs: &[u64], marks: &[u64], t: Tables, left: TypeWord, right: T
 
 // Two types that are not equal, of which one at most is an array.
 fn join_apart(pairs: &[u64], marks: &[u64], t: Tables, left: TypeWord, right: TypeWord) -> TypeWord
-    requires { ⌜ Apart t (left .word) (right .word) × (bothArrays (left .word) (right .word) ≡ false) ⌝ }
+    requires { ⌜ Apart (now pairs) (now marks) t (left .word) (right .word) × (bothArrays (left .word) (right .word) ≡ false) ⌝ }
     ensures { λ r. ⌜ r .word ≡ wordOf (join (worldOf (now (pairs .entry)) (now (marks .entry)) t) (typeOf (left .word)) (typeOf (right .word))) ⌝ }
 {
     if left.is_known() {
@@ -343,7 +344,7 @@ fn both_arrays(left: TypeWord, right: TypeWord) -> bool
 
 // The join of two types over the class table.
 pub fn join(pairs: &[u64], marks: &[u64], t: Tables, left: TypeWord, right: TypeWord) -> TypeWord
-    requires { ⌜ Joinable t (left .word) (right .word) ⌝ }
+    requires { ⌜ Joinable (now pairs) (now marks) t (left .word) (right .word) ⌝ }
     ensures { λ r. ⌜ r .word ≡ wordOf (join (worldOf (now (pairs .entry)) (now (marks .entry)) t) (typeOf (left .word)) (typeOf (right .word))) ⌝ }
 {
     if left.word == right.word {
@@ -357,7 +358,7 @@ pub fn join(pairs: &[u64], marks: &[u64], t: Tables, left: TypeWord, right: Type
 
 // Two arrays that are not equal: Object where an element is a primitive, else the array of the elements' join.
 fn join_arrays(pairs: &[u64], marks: &[u64], t: Tables, left: TypeWord, right: TypeWord) -> TypeWord
-    requires { ⌜ Apart t (left .word) (right .word) × (2 ^ 56 ≤ left .word) × (2 ^ 56 ≤ right .word) ⌝ }
+    requires { ⌜ Apart (now pairs) (now marks) t (left .word) (right .word) × (2 ^ 56 ≤ left .word) × (2 ^ 56 ≤ right .word) ⌝ }
     ensures { λ r. ⌜ r .word ≡ wordOf (join (worldOf (now (pairs .entry)) (now (marks .entry)) t) (typeOf (left .word)) (typeOf (right .word))) ⌝ }
 {
     let a = TypeWord {
@@ -379,9 +380,9 @@ fn join_arrays(pairs: &[u64], marks: &[u64], t: Tables, left: TypeWord, right: T
 }
 
 // The join of a list of types, from the first on; of none there is none. The order matters, and the Rust sorts its list: here a list
-// comes as the set that it is, in order (specs/Sort: then the sort changes nothing).
+// comes as the set that it is, in order (specs/JoinAll of lattice: then the sort changes nothing).
 pub fn join_all(pairs: &[u64], marks: &[u64], t: Tables, words: &[u64]) -> MaybeType
-    requires { ⌜ Fits t × AllLegal t (now words) × Ascend (map typeOf (now words)) ⌝ }
+    requires { ⌜ Fits t × AllLegal t (now words) × Ascend (map typeOf (now words)) × Prepared (now pairs) (now marks) t ⌝ }
     ensures { λ r. ⌜ r ≡ maybeWord (joinAll (worldOf (now (pairs .entry)) (now (marks .entry)) t) (map typeOf (now (words .entry)))) ⌝ }
 {
     if words.len() == 0 {

@@ -15,7 +15,7 @@ ghost use Prim.Native.Nat.{ℕ, _≤_, _<_};
 ghost use lib.ListN.{length, replicate};
 ghost use lib.Seq.{paste};
 ghost use Rattle.sets.specs.Sets.{member};
-ghost use Rattle.view.specs.View.{reached, relation};
+ghost use Rattle.view.specs.View.{reached, reach, relation};
 ghost use Rattle.tables.specs.Table.{namesRoom, pairsRoom, marksRoom, mark, viewOf};
 ghost use Rattle.prepared.specs.Prepared.{tableRoom, hasRow, Prepared, Laid};
 
@@ -47,6 +47,17 @@ pub fn reached_from(pairs: &[u64], marks: &[u64], t: Tables, x: u64) -> Set
         return row_of(&pairs[4096..20480], x);
     }
     hierarchy::reached(pairs, marks, t, x)
+}
+
+// Whether y is reached from x.
+pub fn reaches(pairs: &[u64], marks: &[u64], t: Tables, x: u64, y: u64) -> bool
+    requires { ⌜ Prepared (now pairs) (now marks) t × (y < namesRoom) ⌝ }
+    ensures { λ r. ⌜ r ≡ reach (viewOf (now (pairs .entry)) (now (marks .entry)) t) x y ⌝ }
+{
+    if has_row(pairs, t, x) {
+        return is_in(&pairs[4096..20480], x, y);
+    }
+    hierarchy::reaches(pairs, marks, t, x, y)
 }
 
 // The classes that are recorded.

@@ -28,7 +28,7 @@ pub fn produced_type(
     exact: &[u64],
     lower: &[u64],
 ) -> MaybeType
-    requires { ⌜ Fits t × Bounds t (now exact) × Bounds t (now lower) ⌝ }
+    requires { ⌜ Classed (now pairs) (now marks) t × Bounds t (now exact) × Bounds t (now lower) ⌝ }
     ensures { λ r. ⌜ r ≡ maybeWord (producedType (worldOf (now (pairs .entry)) (now (marks .entry)) t) (stateIn (now (exact .entry)) (now (lower .entry)) [] [] [])) ⌝ }
 {
     if exact.len() == 0 {

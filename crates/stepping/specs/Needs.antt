@@ -73,8 +73,8 @@ module _ (kind : ℕ) (body last pairs marks rows : List ℕ) (n : Numbers) (s :
   pub relation-needs : kind ≡ 11 → (length body ≡ 4) × (length marks ≡ marksRoom)
   relation-needs e = (pair-size 11 e (omega arith) (λ z. omega arith), s .ready .sized .marks)
 
-  pub supertype-needs : kind ≡ 12 → (length body ≡ 4) × (n .tables .names ≤ namesRoom) × ((n .tables .object ≡ 2 ^ 64 - 1 → ⊥) → n .tables .object < n .tables .names)
-  supertype-needs e = (pair-size 12 e (omega arith) (λ z. omega arith), s .ready .sound .good .few, s .ready .sound .known)
+  pub supertype-needs : kind ≡ 12 → (length body ≡ 4) × (n .tables .names ≤ namesRoom) × ((n .tables .object ≡ 2 ^ 64 - 1 → ⊥) → n .tables .object < n .tables .names) × (length marks ≡ marksRoom) × (length pairs ≡ pairsRoom)
+  supertype-needs e = (pair-size 12 e (omega arith) (λ z. omega arith), s .ready .sound .good .few, s .ready .sound .known, s .ready .sized .marks, s .ready .sized .pairs)
 
   pub cast-needs : kind ≡ 13 → (length body ≡ 4) × (length marks ≡ marksRoom)
   cast-needs e = (pair-size 13 e (omega arith) (λ z. omega arith), s .ready .sized .marks)

@@ -1,4 +1,3 @@
 -- What the proofs of this crate's functions share.
 pub mod Steps
-pub mod Candidates
 pub mod Unique

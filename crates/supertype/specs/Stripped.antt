@@ -78,18 +78,17 @@ module _ (v : View) (g : Good v) (all above : List ℕ) (inside : (c : ℕ) → 
   pub above-rows : (rows : List ℕ) → Rows v above rows → (c : ℕ) → member all c ≡ true → row rows c ≡ reached v c
   above-rows rows q c m = q .has c (sp .has c c m (reach-refl v g c (inside c m)))
 
--- ---- the least of a set with more than one class is a class
+-- ---- where a search begins
 
-pub least-lt : (s rest : List ℕ) (b c : ℕ) → length s ≡ 16 → b ≡ first (at s) 1024 → rest ≡ remove s b → c ≡ first (at rest) 1024 → (c ≡ 1024 → ⊥) → b < 1024
-least-lt s rest b c l e q f n = go (decLt b 1024)
-  where
-    go : Dec (b < 1024) → b < 1024
-    go (yes h) = h
-    go (no h) =
-        let u = first-le (at rest) 1024 in
-        let w = first-le (at s) 1024 in
-        let k = subst (λ (x : ℕ). member rest x ≡ true) (sym f) (lowest-member rest 1024 (let z : (first (at rest) 1024 ≡ 1024 → ⊥) = λ z. n (f ∙ z) in lower z)) in
-        absurd (true≢false (sym (remove-only s b c (subst (λ (x : List ℕ). member x c ≡ true) q k) .1) ∙ lowest-none s l (let z : first (at s) 1024 ≡ 1024 = omega arith in z) c))
-      where
-        lower : (first (at rest) 1024 ≡ 1024 → ⊥) → first (at rest) 1024 < 1024
-        lower z = ⊎-elim (λ e. absurd (z e)) (λ h. h) (eq-or-lt-of-le (first-le (at rest) 1024))
+-- d is one of a set, or no class where the set is empty
+abbrev pub Starts : ℕ → List ℕ → Type 0
+Starts d s = (d < 1024 → member s d ≡ true) × (1024 ≤ d → first (at s) 1024 ≡ 1024)
+
+pub starts-least : (s : List ℕ) (d : ℕ) → d ≡ first (at s) 1024 → Starts d s
+starts-least s d e = (
+  λ h. subst (λ (x : ℕ). member s x ≡ true) (sym e) (lowest-member s 1024 (omega arith)),
+  λ h. let l = first-le (at s) 1024 in let q : first (at s) 1024 ≡ 1024 = omega arith in q,
+)
+
+pub starts-with : (s : List ℕ) (d : ℕ) → member s d ≡ true → d < 1024 → Starts d s
+starts-with s d m h = (λ l. m, λ l. absurd (omega arith))

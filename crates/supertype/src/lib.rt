@@ -1,36 +1,32 @@
 // The least common supertype, from hierarchy.rs, over the class tables as `hierarchy` reads them.
 use ancestry::ROWS;
-use ancestry::distances;
 use ancestry::fill;
 use ancestry::is_in;
 use ancestry::row_of;
 use ancestry::spread;
-use hierarchy::ancestors;
-use hierarchy::distance_or_far;
 use hierarchy::expand;
-use hierarchy::reached;
-use hierarchy::reaches;
+use prepared::TABLE;
+use prepared::reached_from;
+use prepared::reaches;
 use sets::Set;
 use tables::Tables;
 ghost use mathlib.Core.Path.{_≡_};
 ghost use mathlib.Core.Bool.{true, cond};
-ghost use Prim.Native.Nat.{ℕ, _≤_, _<_, max};
+ghost use Prim.Native.Nat.{ℕ, _≤_, _<_};
 ghost use lib.ListN.{length};
-ghost use Rattle.sets.specs.Sets.{at, member, members, remove};
-ghost use Rattle.view.specs.View.{reached, supertype, numberOf};
-ghost use Rattle.view.specs.Nearest.{greater, sum};
+ghost use Rattle.sets.specs.Sets.{at, member, members, remove, intersect};
+ghost use Rattle.view.specs.View.{reached, ancestors, supertype, numberOf};
+ghost use Rattle.view.specs.Supertype.{Common};
 ghost use Rattle.view.specs.Lows.{strip, Lows, LowestOf};
-ghost use Rattle.view.specs.Pick.{before, NearestOf};
+ghost use Rattle.view.specs.Pick.{NearestOf};
 ghost use Rattle.tables.specs.Table.{namesRoom, viewOf};
 ghost use Rattle.ancestry.specs.Rows.{rowsRoom, row};
-ghost use Rattle.ancestry.specs.Levels.{Distances};
+ghost use Rattle.prepared.specs.Prepared.{Prepared};
 ghost use Rattle.supertype.specs.Sources.{Upward};
-ghost use Rattle.supertype.specs.Stripped.{stripRows};
+ghost use Rattle.supertype.specs.Stripped.{stripRows, Starts};
+ghost use Rattle.supertype.specs.Near.{ofTwo, lone, FirstHit};
 
-// usize::MAX / 4, the distance of an Object that is not reached.
-const FAR: u64 = 4611686018427387903;
-
-// How many classes are walked from, or to, each by itself; of more of them all is prepared at once.
+// How many classes are walked from, each by itself; for more of them rows are made.
 const FEW: u64 = 8;
 
 // The set, without c where `taken`.
@@ -45,6 +41,7 @@ fn without_if(s: Set, taken: bool, c: u64) -> Set
 
 // Of s, the classes that do not reach d.
 fn not_reaching(pairs: &[u64], marks: &[u64], t: Tables, s: Set, d: u64) -> Set
+    requires { ⌜ Prepared (now pairs) (now marks) t × (d < namesRoom) ⌝ }
     ensures { λ r. ⌜ r .words ≡ strip (viewOf (now (pairs .entry)) (now (marks .entry)) t) d (s .words) (members (at (s .words)) 0 1024) ⌝ }
 {
     let mut kept = s;
@@ -58,17 +55,17 @@ fn not_reaching(pairs: &[u64], marks: &[u64], t: Tables, s: Set, d: u64) -> Set
     kept
 }
 
-// Of a set of classes, those with none strictly below. What a class reaches is looked at no more: it is strictly above, and out, or
-// reaches back, and has the same above it.
-fn lowest_by_walks(pairs: &[u64], marks: &[u64], t: Tables, all: Set) -> Set
-    requires { ⌜ (t .names ≤ namesRoom) × (t .object < t .names) × (length (all .words) ≡ 16) × ((c : ℕ) → member (all .words) c ≡ true → c < t .names) ⌝ }
+// Of a set of classes, those with none strictly below, looked at from `start` on. What a class reaches is looked at no more: it is strictly
+// above, and out, or reaches back, and has the same above it.
+fn lowest_by_walks(pairs: &[u64], marks: &[u64], t: Tables, all: Set, start: u64) -> Set
+    requires { ⌜ (t .names ≤ namesRoom) × (t .object < t .names) × (length (all .words) ≡ 16) × ((c : ℕ) → member (all .words) c ≡ true → c < t .names) × Prepared (now pairs) (now marks) t × Starts start (all .words) ⌝ }
     ensures { λ r. ⌜ Lows (viewOf (now (pairs .entry)) (now (marks .entry)) t) (all .words) (r .words) ⌝ }
 {
     let mut alive = all;
     let mut todo = all;
-    let mut d = todo.lowest();
+    let mut d = start;
     while d < 1024 {
-        let r = reached(pairs, marks, t, d);
+        let r = reached_from(pairs, marks, t, d);
         let above = not_reaching(pairs, marks, t, r.intersection(alive), d);
         alive = alive.difference(above);
         todo = todo.difference(r);
@@ -124,11 +121,11 @@ fn lowest_by_table(pairs: &[u64], marks: &[u64], t: Tables, all: Set) -> Set
 
 // The same: a few classes are walked from, for more of them rows are made.
 fn lowest_left(pairs: &[u64], marks: &[u64], t: Tables, all: Set) -> Set
-    requires { ⌜ (t .names ≤ namesRoom) × (t .object < t .names) × (length (all .words) ≡ 16) × ((c : ℕ) → member (all .words) c ≡ true → c < t .names) ⌝ }
+    requires { ⌜ (t .names ≤ namesRoom) × (t .object < t .names) × (length (all .words) ≡ 16) × ((c : ℕ) → member (all .words) c ≡ true → c < t .names) × Prepared (now pairs) (now marks) t ⌝ }
     ensures { λ r. ⌜ Lows (viewOf (now (pairs .entry)) (now (marks .entry)) t) (all .words) (r .words) ⌝ }
 {
     if all.count() < FEW {
-        return lowest_by_walks(pairs, marks, t, all);
+        return lowest_by_walks(pairs, marks, t, all, all.lowest());
     }
     lowest_by_table(pairs, marks, t, all)
 }
@@ -136,7 +133,7 @@ fn lowest_left(pairs: &[u64], marks: &[u64], t: Tables, all: Set) -> Set
 // The same of `others`, which is `all` but for Object: first the sources, which no class of `all` has as a parent. What they reach is
 // not among the lowest; what is left stands on a cycle, or above one.
 fn lowest_many(pairs: &[u64], marks: &[u64], t: Tables, all: Set, others: Set) -> Set
-    requires { ⌜ (t .names ≤ namesRoom) × (t .object < t .names) × (length (all .words) ≡ 16) × (length (others .words) ≡ 16) × ((c : ℕ) → member (others .words) c ≡ true → c < t .names) × Upward (viewOf (now pairs) (now marks) t) (all .words) (others .words) ⌝ }
+    requires { ⌜ (t .names ≤ namesRoom) × (t .object < t .names) × (length (all .words) ≡ 16) × (length (others .words) ≡ 16) × ((c : ℕ) → member (others .words) c ≡ true → c < t .names) × Upward (viewOf (now pairs) (now marks) t) (all .words) (others .words) × Prepared (now pairs) (now marks) t ⌝ }
     ensures { λ r. ⌜ Lows (viewOf (now (pairs .entry)) (now (marks .entry)) t) (others .words) (r .words) ⌝ }
 {
     let direct = expand(pairs, marks, t, Set::empty(), all);
@@ -150,204 +147,165 @@ fn lowest_many(pairs: &[u64], marks: &[u64], t: Tables, all: Set, others: Set) -
     sources.union(low)
 }
 
-// The same; one class alone is the lowest.
-fn lowest_others(pairs: &[u64], marks: &[u64], t: Tables, all: Set, others: Set) -> Set
-    requires { ⌜ (t .names ≤ namesRoom) × (t .object < t .names) × (length (all .words) ≡ 16) × (length (others .words) ≡ 16) × ((c : ℕ) → member (others .words) c ≡ true → c < t .names) × Upward (viewOf (now pairs) (now marks) t) (all .words) (others .words) ⌝ }
+// Where the search begins: with a class that both sides meet first, if there is one.
+fn start_of(met: Set, others: Set) -> u64
+    requires { ⌜ (length (others .words) ≡ 16) × ((c : ℕ) → member (met .words) c ≡ true → member (others .words) c ≡ true) ⌝ }
+    ensures { λ r. ⌜ Starts r (others .words) ⌝ }
+{
+    let d = met.lowest();
+    if d < 1024 {
+        return d;
+    }
+    others.lowest()
+}
+
+// The same where rows are at hand. A class that both sides meet first is mostly below the others, which are then looked at no more.
+fn lowest_prepared(
+    pairs: &[u64],
+    marks: &[u64],
+    t: Tables,
+    left: u64,
+    right: u64,
+    others: Set,
+) -> Set
+    requires { ⌜ (t .names ≤ namesRoom) × (t .object < t .names) × (length (others .words) ≡ 16) × ((c : ℕ) → member (others .words) c ≡ true → c < t .names) × Prepared (now pairs) (now marks) t ⌝ }
     ensures { λ r. ⌜ Lows (viewOf (now (pairs .entry)) (now (marks .entry)) t) (others .words) (r .words) ⌝ }
 {
-    let rest = others.without(others.lowest());
-    if rest.lowest() == 1024 {
+    let met = first_near(pairs, marks, t, left, right, others, true);
+    let start = start_of(met, others);
+    lowest_by_walks(pairs, marks, t, others, start)
+}
+
+// Whether a set has fewer than two members.
+fn is_lone(s: Set) -> bool
+    ensures { λ r. ⌜ r ≡ lone (s .words) ⌝ }
+{
+    let least = s.lowest();
+    let rest = s.without(least);
+    rest.lowest() == 1024
+}
+
+// The same; one class alone is the lowest.
+fn lowest_others(
+    pairs: &[u64],
+    marks: &[u64],
+    t: Tables,
+    left: u64,
+    right: u64,
+    all: Set,
+    others: Set,
+) -> Set
+    requires { ⌜ (t .names ≤ namesRoom) × (t .object < t .names) × (length (all .words) ≡ 16) × (length (others .words) ≡ 16) × ((c : ℕ) → member (others .words) c ≡ true → c < t .names) × Upward (viewOf (now pairs) (now marks) t) (all .words) (others .words) × Prepared (now pairs) (now marks) t ⌝ }
+    ensures { λ r. ⌜ Lows (viewOf (now (pairs .entry)) (now (marks .entry)) t) (others .words) (r .words) ⌝ }
+{
+    if is_lone(others) {
         return others;
+    }
+    if pairs.len() == TABLE {
+        return lowest_prepared(pairs, marks, t, left, right, others);
     }
     lowest_many(pairs, marks, t, all, others)
 }
 
 // Of a set with Object, the classes with none strictly below. Below Object is what it does not reach.
-fn lowest_of(pairs: &[u64], marks: &[u64], t: Tables, all: Set) -> Set
-    requires { ⌜ (t .names ≤ namesRoom) × (t .object < t .names) × (length (all .words) ≡ 16) × ((c : ℕ) → member (all .words) c ≡ true → c < t .names) × (member (all .words) (t .object) ≡ true) × Upward (viewOf (now pairs) (now marks) t) (all .words) (remove (all .words) (t .object)) ⌝ }
+fn lowest_of(pairs: &[u64], marks: &[u64], t: Tables, left: u64, right: u64, all: Set) -> Set
+    requires { ⌜ (t .names ≤ namesRoom) × (t .object < t .names) × (length (all .words) ≡ 16) × ((c : ℕ) → member (all .words) c ≡ true → c < t .names) × (member (all .words) (t .object) ≡ true) × Upward (viewOf (now pairs) (now marks) t) (all .words) (remove (all .words) (t .object)) × Prepared (now pairs) (now marks) t ⌝ }
     ensures { λ r. ⌜ LowestOf (viewOf (now (pairs .entry)) (now (marks .entry)) t) (all .words) (r .words) ⌝ }
 {
     let others = all.without(t.object);
-    let low = lowest_others(pairs, marks, t, all, others);
-    let unreached = others.difference(reached(pairs, marks, t, t.object));
+    let low = lowest_others(pairs, marks, t, left, right, all, others);
+    let unreached = others.difference(reached_from(pairs, marks, t, t.object));
     if unreached.lowest() == 1024 {
         return low.with(t.object);
     }
     low
 }
 
-// A candidate: its number, and the greater and the sum of its distances from both sides.
-struct Candidate {
-    class: u64,
-    greater: u64,
-    sum: u64,
-}
-
-// The greater of two.
-fn larger(a: u64, b: u64) -> u64
-    ensures { λ r. ⌜ r ≡ max a b ⌝ }
+// What both of two sets have of a third, or what either has.
+fn hits(left: Set, right: Set, s: Set, both: bool) -> Set
+    ensures { λ r. ⌜ r .words ≡ intersect (ofTwo both (left .words) (right .words)) (s .words) ⌝ }
 {
-    if a < b {
-        return b;
+    if both {
+        let common = left.intersection(right);
+        return common.intersection(s);
     }
-    a
+    let all = left.union(right);
+    all.intersection(s)
 }
 
-// A class with its distances.
-fn measured(pairs: &[u64], marks: &[u64], t: Tables, left: u64, right: u64, c: u64) -> Candidate
-    requires { ⌜ t .names ≤ namesRoom ⌝ }
-    ensures { λ r. ⌜ (r .class ≡ c) × (r .greater ≡ greater (viewOf (now (pairs .entry)) (now (marks .entry)) t) left right c) × (r .sum ≡ sum (viewOf (now (pairs .entry)) (now (marks .entry)) t) left right c) ⌝ }
-{
-    let l = distance_or_far(pairs, marks, t, left, c);
-    let r = distance_or_far(pairs, marks, t, right, c);
-    Candidate {
-        class: c,
-        greater: larger(l, r),
-        sum: l + r,
-    }
-}
-
-// Whether a comes before b: by greater distance, sum of the distances, number.
-fn comes_first(a: Candidate, b: Candidate) -> bool
-    ensures { λ r. ⌜ r ≡ before (a .greater) (a .sum) (a .class) (b .greater) (b .sum) (b .class) ⌝ }
-{
-    if a.greater < b.greater {
-        return true;
-    }
-    if b.greater < a.greater {
-        return false;
-    }
-    if a.sum < b.sum {
-        return true;
-    }
-    if b.sum < a.sum {
-        return false;
-    }
-    a.class < b.class
-}
-
-// The one of two candidates that comes first.
-fn first_of(a: Candidate, b: Candidate) -> Candidate
-    ensures { λ r. ⌜ r ≡ cond (before (a .greater) (a .sum) (a .class) (b .greater) (b .sum) (b .class)) a b ⌝ }
-{
-    if comes_first(a, b) {
-        return a;
-    }
-    b
-}
-
-// The nearest of a set, each class walked to. Of one class no distance is asked.
-fn nearest_of_few(pairs: &[u64], marks: &[u64], t: Tables, left: u64, right: u64, s: Set) -> u64
-    requires { ⌜ (t .names ≤ namesRoom) × (length (s .words) ≡ 16) ⌝ }
-    ensures { λ r. ⌜ NearestOf (viewOf (now (pairs .entry)) (now (marks .entry)) t) left right (s .words) r ⌝ }
-{
-    let least = s.lowest();
-    let mut rest = s.without(least);
-    let mut c = rest.lowest();
-    if c == 1024 {
-        return least;
-    }
-    let mut best = measured(pairs, marks, t, left, right, least);
-    while c < 1024 {
-        best = first_of(measured(pairs, marks, t, left, right, c), best);
-        rest = rest.without(c);
-        c = rest.lowest();
-    }
-    best.class
-}
-
-// A class with its distances, as two walks wrote them.
-fn noted(
+// Of a set, the classes that both sides reach in the fewest steps, of which the greater number counts, or those that either does.
+fn first_near(
     pairs: &[u64],
     marks: &[u64],
     t: Tables,
     left: u64,
     right: u64,
-    from_left: &[u64],
-    from_right: &[u64],
-    c: u64,
-) -> Candidate
-    requires { ⌜ (t .names ≤ namesRoom) × (t .object < t .names) × (left < t .names) × (right < t .names) × (c < namesRoom) × Distances (viewOf (now pairs) (now marks) t) left (now «from_left») × Distances (viewOf (now pairs) (now marks) t) right (now «from_right») ⌝ }
-    ensures { λ r. ⌜ (r .class ≡ c) × (r .greater ≡ greater (viewOf (now (pairs .entry)) (now (marks .entry)) t) left right c) × (r .sum ≡ sum (viewOf (now (pairs .entry)) (now (marks .entry)) t) left right c) ⌝ }
-{
-    let i = c as usize;
-    let l = from_left[i];
-    let r = from_right[i];
-    Candidate {
-        class: c,
-        greater: larger(l, r),
-        sum: l + r,
-    }
-}
-
-// The nearest of a set, with the distances at hand.
-fn nearest_noted(
-    pairs: &[u64],
-    marks: &[u64],
-    t: Tables,
-    left: u64,
-    right: u64,
-    from_left: &[u64],
-    from_right: &[u64],
     s: Set,
-) -> u64
-    requires { ⌜ (t .names ≤ namesRoom) × (t .object < t .names) × (left < t .names) × (right < t .names) × (length (s .words) ≡ 16) × Distances (viewOf (now pairs) (now marks) t) left (now «from_left») × Distances (viewOf (now pairs) (now marks) t) right (now «from_right») ⌝ }
-    ensures { λ r. ⌜ NearestOf (viewOf (now (pairs .entry)) (now (marks .entry)) t) left right (s .words) r ⌝ }
+    both: bool,
+) -> Set
+    requires { ⌜ length (s .words) ≡ 16 ⌝ }
+    ensures { λ r. ⌜ FirstHit both (viewOf (now (pairs .entry)) (now (marks .entry)) t) left right (s .words) (r .words) ⌝ }
 {
-    let least = s.lowest();
-    let mut rest = s.without(least);
-    let mut c = rest.lowest();
-    if c == 1024 {
-        return least;
+    let none = Set::empty();
+    let mut seen_left = none.with(left);
+    let mut seen_right = none.with(right);
+    let mut front_left = seen_left;
+    let mut front_right = seen_right;
+    let mut k: u64 = 0;
+    while k < t.names {
+        let met = hits(seen_left, seen_right, s, both);
+        if met.lowest() != 1024 {
+            return met;
+        }
+        let next_left = expand(pairs, marks, t, seen_left, front_left);
+        let next_right = expand(pairs, marks, t, seen_right, front_right);
+        front_left = next_left.difference(seen_left);
+        front_right = next_right.difference(seen_right);
+        seen_left = next_left;
+        seen_right = next_right;
+        k += 1;
     }
-    let mut best = noted(pairs, marks, t, left, right, from_left, from_right, least);
-    while c < 1024 {
-        best = first_of(
-            noted(pairs, marks, t, left, right, from_left, from_right, c),
-            best,
-        );
-        rest = rest.without(c);
-        c = rest.lowest();
-    }
-    best.class
+    hits(seen_left, seen_right, s, both)
 }
 
-// The nearest of a set, by one walk from each side.
-fn nearest_of_many(pairs: &[u64], marks: &[u64], t: Tables, left: u64, right: u64, s: Set) -> u64
-    requires { ⌜ (t .names ≤ namesRoom) × (t .object < t .names) × (left < t .names) × (right < t .names) × (length (s .words) ≡ 16) ⌝ }
-    ensures { λ r. ⌜ NearestOf (viewOf (now (pairs .entry)) (now (marks .entry)) t) left right (s .words) r ⌝ }
-{
-    let mut from_left = [FAR; 1024];
-    let mut from_right = [FAR; 1024];
-    distances(pairs, marks, t, left, &mut from_left);
-    distances(pairs, marks, t, right, &mut from_right);
-    nearest_noted(pairs, marks, t, left, right, &from_left, &from_right, s)
-}
-
-// The nearest of a set.
+// The nearest of some common ancestors: of those that both sides meet first, and of these that either reaches first, the least.
 fn nearest_of(pairs: &[u64], marks: &[u64], t: Tables, left: u64, right: u64, s: Set) -> u64
-    requires { ⌜ (t .names ≤ namesRoom) × (t .object < t .names) × (left < t .names) × (right < t .names) × (length (s .words) ≡ 16) ⌝ }
+    requires { ⌜ (t .names ≤ namesRoom) × (t .object < t .names) × (left < t .names) × (right < t .names) × (length (s .words) ≡ 16) × ((c : ℕ) → member (s .words) c ≡ true → Common (viewOf (now pairs) (now marks) t) left right c) ⌝ }
     ensures { λ r. ⌜ NearestOf (viewOf (now (pairs .entry)) (now (marks .entry)) t) left right (s .words) r ⌝ }
 {
-    if s.count() < FEW {
-        return nearest_of_few(pairs, marks, t, left, right, s);
+    if is_lone(s) {
+        return s.lowest();
     }
-    nearest_of_many(pairs, marks, t, left, right, s)
+    let met = first_near(pairs, marks, t, left, right, s, true);
+    if is_lone(met) {
+        return met.lowest();
+    }
+    let near = first_near(pairs, marks, t, left, right, met, false);
+    near.lowest()
+}
+
+// The ancestors: what is reached, and Object.
+fn ancestors_of(pairs: &[u64], marks: &[u64], t: Tables, x: u64) -> Set
+    requires { ⌜ Prepared (now pairs) (now marks) t ⌝ }
+    ensures { λ r. ⌜ r .words ≡ ancestors (viewOf (now (pairs .entry)) (now (marks .entry)) t) x ⌝ }
+{
+    let r = reached_from(pairs, marks, t, x);
+    r.with(t.object)
 }
 
 // The least common supertype: least_common_supertype. All ones for none.
 pub fn supertype(pairs: &[u64], marks: &[u64], t: Tables, left: u64, right: u64) -> u64
-    requires { ⌜ (t .names ≤ namesRoom) × (t .object < t .names) × (left < t .names) × (right < t .names) ⌝ }
+    requires { ⌜ (t .names ≤ namesRoom) × (t .object < t .names) × (left < t .names) × (right < t .names) × Prepared (now pairs) (now marks) t ⌝ }
     ensures { λ r. ⌜ r ≡ numberOf (supertype (viewOf (now (pairs .entry)) (now (marks .entry)) t) left right) ⌝ }
 {
-    let a = ancestors(pairs, marks, t, left);
+    let a = ancestors_of(pairs, marks, t, left);
     if a.has(right) {
         return right;
     }
-    let b = ancestors(pairs, marks, t, right);
+    let b = ancestors_of(pairs, marks, t, right);
     if b.has(left) {
         return left;
     }
-    let low = lowest_of(pairs, marks, t, a.intersection(b));
+    let low = lowest_of(pairs, marks, t, left, right, a.intersection(b));
     nearest_of(pairs, marks, t, left, right, low)
 }

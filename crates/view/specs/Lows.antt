@@ -143,15 +143,12 @@ module _ (v : View) (g : Good v) (all : List ℕ) (below-names : (c : ℕ) → m
         go c m none true q = refl
         go c m none false q = absurd (let w = st .out c m q in none (w .0) (w .1) (w .2))
 
-    module _ (d : ℕ) (is : d ≡ first (at todo) 1024) (h : d < 1024) where
+    module _ (d : ℕ) (d-todo : member todo d ≡ true) (h : d < 1024) where
       abbrev both : List ℕ
       both = intersect (reached v d) alive
 
       abbrev above : List ℕ
       above = strip v d both (members (at both) 0 1024)
-
-      d-todo : member todo d ≡ true
-      d-todo = subst (λ (c : ℕ). member todo c ≡ true) (sym is) (lowest-member todo 1024 (omega arith))
 
       d-all : member all d ≡ true
       d-all = st .todo-in d d-todo

@@ -1,5 +1,6 @@
 -- `supertype_frame` meets its contract: both numbers are classes, and Object is one. Assumes nothing.
 use borrow.Author.Needs.{needs}
+use Rattle.prepared.specs.Prepared.{plain-prepared}
 use mathlib.Core.Path.{_≡_, sym, ap, ap₂, _∙_}
 use Prim.Native.Nat.{ℕ}
 use native.Mathlib.Omega.{arith}
@@ -35,7 +36,7 @@ supertype-requires : tie.Need-supertype-requires
 supertype-requires c κs =
     let s = c .before .before .before .before .before .before .before .before in
     let k = ask-passed (s .args .n .tables) _ _ (sym (c .before .check-ask .ensures) ∙ (let z : c .before .check-ask .result ≡ 0 = omega arith in z)) in
-    (s .pre .1, s .pre .2 (k .2), k .0, k .1)
+    (s .pre .1, s .pre .2 (k .2), k .0, k .1, plain-prepared (s .args .pairs .now) (s .args .marks .now) (s .args .n .tables) (s .pre .3) (λ e n. let r = s .pre .4 in omega arith))
 
 say-requires : tie.Need-say-requires
 say-requires c κs = search needs

@@ -125,7 +125,7 @@ join-arrays-join-requires t c κs =
     let m : 2 * dimsOf (a .left .word) ≡ t = c .before .before .before .before .before .before .before .before .pre .0 in
     let h : 2 ^ 56 ≤ a .left .word = p .1 in
     let e = legal-elements (a .pairs .now) (a .marks .now) (a .t) (p .0 .0 .0) (a .left .word) (a .right .word) (p .0 .0 .1) (p .0 .0 .2) (p .0 .1) (p .1) (p .2) in
-    (let q : 2 * dimsOf (a .left .word - 2 ^ 56) + 1 < t = omega arith in q, (p .0 .0 .0, e .0, e .1))
+    (let q : 2 * dimsOf (a .left .word - 2 ^ 56) + 1 < t = omega arith in q, (p .0 .0 .0, e .0, e .1, p .0 .0 .3))
 
 join-arrays-add-t9 : (t : ℕ) → join-arrays-lts.Need-add-t9 (array-claims t) (join-arrays-at t) join-arrays.Post
 join-arrays-add-t9 t c =

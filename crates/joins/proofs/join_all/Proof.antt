@@ -50,7 +50,7 @@ join-requires : tie.Need-join-requires Inv-loop μ-loop
 join-requires c κs =
     let p = c .before .before .before .before .before .before .before .before .pre in
     let l = c .before .before .loop in
-    (p .0, l .inv .1, p .1 (l .i) (omega arith))
+    (p .0, l .inv .1, p .1 (l .i) (omega arith), p .3)
 
 add-i : tie.Need-add-i Inv-loop μ-loop
 add-i c = search needs

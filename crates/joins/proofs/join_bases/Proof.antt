@@ -85,7 +85,7 @@ join-classes-requires c κs =
     let r = c .load4 .ensures in
     let x = object-lt (a .left .word) (p .1) (sym (c .before .before .before .before .before .is-primitive .ensures) ∙ c .before .before .before .before .if1 .left) (a .t .names) (p .0 .0 .1) in
     let y = object-lt (a .right .word) (p .2) (sym (c .before .before .before .is-primitive3 .ensures) ∙ c .before .before .if3 .left) (a .t .names) (p .0 .0 .2) in
-    (p .0 .0 .0, omega arith, omega arith)
+    (p .0 .0 .0, omega arith, omega arith, p .0 .0 .3)
 
 returns-4 : tie.Need-returns-4
 returns-4 c =

@@ -31,9 +31,7 @@ supertype-requires c κs =
     let s = c .before .before .before .before in
     let a = s .args in
     let p = are-classes (a .t .names) (a .a) (a .b) (ofTypes (a .q)) (ap ofTypes (c .enum-told3 .given .1)) (s .pre .2) in
-    let left = p .0 in
-    let right = p .1 in
-    search needs
+    (s .pre .1 .0, s .pre .1 .1, p .0, p .1, plain-prepared (a .pairs .now) (a .marks .now) (a .t) (s .pre .0) (λ e n. let r = s .pre .3 in omega arith))
 
 enum-told-4 : tie.Need-enum-told-4
 enum-told-4 c = search needs
@@ -52,9 +50,7 @@ join-requires c κs =
     let s = c .before .before .before .before in
     let a = s .args in
     let p = are-types (a .t .names) (a .a) (a .b) (ofTypes (a .q)) (ap ofTypes (c .enum-told5 .given .1)) (s .pre .2) in
-    let left = p .0 in
-    let right = p .1 in
-    search needs
+    (s .pre .1, p .0, p .1, plain-prepared (a .pairs .now) (a .marks .now) (a .t) (s .pre .0) (λ e n. let r = s .pre .3 in omega arith))
 
 number-requires : tie.Need-number-requires
 number-requires c κs = search needs

@@ -6,7 +6,7 @@ use lib.ListN.{length}
 use Rattle.sets.specs.Sets.{at, members, first}
 use Rattle.tables.specs.Table.{viewOf, view-good}
 use Rattle.ancestry.specs.Rows.{row-length}
-use Rattle.supertype.specs.Stripped.{turn-row, turn-above, turn-none}
+use Rattle.supertype.specs.Stripped.{turn-row, turn-above, turn-none, starts-least}
 use Rattle.view.specs.Lows.{Lowing, lowing-start, lowing-turn, lowing-fewer, lowing-end}
 use Rattle.supertype.proofs.lowest_by_rows.Statement.{statement}
 use Rattle.supertype.proofs.lowest_by_rows.Tie as tie
@@ -51,7 +51,7 @@ loop-less c =
     let p = c .before .before .before .before .before .before .before .before .before .before .before .before .before .pre in
     let l = c .before .before .before .before .before .before .before .before .loop in
     let r = c .before .before .before .before .before .row-of in
-    lowing-fewer (viewOf (a .pairs .now) (a .marks .now) (a .t)) (view-good (a .pairs .now) (a .marks .now) (a .t) (p .0) (p .1)) (a .all .words) (p .3) (l .alive .words) (l .todo .words) (l .inv .1) (l .d) (l .inv .0) (let f = p .0 in omega arith)
+    lowing-fewer (viewOf (a .pairs .now) (a .marks .now) (a .t)) (view-good (a .pairs .now) (a .marks .now) (a .t) (p .0) (p .1)) (a .all .words) (p .3) (l .alive .words) (l .todo .words) (l .inv .1) (l .d) (starts-least (l .todo .words) (l .d) (l .inv .0) .0 (let f = p .0 in omega arith)) (let f = p .0 in omega arith)
     (r .result .words) (c .before .difference2 .result .words)
     (r .ensures ∙ turn-row (viewOf (a .pairs .now) (a .marks .now) (a .t)) (a .rows .now) (a .all .words) (l .alive .words) (l .todo .words) (l .inv .1) (p .5) (l .d) (l .inv .0) (let f = p .0 in omega arith))
     (c .before .difference2 .ensures)
@@ -65,7 +65,7 @@ loop-again c =
     let m = c .before .before .before .before .intersection in
     let u = c .before .before .before .not-in-rows in (
       c .lowest2 .ensures,
-      lowing-turn (viewOf (a .pairs .now) (a .marks .now) (a .t)) (view-good (a .pairs .now) (a .marks .now) (a .t) (p .0) (p .1)) (a .all .words) (p .3) (l .alive .words) (l .todo .words) (l .inv .1) (l .d) (l .inv .0) (let f = p .0 in omega arith)
+      lowing-turn (viewOf (a .pairs .now) (a .marks .now) (a .t)) (view-good (a .pairs .now) (a .marks .now) (a .t) (p .0) (p .1)) (a .all .words) (p .3) (l .alive .words) (l .todo .words) (l .inv .1) (l .d) (starts-least (l .todo .words) (l .d) (l .inv .0) .0 (let f = p .0 in omega arith)) (let f = p .0 in omega arith)
           (r .result .words) (m .result .words) (u .result .words)
           (r .ensures ∙ turn-row (viewOf (a .pairs .now) (a .marks .now) (a .t)) (a .rows .now) (a .all .words) (l .alive .words) (l .todo .words) (l .inv .1) (p .5) (l .d) (l .inv .0) (let f = p .0 in omega arith))
           (m .ensures)

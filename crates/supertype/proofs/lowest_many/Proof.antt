@@ -57,7 +57,7 @@ lowest-left-requires c κs =
     (p .2) (p .3) (p .4) (p .5)
     (c .before .before .before .before .before .expand .ensures ∙ ap (λ (s : List _). withParents v s (members (at (a .all .words)) 0 1024)) (c .before .before .before .before .before .before .empty .ensures))
     (c .before .before .before .before .difference .ensures) (c .before .before .before .spread .ensures) (c .before .before .difference2 .ensures) in
-    (p .0, p .1, f .0, f .1)
+    (p .0, p .1, f .0, f .1, p .6)
 
 union-requires : tie.Need-union-requires
 union-requires c κs = search needs

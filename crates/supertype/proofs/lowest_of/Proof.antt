@@ -27,10 +27,11 @@ lowest-others-requires c κs =
       ap length e ∙ length-remove (a .all .words) (a .t .object) ∙ p .2,
       λ d m. p .3 d (remove-only (a .all .words) (a .t .object) d (subst (λ (s : List ℕ). member s d ≡ true) e m) .1),
       subst (Upward (viewOf (a .pairs .now) (a .marks .now) (a .t)) (a .all .words)) (sym e) (p .5),
+      p .6,
     )
 
-reached-requires : tie.Need-reached-requires
-reached-requires c κs = search needs
+reached-from-requires : tie.Need-reached-from-requires
+reached-from-requires c κs = c .before .before .before .before .pre .6
 
 difference-requires : tie.Need-difference-requires
 difference-requires c κs = search needs
@@ -46,8 +47,8 @@ returns c =
     let a = c .before .before .before .before .before .before .before .before .before .args in
     let p = c .before .before .before .before .before .before .before .before .before .pre in
     object-lowest (viewOf (a .pairs .now) (a .marks .now) (a .t)) (view-good (a .pairs .now) (a .marks .now) (a .t) (p .0) (p .1)) (a .all .words)
-    (c .before .before .before .before .before .before .without .result .words) (c .before .before .before .before .before .lowest-others .result .words) (c .before .before .before .before .reached .result .words) (c .before .before .before .difference .result .words)
-    (p .2) (p .3) (p .4) (c .before .before .before .before .before .before .without .ensures) (c .before .before .before .before .before .lowest-others .ensures) (c .before .before .before .before .reached .ensures) (c .before .before .before .difference .ensures)
+    (c .before .before .before .before .before .before .without .result .words) (c .before .before .before .before .before .lowest-others .result .words) (c .before .before .before .before .reached-from .result .words) (c .before .before .before .difference .result .words)
+    (p .2) (p .3) (p .4) (c .before .before .before .before .before .before .without .ensures) (c .before .before .before .before .before .lowest-others .ensures) (c .before .before .before .before .reached-from .ensures) (c .before .before .before .difference .ensures)
     (sym (c .before .before .lowest .ensures) ∙ c .before .if1 .taken) (c .with .result .words) (c .with .ensures)
 
 returns-2 : tie.Need-returns-2
@@ -55,8 +56,8 @@ returns-2 c =
     let a = c .before .before .before .before .before .before .before .before .args in
     let p = c .before .before .before .before .before .before .before .before .pre in
     object-not-lowest (viewOf (a .pairs .now) (a .marks .now) (a .t)) (view-good (a .pairs .now) (a .marks .now) (a .t) (p .0) (p .1)) (a .all .words)
-    (c .before .before .before .before .before .without .result .words) (c .before .before .before .before .lowest-others .result .words) (c .before .before .before .reached .result .words) (c .before .before .difference .result .words)
-    (p .2) (p .3) (p .4) (c .before .before .before .before .before .without .ensures) (c .before .before .before .before .lowest-others .ensures) (c .before .before .before .reached .ensures) (c .before .before .difference .ensures)
+    (c .before .before .before .before .before .without .result .words) (c .before .before .before .before .lowest-others .result .words) (c .before .before .before .reached-from .result .words) (c .before .before .difference .result .words)
+    (p .2) (p .3) (p .4) (c .before .before .before .before .before .without .ensures) (c .before .before .before .before .lowest-others .ensures) (c .before .before .before .reached-from .ensures) (c .before .before .difference .ensures)
     (λ e. c .if1 .left (c .before .lowest .ensures ∙ e))
 
 pub lowest-of-spec : {M : Type 1} → statement M
@@ -65,7 +66,7 @@ lowest-of-spec =
     (tie.spec
     without-requires
     lowest-others-requires
-    reached-requires
+    reached-from-requires
     difference-requires
     lowest-requires
     with-requires

@@ -31,7 +31,7 @@ join-all-requires c κs =
     let x = c .before .before .before .before .before .before .before .before .before .before .args in
     let p = c .before .before .before .before .before .before .before .before .before .before .pre in
     let o = c .before .before .before .before .copy-evidence in
-    (p .0 .fits, part-legal (x .pairs .now) (x .marks .now) (x .t) (x .keys .now) (p .0) (x .root) (x .words .now) (o .last .1 .1 .0) (o .result) (o .ensures .0) (o .ensures .1), part-ascends (x .pairs .now) (x .marks .now) (x .t) (x .keys .now) (p .0) (x .root) (x .words .now) (o .last .1 .1 .0) (o .result) (o .ensures .0) (o .ensures .1))
+    (p .0 .fits, part-legal (x .pairs .now) (x .marks .now) (x .t) (x .keys .now) (p .0) (x .root) (x .words .now) (o .last .1 .1 .0) (o .result) (o .ensures .0) (o .ensures .1), part-ascends (x .pairs .now) (x .marks .now) (x .t) (x .keys .now) (p .0) (x .root) (x .words .now) (o .last .1 .1 .0) (o .result) (o .ensures .0) (o .ensures .1), p .0 .long)
 
 same-length : tie.Need-same-length
 same-length c = search needs
