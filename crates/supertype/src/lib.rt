@@ -26,7 +26,7 @@ ghost use Rattle.supertype.specs.Sources.{Upward};
 ghost use Rattle.supertype.specs.Stripped.{stripRows, Starts};
 ghost use Rattle.supertype.specs.Near.{ofTwo, lone, FirstHit};
 
-// How many classes are walked from, each by itself; for more of them rows are made.
+// How many classes are looked at as they come; for more of them rows are made, or one is looked for that stands below most.
 const FEW: u64 = 8;
 
 // The set, without c where `taken`.
@@ -159,7 +159,8 @@ fn start_of(met: Set, others: Set) -> u64
     others.lowest()
 }
 
-// The same where rows are at hand. A class that both sides meet first is mostly below the others, which are then looked at no more.
+// The same where rows are at hand. A class that both sides meet first is mostly below the others, which are then looked at no more; of a
+// few, each is looked at as it comes.
 fn lowest_prepared(
     pairs: &[u64],
     marks: &[u64],
@@ -171,6 +172,9 @@ fn lowest_prepared(
     requires { ⌜ (t .names ≤ namesRoom) × (t .object < t .names) × (length (others .words) ≡ 16) × ((c : ℕ) → member (others .words) c ≡ true → c < t .names) × Prepared (now pairs) (now marks) t ⌝ }
     ensures { λ r. ⌜ Lows (viewOf (now (pairs .entry)) (now (marks .entry)) t) (others .words) (r .words) ⌝ }
 {
+    if others.count() < FEW {
+        return lowest_by_walks(pairs, marks, t, others, others.lowest());
+    }
     let met = first_near(pairs, marks, t, left, right, others, true);
     let start = start_of(met, others);
     lowest_by_walks(pairs, marks, t, others, start)
