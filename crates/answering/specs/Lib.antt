@@ -2,3 +2,4 @@
 pub mod Answering
 pub mod Steps
 pub mod FromFinal
+pub mod Once
