@@ -1,6 +1,7 @@
-// The answers of a solve's variables from its final table: each component's bounds are copied as words, one kind after the other, and
-// resolved by the five ways.
+// The answers of a solve's variables from its final table: each component's own keys are cut out of it, copied as words, one kind after the
+// other, and resolved by the five ways, once a component.
 use copying::copy_words;
+use keys::COMPONENT;
 use resolving::resolve_state;
 use tables::Tables;
 use ty::MaybeType;
@@ -78,7 +79,10 @@ pub fn answer(
     requires { ⌜ Classed (now pairs) (now marks) t × Final (t .names) (now keys) × (component < 512) × (length (now keys) ≤ length (now out)) ⌝ }
     ensures { λ r. ⌜ r ≡ maybeWord (resolveState (worldOf (now (pairs .entry)) (now (marks .entry)) t) (stateOf (tableIn (now (keys .entry))) component)) ⌝ }
 {
-    let p = copy_state(keys, component, out);
+    let of = sorted::run(keys, keys.len(), COMPONENT, component);
+    let first = of.first;
+    let past = of.past;
+    let p = copy_state(&keys[first..past], component, out);
     answer_from(pairs, marks, t, out, p)
 }
 
