@@ -4,7 +4,7 @@ use mathlib.Core.Path.{_≡_}
 use mathlib.Core.List.{List, [], _++_, map}
 use mathlib.Core.Option.{Option, some, none}
 use Prim.Native.Nat.{ℕ, _+_, _-_, _^_, _≤_}
-use lib.ListN.{length, take, drop}
+use lib.ListN.{length, take, drop, getD}
 use Rattle.ty.specs.declared.MaybeType.{MaybeType}
 use Rattle.ty.specs.declared.MaybeType.the-variants.{Is, Nothing}
 use Rattle.ty.specs.Types.{ArgType}
@@ -12,7 +12,7 @@ use Rattle.ty.specs.Words.{wordOf}
 use Rattle.tables.specs.declared.Tables.{Tables}
 use Rattle.lattice.specs.Lattice.{World}
 use Rattle.joins.specs.Joins.{AllLegal}
-use Rattle.solving.specs.Solving.{Domain, Fallback, Upper, Lower, Exact, Table, TypeState, answers}
+use Rattle.solving.specs.Solving.{Domain, Fallback, Upper, Lower, Exact, Table, TypeState, stateOf, resolveState, answers}
 use Rattle.solving.specs.Tidy.{Tidy}
 use Rattle.solving.specs.TableKeys.{boundOf, keysOf}
 use Rattle.copying.specs.Copies.{runIn, wordsIn}
@@ -83,3 +83,13 @@ answerWord (some t) = wordOf t
 
 abbrev pub answerWords : World → Table → List ℕ → List ℕ
 answerWords w table variables = map answerWord (answers w table variables)
+
+-- ---- one component
+
+-- its answer
+abbrev pub answerOf : World → Table → ℕ → ℕ
+answerOf w table c = answerWord (resolveState w (stateOf table c))
+
+-- an answer that stands before the place p in the slice, where p is not 0
+abbrev pub Stands : World → Table → List ℕ → ℕ → ℕ → Type 0
+Stands w table into c p = (p ≡ 0 → ⊥) → (p ≤ length into) × (getD into (p - 1) 0 ≡ answerOf w table c)

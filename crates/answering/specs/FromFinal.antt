@@ -23,7 +23,7 @@ use Rattle.resolving.specs.Bounds.{Bounds, stateIn}
 use Rattle.resolvinglaws.specs.FromTable.{copy-bounds, copy-state}
 use Rattle.resolvinglaws.specs.Parts.{five-short, part-is}
 use Rattle.answering.specs.declared.Parts.{Parts}
-use Rattle.answering.specs.Answering.{kindWords, stateWords, partsOf, part, InOrder, PartsLegal, partsState, tableIn, Final, numberIn, answerWord, answerWords}
+use Rattle.answering.specs.Answering.{kindWords, stateWords, partsOf, part, InOrder, PartsLegal, partsState, tableIn, Final, numberIn, answerWord, answerWords, answerOf}
 
 -- ---- the parts of the copy
 
@@ -124,21 +124,17 @@ number-word none = refl
 number-word (some t) = refl
 
 module _ (v : World) (table : Table) where
-  -- a component's answer
-  abbrev pub answerOf : ℕ → ℕ
-  answerOf c = answerWord (resolveState v (stateOf table c))
-
-  pub answers-map : (variables : List ℕ) → answerWords v table variables ≡ map answerOf variables
+  pub answers-map : (variables : List ℕ) → answerWords v table variables ≡ map (answerOf v table) variables
   unfolding answers
   answers-map [] = refl
-  answers-map (c ∷ cs) = ap (λ (l : List ℕ). answerOf c ∷ l) (answers-map cs)
+  answers-map (c ∷ cs) = ap (λ (l : List ℕ). answerOf v table c ∷ l) (answers-map cs)
 
   -- one answer more
-  pub answer-more : (variables d : List ℕ) (i x : ℕ) → x ≡ answerOf (getD variables i 0) → i < length variables → length variables ≤ length d
+  pub answer-more : (variables d : List ℕ) (i x : ℕ) → x ≡ answerOf v table (getD variables i 0) → i < length variables → length variables ≤ length d
       → set (paste d 0 (answerWords v table variables) i) i x ≡ paste d 0 (answerWords v table variables) (i + 1)
   answer-more variables d i x e h l =
       ap₂ (λ (ws : List ℕ) (k : ℕ). set (paste d 0 ws i) k x) (answers-map variables) (sym (zero-add i))
-      ∙ paste-more answerOf d 0 variables i x e h (omega arith)
+      ∙ paste-more (answerOf v table) d 0 variables i x e h (omega arith)
       ∙ ap (λ (ws : List ℕ). paste d 0 ws (i + 1)) (sym (answers-map variables))
 
 -- ---- EVERY TIDY TABLE'S KEYS ARE SUCH, and the table comes back from them

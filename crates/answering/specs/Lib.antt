@@ -2,3 +2,5 @@
 pub mod Answering
 pub mod Steps
 pub mod FromFinal
+pub mod Cut
+pub mod Once

@@ -1,12 +1,13 @@
-// The answers of a solve's variables from its final table: each component's bounds are copied as words, one kind after the other, and
-// resolved by the five ways.
+// The answers of a solve's variables from its final table: each component's own keys are cut out of it, copied as words, one kind after the
+// other, and resolved by the five ways, once a component.
 use copying::copy_words;
+use keys::COMPONENT;
 use resolving::resolve_state;
 use tables::Tables;
 use ty::MaybeType;
 ghost use mathlib.Core.Path.{_≡_};
 ghost use Prim.Native.Nat.{_≤_, _<_};
-ghost use lib.ListN.{length};
+ghost use lib.ListN.{length, replicate};
 ghost use lib.Seq.{paste};
 ghost use Rattle.sorted.specs.Sorted.{Sorted};
 ghost use Rattle.ty.specs.Answers.{maybeWord};
@@ -14,7 +15,7 @@ ghost use Rattle.lattice.specs.World.{worldOf};
 ghost use Rattle.solving.specs.Queue.{Below};
 ghost use Rattle.solving.specs.Solving.{stateOf, resolveState};
 ghost use Rattle.resolving.specs.Bounds.{Classed};
-ghost use Rattle.answering.specs.Answering.{partsOf, stateWords, InOrder, PartsLegal, partsState, tableIn, Final, numberIn, answerWords};
+ghost use Rattle.answering.specs.Answering.{partsOf, stateWords, InOrder, PartsLegal, partsState, tableIn, Final, numberIn, answerWords, answerOf, Stands};
 
 // Where the words of each kind end; each begins where the one before it ends, the domain's at 0.
 pub struct Parts {
@@ -78,7 +79,10 @@ pub fn answer(
     requires { ⌜ Classed (now pairs) (now marks) t × Final (t .names) (now keys) × (component < 512) × (length (now keys) ≤ length (now out)) ⌝ }
     ensures { λ r. ⌜ r ≡ maybeWord (resolveState (worldOf (now (pairs .entry)) (now (marks .entry)) t) (stateOf (tableIn (now (keys .entry))) component)) ⌝ }
 {
-    let p = copy_state(keys, component, out);
+    let of = sorted::run(keys, keys.len(), COMPONENT, component);
+    let first = of.first;
+    let past = of.past;
+    let p = copy_state(&keys[first..past], component, out);
     answer_from(pairs, marks, t, out, p)
 }
 
@@ -92,7 +96,54 @@ fn word_in(m: MaybeType) -> u64
     }
 }
 
-// Each variable's answer, at the front of the answers' slice; what stands past them stays. The copies go to `out`.
+// A component's answer as a word: the one before the place `seen` where that is not 0, else anew.
+fn word_of(
+    pairs: &[u64],
+    marks: &[u64],
+    t: Tables,
+    keys: &[u64],
+    component: u64,
+    out: &mut [u64],
+    into: &[u64],
+    seen: u64,
+) -> u64
+    requires { ⌜ Classed (now pairs) (now marks) t × Final (t .names) (now keys) × (component < 512) × (length (now keys) ≤ length (now out)) × Stands (worldOf (now pairs) (now marks) t) (tableIn (now keys)) (now into) component seen ⌝ }
+    ensures { λ r. ⌜ r ≡ answerOf (worldOf (now (pairs .entry)) (now (marks .entry)) t) (tableIn (now (keys .entry))) component ⌝ }
+{
+    if seen != 0 {
+        return into[(seen - 1) as usize];
+    }
+    let m = answer(pairs, marks, t, keys, component, out);
+    word_in(m)
+}
+
+// Each variable's answer. `places` has for each component the place after the last variable of it.
+fn answers_once(
+    pairs: &[u64],
+    marks: &[u64],
+    t: Tables,
+    keys: &[u64],
+    variables: &[u64],
+    out: &mut [u64],
+    into: &mut [u64],
+    places: &mut [u64],
+)
+    requires { ⌜ Classed (now pairs) (now marks) t × Final (t .names) (now keys) × Below 512 (now variables) × (length (now keys) ≤ length (now out)) × (length (now variables) ≤ length (now into)) × (now places ≡ replicate 512 0) ⌝ }
+    ensures { λ _. ⌜ now (into .exit) ≡ paste (now (into .entry)) 0 (answerWords (worldOf (now (pairs .entry)) (now (marks .entry)) t) (tableIn (now (keys .entry))) (now (variables .entry))) (length (now (variables .entry))) ⌝ }
+{
+    let mut i: usize = 0;
+    while i < variables.len() {
+        let c = variables[i];
+        let k = c as usize;
+        let seen = places[k];
+        into[i] = word_of(pairs, marks, t, keys, c, out, into, seen);
+        i += 1;
+        places[k] = i as u64;
+    }
+}
+
+// Each variable's answer, at the front of the answers' slice; what stands past them stays. The copies go to `out`. Each component is resolved
+// once, however many variables it has.
 pub fn answers(
     pairs: &[u64],
     marks: &[u64],
@@ -105,10 +156,6 @@ pub fn answers(
     requires { ⌜ Classed (now pairs) (now marks) t × Final (t .names) (now keys) × Below 512 (now variables) × (length (now keys) ≤ length (now out)) × (length (now variables) ≤ length (now into)) ⌝ }
     ensures { λ _. ⌜ now (into .exit) ≡ paste (now (into .entry)) 0 (answerWords (worldOf (now (pairs .entry)) (now (marks .entry)) t) (tableIn (now (keys .entry))) (now (variables .entry))) (length (now (variables .entry))) ⌝ }
 {
-    let mut i: usize = 0;
-    while i < variables.len() {
-        let m = answer(pairs, marks, t, keys, variables[i], out);
-        into[i] = word_in(m);
-        i += 1;
-    }
+    let mut places = [0u64; 512];
+    answers_once(pairs, marks, t, keys, variables, out, into, &mut places);
 }

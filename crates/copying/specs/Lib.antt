@@ -2,3 +2,4 @@
 pub mod Copies
 pub mod Steps
 pub mod Types
+pub mod Own

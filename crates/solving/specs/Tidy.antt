@@ -9,7 +9,7 @@ use mathlib.Core.Option.{Option, some, none}
 use Prim.Native.Nat.{ℕ, _+_, _≤_, _<_}
 use native.Mathlib.Omega.{arith}
 use lib.Dec.{eqb}
-use lib.ListN.{length}
+use lib.ListN.{length, take, drop, length-take, length-drop}
 use borrow.Author.Tests.{eqb-true, ltb-true, lt-ltb}
 use Rattle.ty.specs.Types.{ArgType, Primitive, Object, Array, Unknown, element, isConcrete}
 use Rattle.ty.specs.Words.{legalAtBase, legalType}
@@ -18,7 +18,7 @@ use Rattle.view.specs.View.{numbers}
 use Rattle.lattice.specs.Lattice.{World, Lawful, mostSpecificUpper}
 use Rattle.lattice.specs.Legality.{legal-base, legal-both, joinAll-legal, specific-legal}
 use Rattle.solving.specs.Ordered.{insert, Ascending}
-use Rattle.solving.specs.OrderedLaws.{insert-only, insert-length, insert-ascending}
+use Rattle.solving.specs.OrderedLaws.{insert-only, insert-length, insert-ascending, ascending-part, member-part}
 use Rattle.solving.specs.Orders.{bounds-total}
 use Rattle.solving.specs.Queue.{Distinct, Below, pigeon, below-more, enqueue-distinct, enqueue-below}
 use Rattle.solving.specs.Inserts.{New, all-keeps-of, run-keeps}
@@ -75,6 +75,16 @@ module _ (names n : ℕ) where
   -- TAKING THE FRONT KEEPS IT
   pub front-tidy : (root : ℕ) (t : Table) (q : List ℕ) → Tidy names n t (root ∷ q) → Tidy names n t q
   front-tidy root t q y = record { ascends = y .ascends; fits = y .fits; legal = y .legal; distinct = y .distinct .1; below = y .below .1 }
+
+  -- A PART OF A TIDY TABLE IS TIDY
+  pub part-tidy : (t : Table) (q : List ℕ) (a b : ℕ) → Tidy names n t q → Tidy names n (take b (drop a t)) q
+  part-tidy t q a b y = record {
+    ascends = ascending-part compareBounds bounds-total a b t (y .ascends);
+    fits = omega (arith, length-take b (drop a t), length-drop a t, y .fits);
+    legal = λ x m. y .legal x (member-part x a b t m);
+    distinct = y .distinct;
+    below = y .below;
+  }
 
 -- ---- over more names and components: code counts on the limits alone, `Tidy 1024 512`
 

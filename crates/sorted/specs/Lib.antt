@@ -2,3 +2,4 @@
 pub mod Sorted
 pub mod Laws
 pub mod Places
+pub mod Parts

@@ -3,12 +3,14 @@ use mathlib.Core.Path.{_≡_, refl, sym, ap, ap₂, _∙_, subst}
 use mathlib.Core.Bool.{Bool, true, false, cond}
 use mathlib.Core.List.{List, [], _∷_, map}
 use mathlib.Core.Option.{Option, some, none}
-use Prim.Native.Nat.{ℕ, _+_, _-_, _≤_, _<_}
+use Prim.Native.Nat.{ℕ, _+_, _-_, _^_, _≤_, _<_}
 use native.Mathlib.Omega.{arith}
 use native.Mathlib.Nat.{zero-add}
 use lib.ListN.{length, length-append, length-map, length-take, take, drop, getD}
-use lib.Seq.{paste, take-append-seam}
-use Rattle.sorted.specs.Sorted.{Sorted}
+use lib.Seq.{paste, take-append-seam, take-length}
+use Rattle.sorted.specs.declared.Span.{Span}
+use Rattle.sorted.specs.Sorted.{Sorted, runOf}
+use Rattle.sorted.specs.Parts.{part, part-sorted, part-length}
 use Rattle.tables.specs.declared.Tables.{Tables}
 use Rattle.prepared.specs.Prepared.{Prepared}
 use Rattle.ty.specs.declared.MaybeType.{MaybeType}
@@ -26,7 +28,8 @@ use Rattle.solving.specs.Queue.{Below}
 use Rattle.solving.specs.Ordered.{After, Ascending}
 use Rattle.solving.specs.Tidy.{Tidy}
 use Rattle.solving.specs.TableKeys.{keysOf, boundOf, AllKeyed, tidy-keyed, keys-sorted, table-back}
-use Rattle.solving.specs.Solving.{Fallback, Upper, Lower, Exact, Table, TypeState, Links, Addition, stateOf, typesOf, evidence, producedType, listOf, arrayElement, producedArray, additions, orElse, room}
+use Rattle.solving.specs.Solving.{Fallback, Upper, Lower, Exact, Table, TypeState, Links, Addition, partners, stateOf, typesOf, evidence, producedType, listOf, arrayElement, producedArray, additions, orElse, room}
+use Rattle.copying.specs.Own.{ownIn, own-run, own-uppers, own-within, own-is, ownTable, own-keys, own-tidy, own-state}
 use Rattle.copying.specs.Copies.{runIn, rankIn, wordIn, ranksIn, wordsIn, evidenceIn, uppersIn}
 use Rattle.sending.specs.Sending.{LegalMaybe, sentMaybe, sentElement, sentArray}
 use Rattle.sending.specs.Laws.{maybe-legal}
@@ -41,6 +44,9 @@ use Rattle.inserting.specs.declared.Sent.{Sent}
 use Rattle.inserting.specs.declared.Sent.the-variants.{Nothing as NoType}
 use Rattle.inserting.specs.Store.{Store, store, putAll, sentTypes, AllRanked, Sendable, Good, Ready}
 use Rattle.passing.specs.Alike.{Alike}
+use Rattle.passing.specs.Steps.{run-inside}
+use Rattle.solving.specs.LinkKeys.{pairOf, partners-own}
+use Rattle.solving.specs.Steps.{additions-by}
 use Rattle.rules.specs.Rules.{linksIn, allRules}
 use Rattle.rules.specs.Turn.{Copied, rules-additions}
 use Rattle.keys.specs.Rank.{unrank}
@@ -115,21 +121,21 @@ module _ (pairs marks : List ℕ) (t : Tables) (keys : List ℕ) (y : Asks pairs
   -- as code meets them: the part of the words that a copy wrote
   module _ (words out : List ℕ) (m : ℕ) where
     module _ (e : m ≡ length (evidenceIn root keys)) (f : out ≡ paste words 0 (wordsIn (evidenceIn root keys)) (length (evidenceIn root keys))) where
-      part : take (m - 0) out ≡ wordsIn (evidenceIn root keys)
-      part = front-words words out (wordsIn (evidenceIn root keys)) (length (evidenceIn root keys)) m (sym (length-map (evidenceIn root keys) wordIn)) e f
+      evidence-part : take (m - 0) out ≡ wordsIn (evidenceIn root keys)
+      evidence-part = front-words words out (wordsIn (evidenceIn root keys)) (length (evidenceIn root keys)) m (sym (length-map (evidenceIn root keys) wordIn)) e f
 
       pub part-legal : AllLegal t (take (m - 0) out)
-      part-legal = subst (AllLegal t) (sym part) evidence-words
+      part-legal = subst (AllLegal t) (sym evidence-part) evidence-words
 
       pub part-ascends : Ascend (map typeOf (take (m - 0) out))
       unfolding stateOf
       part-ascends =
-          subst (λ (l : List ℕ). Ascend (map typeOf l)) (sym part)
+          subst (λ (l : List ℕ). Ascend (map typeOf l)) (sym evidence-part)
           (subst Ascend (sym (evidence-is ∙ ap (λ (s : TypeState). evidence (s .exact) (s .lower)) asks-state)) (ascend-of (evidence (typesOf root Exact (y .table)) (typesOf root Lower (y .table))) (evidence-ascends root (y .table) (y .tidy .ascends))))
 
       pub part-produces : maybeWord (joinAll w (map typeOf (take (m - 0) out))) ≡ maybeWord (producedType w (stateIn keys root))
       unfolding producedType
-      part-produces = ap (λ (l : List ArgType). maybeWord (joinAll w l)) (ap (map typeOf) part ∙ evidence-is)
+      part-produces = ap (λ (l : List ArgType). maybeWord (joinAll w l)) (ap (map typeOf) evidence-part ∙ evidence-is)
 
     module _ (e : m ≡ 0 + length (runIn root Upper keys)) (f : out ≡ paste words 0 (wordsIn (runIn root Upper keys)) (length (runIn root Upper keys))) where
       upper-part : take (m - 0) out ≡ wordsIn (runIn root Upper keys)
@@ -209,6 +215,53 @@ module _ (pairs marks : List ℕ) (t : Tables) (keys : List ℕ) (y : Asks pairs
       whole : MaybeType
       whole = maybeWord (orElse (producedType (worldOf pairs marks t) (stateIn keys root)) (mostSpecificUpper (worldOf pairs marks t) (stateIn keys root .upper)))
 
+-- ---- from the component's own keys
+
+module _ (pairs marks : List ℕ) (t : Tables) (keys : List ℕ) (y : Asks pairs marks t keys) (root : ℕ) where
+  table-sorted : Sorted (keysOf (y .table))
+  table-sorted = subst Sorted (y .held) (asks-sorted pairs marks t keys y root)
+
+  -- they can be asked
+  own-asks : Asks pairs marks t (ownIn root keys)
+  own-asks = record {
+    lawful = y .lawful;
+    long = y .long;
+    fits = y .fits;
+    components = y .components;
+    table = ownTable (t .names) (y .components) (y .table) (y .queue) (y .fits .0) (y .tidy) table-sorted root;
+    queue = y .queue;
+    held = ap (ownIn root) (y .held) ∙ own-keys (t .names) (y .components) (y .table) (y .queue) (y .fits .0) (y .tidy) table-sorted root;
+    tidy = own-tidy (t .names) (y .components) (y .table) (y .queue) (y .fits .0) (y .tidy) table-sorted root;
+  }
+
+  same-state : stateIn (ownIn root keys) root ≡ stateIn keys root
+  unfolding own-asks
+  same-state =
+      asks-state pairs marks t (ownIn root keys) own-asks root
+      ∙ own-state (t .names) (y .components) (y .table) (y .queue) (y .fits .0) (y .tidy) table-sorted root
+      ∙ sym (asks-state pairs marks t keys y root)
+
+  same-gathered : (k : Asked) (v : World) → gatheredOf k v (ownIn root keys) root ≡ gatheredOf k v keys root
+  same-gathered k v =
+      let o = asks-sorted pairs marks t keys y root in
+      let f = own-run root keys o Fallback (omega arith) in
+      let u = own-uppers root keys o in
+      λ i. record {
+        produced = sentMaybe (onlyIf (k .produced) (maybeWord (producedType v (same-state i))));
+        element = sentElement (onlyIf (k .element) (maybeWord (orElse (producedType v (same-state i)) (mostSpecificUpper v (same-state i .upper)))));
+        array = sentArray (onlyIf (k .produced) (maybeWord (producedType v (same-state i))));
+        fallbacks = length (f i);
+        uppers = length (u i);
+      }
+
+  own-gathers : (k : Asked) (v : World) (g : Gathered) (fs fs′ us us′ : List ℕ) → Gathers k v (ownIn root keys) root g fs fs′ us us′ → Gathers k v keys root g fs fs′ us us′
+  own-gathers k v g fs fs′ us us′ z =
+      let o = asks-sorted pairs marks t keys y root in (
+        z .0 ∙ same-gathered k v,
+        z .1 ∙ ap (λ (xs : List ℕ). paste fs 0 (ranksIn xs) (length xs)) (own-run root keys o Fallback (omega arith)),
+        z .2 ∙ ap (λ (xs : List ℕ). paste us 0 (ranksIn xs) (length xs)) (own-uppers root keys o),
+      )
+
 -- WHAT A TURN ASKS
 pub record Turnable (pairs marks : List ℕ) (t : Tables) (s : Store) (words fallbacks uppers flows incoming reads writes : List ℕ) : Type 0 where
   pub lawful : Lawful (worldOf pairs marks t)
@@ -230,17 +283,47 @@ pub record Turnable (pairs marks : List ℕ) (t : Tables) (s : Store) (words fal
 module _ (pairs marks : List ℕ) (t : Tables) (a ring : List ℕ) (s : State) (words fallbacks uppers flows incoming reads writes : List ℕ)
     (y : Turnable pairs marks t (store a ring s) words fallbacks uppers flows incoming reads writes) where
   abbrev pub keysIn : List ℕ
-  keysIn = take (s .count - 0) a
+  keysIn = take (s .count) a
 
   keys-held : keysIn ≡ keysOf (y .table)
-  keys-held = ap (λ (n : ℕ). take n a) (let z : s .count - 0 ≡ s .count = omega arith in z) ∙ y .good .holds .keys
+  keys-held = y .good .holds .keys
 
-  -- what gathering asks
-  pub turn-asks : Asks pairs marks t keysIn
-  turn-asks = record { lawful = y .lawful; long = y .long; fits = y .fits; components = y .components; table = y .table; queue = y .queue; held = keys-held; tidy = y .tidy }
+  whole-asks : Asks pairs marks t keysIn
+  whole-asks = record { lawful = y .lawful; long = y .long; fits = y .fits; components = y .components; table = y .table; queue = y .queue; held = keys-held; tidy = y .tidy }
 
-  pub turn-short : length keysIn ≤ room
-  turn-short = let l = length-take (s .count - 0) a in let z = y .good .holds .size in omega arith
+  whole-short : length keysIn ≤ room
+  whole-short = let l = length-take (s .count) a in let z = y .good .holds .size in omega arith
+
+  -- the component's own keys, as they are cut out of the table
+  module _ (root : ℕ) (r : Span) (i : r ≡ runOf (2 ^ 55) root keysIn) where
+    abbrev pub ownKeys : List ℕ
+    ownKeys = part (r .first) (r .past) a
+
+    count-inside : s .count ≤ length a
+    count-inside = omega (arith, y .good .holds .count, y .good .holds .size, y .tidy .fits)
+
+    keys-sorted-in : Sorted keysIn
+    keys-sorted-in = asks-sorted pairs marks t keysIn whole-asks root
+
+    own-part : ownKeys ≡ ownIn root keysIn
+    own-part = own-is root (s .count) a keys-sorted-in count-inside r i
+
+    pub turn-cut : (r .first ≤ r .past) × (r .past ≤ length a)
+    turn-cut =
+        let w = own-within root (s .count) a keys-sorted-in count-inside r i in
+        (w .0, omega (arith, w .1, count-inside))
+
+    -- what gathering asks
+    pub turn-asks : Asks pairs marks t ownKeys
+    turn-asks = subst (Asks pairs marks t) (sym own-part) (own-asks pairs marks t keysIn whole-asks root)
+
+    pub turn-short : length ownKeys ≤ room
+    turn-short = omega (arith, part-length (r .first) (r .past) a (turn-cut .1), turn-cut .1, y .good .holds .size)
+
+    -- WHAT IS GATHERED FROM THEM IS WHAT THE WHOLE TABLE GIVES
+    pub turn-gathers : (k : Asked) (v : World) (g : Gathered) (fs fs′ us us′ : List ℕ) → Gathers k v ownKeys root g fs fs′ us us′ → Gathers k v keysIn root g fs fs′ us us′
+    turn-gathers k v g fs fs′ us us′ z =
+        own-gathers pairs marks t keysIn whole-asks root k v g fs fs′ us us′ (subst (λ (keys : List ℕ). Gathers k v keys root g fs fs′ us us′) own-part z)
 
   pub turn-ready : Ready (store a ring s)
   turn-ready = record { table = y .table; queue = y .queue; good = y .good }
@@ -267,8 +350,8 @@ module _ (pairs marks : List ℕ) (t : Tables) (a ring : List ℕ) (s : State) (
         ∙ ap (λ (k : List ℕ). ranksIn (uppersIn root k)) keys-held
 
     same : stateIn keysIn root ≡ st
-    unfolding turn-asks
-    same = asks-state pairs marks t keysIn turn-asks root
+    unfolding whole-asks
+    same = asks-state pairs marks t keysIn whole-asks root
 
     -- what would be sent of the whole state
     abbrev producedSent : Sent
@@ -342,10 +425,10 @@ module _ (pairs marks : List ℕ) (t : Tables) (a ring : List ℕ) (s : State) (
     -- the copies are within their slices
     pub turn-within : (g .fallbacks ≤ room) × (g .uppers ≤ room)
     turn-within =
-        let o = asks-sorted pairs marks t keysIn turn-asks root in
+        let o = asks-sorted pairs marks t keysIn whole-asks root in
         let i = ap (λ (x : Gathered). x .fallbacks) e in
         let j = ap (λ (x : Gathered). x .uppers) e in
-        let k = turn-short in
+        let k = whole-short in
         let l = length-append (runIn root Upper keysIn) (runIn root Exact keysIn) in
         (omega (arith, run-short root Fallback keysIn o), omega (arith, two-short root Upper Exact keysIn o (omega arith)))
 
@@ -356,5 +439,45 @@ module _ (pairs marks : List ℕ) (t : Tables) (a ring : List ℕ) (s : State) (
         ap (λ (l : List Addition). putAll l z)
         (rules-asked flows incoming reads writes root (take (g .fallbacks - 0) fs) (take (g .uppers - 0) us) (g .produced) producedSent (g .element) elementSent (g .array) arraySent produced-asked element-asked)
         ∙ rules-additions v flows incoming reads writes root st producedSent (take (g .fallbacks - 0) fs) (take (g .uppers - 0) us) elementSent arraySent copied z
-        ∙ ap (λ (x : TypeState). putAll (additions v (linksIn flows incoming reads writes) root x) z)
-        (sym same ∙ ap (λ (n : ℕ). stateIn (take n a) root) (let q : s .count - 0 ≡ s .count = omega arith in q))
+        ∙ ap (λ (x : TypeState). putAll (additions v (linksIn flows incoming reads writes) root x) z) (sym same)
+
+-- ---- over the component's own flows
+
+module _ (pairs marks : List ℕ) (t : Tables) (s : Store) (words fallbacks uppers flows incoming reads writes : List ℕ)
+    (y : Turnable pairs marks t s words fallbacks uppers flows incoming reads writes) (root : ℕ)
+    (r : Span) (e : r ≡ runOf 512 root (take (length flows) flows)) where
+  abbrev pub ownFlows : List ℕ
+  ownFlows = part (r .first) (r .past) flows
+
+  pub flows-cut : (r .first ≤ r .past) × (r .past ≤ length flows)
+  flows-cut = run-inside root flows (y .flows-sorted) r e
+
+  -- WHAT A TURN ASKS HOLDS OF THEM
+  pub flows-turnable : Turnable pairs marks t s words fallbacks uppers ownFlows incoming reads writes
+  flows-turnable = record {
+    lawful = y .lawful;
+    long = y .long;
+    fits = y .fits;
+    components = y .components;
+    table = y .table;
+    queue = y .queue;
+    good = y .good;
+    tidy = y .tidy;
+    words-room = y .words-room;
+    fallbacks-room = y .fallbacks-room;
+    uppers-room = y .uppers-room;
+    flows-sorted = part-sorted (r .first) (r .past) flows (y .flows-sorted);
+    incoming-sorted = y .incoming-sorted;
+    reads-below = y .reads-below;
+    writes-below = y .writes-below;
+  }
+
+  own-partners : partners root (map pairOf ownFlows) ≡ partners root (map pairOf flows)
+  own-partners =
+      ap (λ (z : Span). partners root (map pairOf (part (z .first) (z .past) flows))) (e ∙ ap (runOf 512 root) (take-length flows)) ∙ partners-own root flows (y .flows-sorted)
+
+  -- AND THE TURN OVER THEM IS THE TURN
+  pub flows-turned : turned (worldOf pairs marks t) (linksIn ownFlows incoming reads writes) root s ≡ turned (worldOf pairs marks t) (linksIn flows incoming reads writes) root s
+  flows-turned =
+      ap (λ (l : List Addition). putAll l s)
+      (additions-by (worldOf pairs marks t) root (stateIn (take (s .state .count) (s .cells)) root) (linksIn ownFlows incoming reads writes) (linksIn flows incoming reads writes) own-partners refl refl refl)

@@ -1,4 +1,5 @@
-// A turn: what a component's state gives, from its copy and as far as a link asks for it, and the rules that send it on.
+// A turn: what a component's state gives, from its copy and as far as a link asks for it, and the rules that send it on. The component's own
+// keys and its own flows are each read several times, so they are cut out once.
 use asking::Asked;
 use asking::asks;
 use candidates::most_specific_upper;
@@ -9,6 +10,7 @@ use copying::copy_words;
 use inserting::Sent;
 use inserting::State;
 use joins::join_all;
+use keys::COMPONENT;
 use rules::pass_rules;
 use sending::send_array;
 use sending::send_element;
@@ -128,7 +130,7 @@ pub struct Gathered {
     pub uppers: usize,
 }
 
-// From the keys of the table, which are only read here.
+// From the component's own keys, which are only read here.
 fn gather(
     k: Asked,
     pairs: &[u64],
@@ -179,9 +181,25 @@ pub fn turn(
     requires { ⌜ Turnable (now pairs) (now marks) t (store (now a) (now ring) s) (now words) (now fallbacks) (now uppers) (now flows) (now incoming) (now reads) (now writes) × (root < 512) ⌝ }
     ensures { λ r. ⌜ store (now (a .exit)) (now (ring .exit)) r ≡ turned (worldOf (now (pairs .entry)) (now (marks .entry)) t) (linksIn (now (flows .entry)) (now (incoming .entry)) (now (reads .entry)) (now (writes .entry))) root (store (now (a .entry)) (now (ring .entry)) s) ⌝ }
 {
-    let n = s.count;
-    let k = asks(flows, reads, writes, root);
-    let g = gather(k, pairs, marks, t, &a[0..n], root, words, fallbacks, uppers);
+    let to = sorted::run(flows, flows.len(), 512, root);
+    let of = sorted::run(a, s.count, COMPONENT, root);
+    let from = to.first;
+    let end = to.past;
+    let first = of.first;
+    let past = of.past;
+    let targets = &flows[from..end];
+    let k = asks(targets, reads, writes, root);
+    let g = gather(
+        k,
+        pairs,
+        marks,
+        t,
+        &a[first..past],
+        root,
+        words,
+        fallbacks,
+        uppers,
+    );
     let f = g.fallbacks;
     let u = g.uppers;
     let produced = g.produced;
@@ -191,7 +209,7 @@ pub fn turn(
         a,
         ring,
         s,
-        flows,
+        targets,
         incoming,
         reads,
         writes,
