@@ -57,11 +57,17 @@ fn run(input: &mut [u8], counts: &mut [u64]) {
     let n = io::read_full(libc::STDIN_FILENO, input);
     report::note_full(counts, n == input.len());
     each_line(&input[..n], counts);
-    report::print(&NAMES, counts);
+}
+
+fn print(counts: &[u64], out: &mut [u8]) {
+    let n = report::put(&NAMES, counts, out);
+    io::write_all(libc::STDOUT_FILENO, &out[..n]);
 }
 
 fn main() {
     let mut input = cases::room();
     let mut counts = [0u64; 128];
+    let mut out = [0u8; report::ROOM];
     run(&mut input, &mut counts);
+    print(&counts, &mut out);
 }

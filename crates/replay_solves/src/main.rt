@@ -133,7 +133,11 @@ fn run(input: &mut [u8], table: &mut [u64], store: &mut [u8], counts: &mut [u64]
     let n = io::read_full(libc::STDIN_FILENO, input);
     report::note_full(counts, n == input.len());
     each_line(&input[..n], table, store, counts);
-    report::print(&NAMES, counts);
+}
+
+fn print(counts: &[u64], out: &mut [u8]) {
+    let n = report::put(&NAMES, counts, out);
+    io::write_all(libc::STDOUT_FILENO, &out[..n]);
 }
 
 fn main() {
@@ -141,5 +145,7 @@ fn main() {
     let mut table = [0u64; 1600];
     let mut store = [0u8; 2048];
     let mut counts = [0u64; 128];
+    let mut out = [0u8; report::ROOM];
     run(&mut input, &mut table, &mut store, &mut counts);
+    print(&counts, &mut out);
 }

@@ -1,2 +1,3 @@
--- Laws for the loops and the verdicts.
+-- Laws for the loops, the lists and the verdicts; and the theorems that each contract allows one outcome.
 mod Steps
+pub mod Unique

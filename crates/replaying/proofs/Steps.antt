@@ -1,4 +1,4 @@
--- What the loops and the verdicts go by, stated as the code meets it. Assumes nothing.
+-- What the loops, the lists and the verdicts go by, stated as the code meets it. Assumes nothing.
 use mathlib.Core.Bool.{Bool, true, false, cond, true≢false}
 use mathlib.Core.List.{List}
 use mathlib.Core.Logic.{_↔_}
@@ -7,10 +7,11 @@ use Prim.Native.Nat.{ℕ, _+_, _%_, _^_, _≤_, _<_}
 use native.Mathlib.Decide.{ℕ-discrete}
 use native.Mathlib.Omega.{arith}
 use lib.Dec.{eqb, leb}
-use borrow.Author.Tests.{eq-eqb, ne-eqb, le-leb, lt-leb}
+use borrow.Author.Tests.{eq-eqb, ne-eqb, lt-ltb, le-ltb, le-leb, lt-leb}
 use lib.ListN.{length, getD, set}
 use lib.Seq.{ext-getD, set-out}
-use Rattle.replaying.specs.Replaying.{verdict, more, tallied, counted}
+use Rattle.replaying.specs.Replaying.{endOf, lastEnd, span, afterOf, verdict, Judges, more, tallied, counted}
+use Rattle.replaying.specs.declared.lists.Span.{Span}
 use Rattle.replaying.specs.declared.answers.Verdict.{Verdict}
 use Rattle.replaying.specs.declared.answers.Verdict.the-variants.{Agrees, Differs, Unread}
 
@@ -53,11 +54,53 @@ isAgrees Agrees = true
 isAgrees Differs = false
 isAgrees Unread = false
 
--- the verdict on a comparison that tells whether P says whether P
-pub agrees-if : {P : Type 0} (r : Verdict) (b : Bool) → r ≡ verdict b → (b ≡ true) ↔ P → (r ≡ Agrees) ↔ P
+agrees-differs : (r : Verdict) → r ≡ Agrees → r ≡ Differs → ⊥
 unfolding isAgrees
-agrees-if r true e f = (λ q. f .0 refl, λ p. e)
-agrees-if r false e f = (λ q. absurd (true≢false (sym (ap isAgrees (sym e ∙ q)))), λ p. absurd (true≢false (sym (f .1 p))))
+agrees-differs r p q = true≢false (ap isAgrees (sym p ∙ q))
+
+-- the verdict on a comparison that tells whether P says whether P
+pub judges-if : {P : Type 0} (r : Verdict) (b : Bool) → r ≡ verdict b → (b ≡ true) ↔ P → Judges P r
+judges-if r true e f = ((λ q. f .0 refl, λ p. e), (λ q. absurd (agrees-differs r e q), λ n. absurd (n (f .0 refl))))
+judges-if r false e f = ((λ q. absurd (agrees-differs r q e), λ p. absurd (true≢false (sym (f .1 p)))), (λ q p. true≢false (sym (f .1 p)), λ n. e))
+
+-- ---- lists
+
+pub end-none : (a : List ℕ) (at : ℕ) → length a ≤ at + getD a at 0 → 0 ≡ endOf a at
+unfolding endOf
+end-none a at h = sym (rw (le-ltb (at + getD a at 0) (length a) h))
+
+pub end-some : (a : List ℕ) (at : ℕ) → at + getD a at 0 < length a → at + 1 + getD a at 0 ≡ endOf a at
+unfolding endOf
+end-some a at h = sym (rw (lt-ltb (at + getD a at 0) (length a) h))
+
+pub last-none : (a : List ℕ) (at more e : ℕ) → e ≡ endOf a at → (e + more ≡ length a → ⊥) → 0 ≡ lastEnd a at more
+unfolding lastEnd
+last-none a at more e q n = sym (rw (← q, ne-eqb (e + more) (length a) n))
+
+pub last-some : (a : List ℕ) (at more e : ℕ) → e ≡ endOf a at → e + more ≡ length a → e ≡ lastEnd a at more
+unfolding lastEnd
+last-some a at more e q h = sym (rw (← q, eq-eqb (e + more) (length a) h))
+
+-- an end that is not past the place is none
+pub none-at : (e at n : ℕ) → e ≤ at → ((e ≡ 0 → ⊥) → e ≡ at + 1 + n) → e ≡ 0
+none-at e at n h w = go (ℕ-discrete e 0)
+  where
+    go : Dec (e ≡ 0) → e ≡ 0
+    go (yes z) = z
+    go (no k) = let q = w k in omega arith
+
+pub after-none : (a : List ℕ) (s : Span) → s .start ≡ 0 → span 0 0 ≡ afterOf a s
+unfolding afterOf
+after-none a s z = sym (rw (eq-eqb (s .start) 0 z))
+
+module _ (a : List ℕ) (s : Span) (n : s .start ≡ 0 → ⊥) (e : ℕ) (q : e ≡ endOf a (s .end)) where
+  pub after-broken : e ≡ 0 → span 0 0 ≡ afterOf a s
+  unfolding afterOf
+  after-broken z = sym (rw (ne-eqb (s .start) 0 n, ← q, eq-eqb e 0 z))
+
+  pub after-whole : (e ≡ 0 → ⊥) → span (s .end + 1) e ≡ afterOf a s
+  unfolding afterOf
+  after-whole h = sym (rw (ne-eqb (s .start) 0 n, ← q, ne-eqb e 0 h))
 
 -- ---- counts
 

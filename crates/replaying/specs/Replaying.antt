@@ -1,9 +1,10 @@
 -- What the contracts cite: parts of a text, lists among numbers, and what a verdict does to the counts. Assumes nothing.
 use mathlib.Core.Bool.{Bool, cond}
 use mathlib.Core.List.{List}
+use mathlib.Core.Logic.{_↔_}
 use mathlib.Core.Path.{_≡_}
 use Prim.Native.Nat.{ℕ, _+_, _-_, _*_, _%_, _^_, _≤_, _<_}
-use lib.Dec.{eqb, leb}
+use lib.Dec.{eqb, ltb, leb}
 use lib.ListN.{length, getD, set}
 use Rattle.replaying.specs.declared.lists.Span.{Span}
 use Rattle.replaying.specs.declared.answers.Verdict.{Verdict}
@@ -17,13 +18,23 @@ pub record Part (text : List ℕ) (from b r : ℕ) : Type 0 where
   pub ends : r < length text → getD text r 0 ≡ b
   pub before : (k : ℕ) → from ≤ k → k < r → getD text k 0 ≡ b → ⊥
 
+-- the end of the list at a place, its length and its members; 0 where it is not whole
+unfoldable pub endOf : List ℕ → ℕ → ℕ
+endOf a at = cond (ltb (at + getD a at 0) (length a)) (at + 1 + getD a at 0) 0
+
+-- the same where exactly so many numbers follow it, else 0
+unfoldable pub lastEnd : List ℕ → ℕ → ℕ → ℕ
+lastEnd a at more = cond (eqb (endOf a at + more) (length a)) (endOf a at) 0
+
 -- r is the end of the list at a place, its length and its members, or 0
 pub record ListEnd (a : List ℕ) (at r : ℕ) : Type 0 where
+  pub is : r ≡ endOf a at
   pub inside : r ≤ length a
   pub whole : (r ≡ 0 → ⊥) → r ≡ at + 1 + getD a at 0
 
 -- the same, and so many numbers follow
 pub record LastEnd (a : List ℕ) (at more r : ℕ) : Type 0 where
+  pub is : r ≡ lastEnd a at more
   pub inside : r ≤ length a - more
   pub whole : (r ≡ 0 → ⊥) → (r ≡ at + 1 + getD a at 0) × (r + more ≡ length a)
 
@@ -31,8 +42,16 @@ pub record LastEnd (a : List ℕ) (at more r : ℕ) : Type 0 where
 abbrev pub Inside : Span → ℕ → Type 0
 Inside s n = (s .start ≤ s .end) × (s .end ≤ n)
 
+abbrev pub span : ℕ → ℕ → Span
+span start end = record { start = start; end = end }
+
+-- where the members of the list after s stand; both 0 where it is not whole, and after none
+unfoldable pub afterOf : List ℕ → Span → Span
+afterOf a s = cond (eqb (s .start) 0) (span 0 0) (cond (eqb (endOf a (s .end)) 0) (span 0 0) (span (s .end + 1) (endOf a (s .end))))
+
 -- r is where the members of the list after s stand, or both its numbers are 0
 pub record After (a : List ℕ) (s r : Span) : Type 0 where
+  pub is : r ≡ afterOf a s
   pub ordered : r .start ≤ r .end
   pub inside : r .end ≤ length a
   pub whole : (r .start ≡ 0 → ⊥) → (r .start ≡ s .end + 1) × (r .end ≡ s .end + 1 + getD a (s .end) 0)
@@ -40,6 +59,10 @@ pub record After (a : List ℕ) (s r : Span) : Type 0 where
 -- the verdict on a comparison
 abbrev pub verdict : Bool → Verdict
 verdict agrees = cond agrees Agrees Differs
+
+-- r says whether P holds
+abbrev pub Judges : Type 0 → Verdict → Type 0
+Judges P r = ((r ≡ Agrees) ↔ P) × ((r ≡ Differs) ↔ (P → ⊥))
 
 -- one more at a place of the counts, none past their end
 unfoldable pub more : ℕ → List ℕ → List ℕ

@@ -3,8 +3,7 @@ ghost use mathlib.Core.Bool.{true, cond};
 ghost use mathlib.Core.List.{[], _∷_};
 ghost use mathlib.Core.Logic.{_↔_};
 ghost use mathlib.Core.Path.{_≡_};
-ghost use Rattle.replaying.specs.Replaying.{verdict};
-ghost use Rattle.replaying.specs.declared.answers.Verdict.the-variants.{Agrees};
+ghost use Rattle.replaying.specs.Replaying.{verdict, Judges};
 
 // Whether they agree; Unread where a line is no case or the arguments are not in the function's form.
 pub enum Verdict {
@@ -51,13 +50,13 @@ pub fn is_same(said: &[u64], recorded: &[u64]) -> bool
 }
 
 pub fn all(said: &[u64], recorded: &[u64]) -> Verdict
-    ensures { λ r. ⌜ (r ≡ Agrees) ↔ (now (said .entry) ≡ now (recorded .entry)) ⌝ }
+    ensures { λ r. ⌜ Judges (now (said .entry) ≡ now (recorded .entry)) r ⌝ }
 {
     judged(is_same(said, recorded))
 }
 
 pub fn one(said: u64, recorded: &[u64]) -> Verdict
-    ensures { λ r. ⌜ (r ≡ Agrees) ↔ (said ∷ [] ≡ now (recorded .entry)) ⌝ }
+    ensures { λ r. ⌜ Judges (said ∷ [] ≡ now (recorded .entry)) r ⌝ }
 {
     all(&[said], recorded)
 }

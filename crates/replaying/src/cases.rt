@@ -5,7 +5,7 @@ use crate::report::UNREAD;
 use crate::text;
 ghost use mathlib.Core.Path.{_≡_};
 ghost use Prim.Native.Nat.{_≤_};
-ghost use lib.ListN.{length};
+ghost use lib.ListN.{length, replicate};
 
 // The place of the name among the names; how many numbers there are, and how many of them are arguments.
 pub struct Case {
@@ -191,9 +191,9 @@ fn no_case(place: usize) -> Case
     }
 }
 
-// Room for a whole input. The contract gives the length, which lending the array needs.
+// Room for a whole input. The contract gives the length too, which lending the array needs.
 pub fn room() -> [u8; 1048576]
-    ensures { λ r. ⌜ 1048576 ≡ length r ⌝ }
+    ensures { λ r. ⌜ (1048576 ≡ length r) × (r ≡ replicate 1048576 0) ⌝ }
 {
     [0; 1048576]
 }

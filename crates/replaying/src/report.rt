@@ -1,17 +1,25 @@
-// Counts, two for each function: the cases that agree, and all. The last is that of lines that are no case.
+// Counts, two for each function: the cases that agree, and all. The last is that of lines that are no case. And the report of them, into a
+// lent buffer.
 use crate::answers::Verdict;
-use crate::text;
-use libc::STDOUT_FILENO;
+use lineout::put_byte;
+use lineout::put_decimal;
 ghost use mathlib.Core.Bool.{cond};
+ghost use mathlib.Core.List.{[], _∷_};
 ghost use mathlib.Core.Path.{_≡_};
-ghost use Prim.Native.Nat.{_<_};
+ghost use Prim.Native.Nat.{_+_, _*_, _≤_, _<_};
+ghost use lib.ListN.{length, getD};
+ghost use Rattle.lineout.specs.Printed.{Puts};
 ghost use Rattle.replaying.specs.Replaying.{more, tallied, counted};
+ghost use Rattle.replaying.specs.Report.{field, countsText, countsOf, nextText, nextName, namesText, namesIn, total, sumsOf, unreadAll, reportIn};
 
 // The most functions of a program, and the place that stands for lines that are no case.
 pub(crate) const UNREAD: usize = 63;
 
 // The place that stands for lines that are to be none.
 pub(crate) const COMMENT: usize = 64;
+
+// Room for the report of names of at most 128 bytes.
+pub const ROOM: usize = 8192;
 
 // One more at an index of the counts.
 fn one_more(counts: &mut [u64], at: usize)
@@ -59,41 +67,134 @@ pub fn note_full(counts: &mut [u64], is_full: bool)
     }
 }
 
-fn print_counts(agree: u64, all: u64) {
-    io::write_all(STDOUT_FILENO, b" ");
-    io::print_decimal(STDOUT_FILENO, agree);
-    io::write_all(STDOUT_FILENO, b" ");
-    io::print_decimal(STDOUT_FILENO, all);
-    io::write_all(STDOUT_FILENO, b"\n");
-}
-
 // The count at an index, 0 past the end.
-fn count_at(counts: &[u64], i: usize) -> u64 {
+fn count_at(counts: &[u64], i: usize) -> u64
+    ensures { λ r. ⌜ r ≡ getD (now (counts .entry)) i 0 ⌝ }
+{
     if i < counts.len() {
         return counts[i];
     }
     0
 }
 
-// A line for each name, one for lines that are no case, and one for all.
-pub fn print(names: &[u8], counts: &[u64]) {
-    let mut agree: u64 = 0;
-    let mut total: u64 = count_at(counts, 127);
+// A blank and a number.
+fn put_field(out: &mut [u8], at: usize, n: u64) -> usize
+    requires { ⌜ at + 21 ≤ length (now out) ⌝ }
+    ensures { λ r. ⌜ Puts (field n) at (now (out .entry)) (now (out .exit)) r × (r ≤ at + 21) ⌝ }
+{
+    let m = put_byte(out, at, b' ');
+    put_decimal(out, m, n)
+}
+
+// The counts behind a name, and the end of its line.
+fn put_counts(out: &mut [u8], at: usize, agree: u64, all: u64) -> usize
+    requires { ⌜ at + 43 ≤ length (now out) ⌝ }
+    ensures { λ r. ⌜ Puts (countsText agree all) at (now (out .entry)) (now (out .exit)) r × (r ≤ at + 43) ⌝ }
+{
+    let m = put_field(out, at, agree);
+    let n = put_field(out, m, all);
+    put_byte(out, n, b'\n')
+}
+
+// Those of name k.
+fn put_name_counts(out: &mut [u8], at: usize, counts: &[u64], k: usize) -> usize
+    requires { ⌜ (at + 43 ≤ length (now out)) × (k ≤ 128) ⌝ }
+    ensures { λ r. ⌜ Puts (countsOf (now (counts .entry)) k) at (now (out .entry)) (now (out .exit)) r × (r ≤ at + 43) ⌝ }
+{
+    let agree = count_at(counts, 2 * k);
+    let all = count_at(counts, 2 * k + 1);
+    put_counts(out, at, agree, all)
+}
+
+// One byte of the names: a blank ends name k.
+fn put_next(out: &mut [u8], at: usize, b: u8, counts: &[u64], k: usize) -> usize
+    requires { ⌜ (at + 43 ≤ length (now out)) × (k ≤ 128) ⌝ }
+    ensures { λ r. ⌜ Puts (nextText (now (counts .entry)) k b) at (now (out .entry)) (now (out .exit)) r × (r ≤ at + 43) ⌝ }
+{
+    if b == b' ' {
+        return put_name_counts(out, at, counts, k);
+    }
+    put_byte(out, at, b)
+}
+
+// The name that the byte after b belongs to.
+fn next_name(k: usize, b: u8) -> usize
+    requires { ⌜ k ≤ 128 ⌝ }
+    ensures { λ r. ⌜ r ≡ nextName k b ⌝ }
+{
+    if b == b' ' {
+        return k + 1;
+    }
+    k
+}
+
+// A line for each name, with its counts.
+fn put_names(out: &mut [u8], at: usize, names: &[u8], counts: &[u64]) -> usize
+    requires { ⌜ (length (now names) ≤ 128) × (at + 43 * (length (now names) + 1) ≤ length (now out)) ⌝ }
+    ensures { λ r. ⌜ Puts (namesText (now (counts .entry)) 0 (now (names .entry))) at (now (out .entry)) (now (out .exit)) r × (r ≤ at + 43 * (length (now (names .entry)) + 1)) ⌝ }
+{
+    let mut k: usize = 0;
+    let mut m = at;
+    let mut i: usize = 0;
+    while i < names.len() {
+        let b = names[i];
+        m = put_next(out, m, b, counts, k);
+        k = next_name(k, b);
+        i += 1;
+    }
+    put_name_counts(out, m, counts, k)
+}
+
+// How many names these are.
+fn names_in(names: &[u8]) -> usize
+    requires { ⌜ length (now names) ≤ 128 ⌝ }
+    ensures { λ r. ⌜ (r ≡ namesIn (now (names .entry))) × (r ≤ 129) ⌝ }
+{
     let mut k: usize = 0;
     let mut i: usize = 0;
     while i < names.len() {
-        let e = text::part_end(names, i, b' ');
-        let a = count_at(counts, 2 * k);
-        let t = count_at(counts, 2 * k + 1);
-        io::write_all(STDOUT_FILENO, &names[i..e]);
-        print_counts(a, t);
-        agree = std::num::wrapping_add_u64(agree, a);
-        total = std::num::wrapping_add_u64(total, t);
-        k += 1;
-        i = e + 1;
+        k = next_name(k, names[i]);
+        i += 1;
     }
-    io::write_all(STDOUT_FILENO, b"unread");
-    print_counts(0, count_at(counts, 127));
-    io::write_all(STDOUT_FILENO, b"all");
-    print_counts(agree, total);
+    k + 1
+}
+
+// The first count of n functions, or the second, added up.
+fn sum(counts: &[u64], first: usize, n: usize) -> u64
+    requires { ⌜ (first ≤ 1) × (n ≤ 129) ⌝ }
+    ensures { λ r. ⌜ r ≡ total (now (counts .entry)) first n ⌝ }
+{
+    let mut s: u64 = 0;
+    let mut k: usize = 0;
+    while k < n {
+        s = std::num::wrapping_add_u64(s, count_at(counts, 2 * k + first));
+        k += 1;
+    }
+    s
+}
+
+// A line for lines that are no case, and one for all.
+fn put_sums(out: &mut [u8], at: usize, counts: &[u64], n: usize) -> usize
+    requires { ⌜ (at + 473 ≤ length (now out)) × (n ≤ 129) ⌝ }
+    ensures { λ r. ⌜ Puts (namesText (sumsOf (now (counts .entry)) n) 0 unreadAll) at (now (out .entry)) (now (out .exit)) r × (r ≤ at + 473) ⌝ }
+{
+    let unread = count_at(counts, 127);
+    let agree = sum(counts, 0, n);
+    let all = std::num::wrapping_add_u64(sum(counts, 1, n), unread);
+    put_names(out, at, b"unread all", &[0, unread, agree, all])
+}
+
+// The report of names with a blank between, to the front of a buffer; tells how long it is. Nothing and 0 for more than 128 bytes
+// of names, or a buffer of less than `ROOM`.
+pub fn put(names: &[u8], counts: &[u64], out: &mut [u8]) -> usize
+    ensures { λ r. ⌜ Puts (reportIn (now (names .entry)) (now (counts .entry)) (length (now (out .entry)))) 0 (now (out .entry)) (now (out .exit)) r × (r ≤ length (now (out .exit))) ⌝ }
+{
+    if 128 < names.len() {
+        return 0;
+    }
+    if out.len() < ROOM {
+        return 0;
+    }
+    let m = put_names(out, 0, names, counts);
+    put_sums(out, m, counts, names_in(names))
 }

@@ -6,7 +6,8 @@ use Prim.Native.Nat.{ℕ, suc, _+_}
 use lib.Dec.{eqb}
 use lib.ListN.{length, drop}
 use Rattle.tables.specs.declared.Tables.{Tables}
-use Rattle.rows.specs.Rows.{State}
+use Rattle.rows.specs.declared.Outcome.{Outcome}
+use Rattle.rows.specs.Rows.{State, Ran}
 use Rattle.rows.specs.Laws.{Sound}
 use Rattle.columns.specs.Columns.{placedRecord, recordRows}
 use Rattle.columns.specs.Given.{noMarks}
@@ -28,6 +29,10 @@ stopOf parents fs cs ats ls s = record { refusal = recordRows parents fs cs ats 
 -- names, and no record yet
 abbrev pub unrecorded : Tables → State
 unrecorded t = record { tables = t; keys = []; marks = noMarks }
+
+-- what rows come to, without the keys and marks
+abbrev pub cameTo : Ran → Outcome
+cameTo ran = record { refusal = ran .refusal; tables = ran .state .tables }
 
 -- columns of equal length
 abbrev pub Equal : List ℕ → List ℕ → List ℕ → List ℕ → Type 0

@@ -1,4 +1,4 @@
--- Laws of the records gone through, as the loop meets them; and that the tables stop where the rows do. Assumes nothing.
+-- Laws of the records gone through, as the loop meets them; that the tables stop where the rows do; and what a table says that is not refused. Assumes nothing.
 use mathlib.Core.Path.{_≡_, refl, sym, ap, ap₂, _∙_, subst}
 use mathlib.Core.Bool.{Bool, true, false, cond, not}
 use mathlib.Core.List.{List, [], _∷_, _++_}
@@ -11,23 +11,24 @@ use lib.Seq.{drop-cons}
 use borrow.Author.Tests.{eq-eqb, ne-eqb, eqb-true, eqb-false}
 use Rattle.checks.specs.Checks.{firstRefusal, else-zero, else-none}
 use Rattle.names.specs.Names.{nameOf, checkName, checkRow, checkRows}
+use Rattle.view.specs.View.{View}
 use Rattle.tables.specs.declared.Tables.{Tables}
 use Rattle.rows.specs.declared.Outcome.{Outcome}
-use Rattle.rows.specs.Rows.{objectName, noTables, withName, nameRow, State, stateOf, Ran}
+use Rattle.rows.specs.Rows.{noTables, withName, nameRow, State, stateOf, Ran, Fills}
 use Rattle.rows.specs.Laws.{Sound, name-refused}
-use Rattle.columns.specs.Columns.{inside, placedName, nameRows, placedRecord, recordRows, tableOf}
+use Rattle.columns.specs.Columns.{inside, placedName, nameRows, placedRecord, recordRows, tableOf, built}
 use Rattle.columns.specs.Laws.{name-inside, name-outside, name-placed, names-good, names-pairs, records-end, records-stop, records-step}
-use Rattle.columns.specs.Names.{inside-length, row-agrees, row-adds, names-agree, names-noted}
+use Rattle.columns.specs.Names.{inside-length, row-agrees, row-adds, names-agree}
 use Rattle.columns.specs.Given.{Given, evenLengths, even, noMarks, table}
-use Rattle.columns.specs.GivenLaws.{even-is}
 use Rattle.tableview.specs.TableRows.{rowsView, rowsIn, namesOf}
 use Rattle.tableview.specs.RowRefusals.{Pair, listed, rowChecks, recordsRefusal, tableRefusal}
-use Rattle.tableview.specs.Agrees.{noted-index}
+use Rattle.tableview.specs.Inner.{viewIn}
+use Rattle.tableview.specs.Agrees.{view-rows}
 use Rattle.tableview.specs.Refused.{table-refusal, Holds, none-held, placed-refused, placed-holds}
 use Rattle.tablecheck.specs.declared.TableCheck.{TableCheck}
 use Rattle.tablecheck.specs.declared.Stop.{Stop}
 use Rattle.tablecheck.specs.TableCheck.{namesTaken, recordsTaken, namesRefused, nameStopped, namesMany, recordsRefused, recordStopped, told, rowsCheck, tableCheck}
-use Rattle.tablecheck.specs.Inside.{placedTaken, stopOf, unrecorded, Equal, Fresh, Gone}
+use Rattle.tablecheck.specs.Inside.{placedTaken, stopOf, unrecorded, cameTo, Equal, Fresh, Gone}
 
 zero-plus : (n : ℕ) → 0 + n ≡ n
 zero-plus n = omega arith
@@ -224,26 +225,43 @@ module _ (g : Given) where
         ∙ ap (λ (n : ℕ). recordsTaken n (g .parents) (g .«rec_flags») (g .«rec_class») (g .«rec_at») (g .«rec_len») []) many
 
     -- a record is refused
-    pub check-record : (stop .refusal ≡ 0 → ⊥) → told (stop .refusal) 2 (stop .row) ≡ rowsCheck g
+    pub check-record : (table g .refusal ≡ 0 → ⊥) → told (stop .refusal) 2 (stop .row) ≡ rowsCheck g
     unfolding rowsCheck
-    check-record n = rw (names-none, ← refusal-same, ← row-same, ne-eqb (stop .refusal) 0 n)
+    check-record n =
+        rw (names-none, ← refusal-same, ← row-same, ne-eqb (stop .refusal) 0 (λ y. n (ap (λ (u : Ran). u .refusal) table-is ∙ ap (λ (u : Stop). u .refusal) (sym w) ∙ y)))
 
-    module _ (columns-even : length (g .«name_at») ≡ length (g .«name_len»)) (y : stop .refusal ≡ 0) where
+  -- every row is taken
+  module _ (o : Outcome) (w : o ≡ cameTo (table g)) (z : o .refusal ≡ 0) where
+    taken : table g .refusal ≡ 0
+    taken = ap (λ (u : Outcome). u .refusal) (sym w) ∙ z
+
+    none-refused : (namesRefused g ≡ 0) × (recordsRefused g ≡ 0)
+    unfolding tableRefusal
+    none-refused = else-zero (namesRefused g) (recordsRefused g) .0 (sym (table-refusal g) ∙ taken)
+
+    module _ (e : even g ≡ true) where
       object-same : o .tables .object ≡ rowsView (rowsIn g) .object
-      unfolding noTables rowsView rowsIn
-      object-same =
-          let k = ap (λ (u : Outcome). u .refusal) (sym e) ∙ z in
-          ap (λ (u : Outcome). u .tables .object) e ∙ names-noted (g .names) (g .«name_at») (g .«name_len») [] noTables k .0
-          ∙ noted-index objectName (g .names) (g .«name_at») (g .«name_len») columns-even k
+      unfolding viewIn
+      object-same = ap (λ (u : Outcome). u .tables .object) w ∙ ap (λ (v : View). v .object) (view-rows g e taken)
 
-      -- nothing is, but Object is not there
+      -- but Object is not there
       pub check-object : o .tables .object ≡ 2 ^ 64 - 1 → told 9 3 0 ≡ rowsCheck g
       unfolding rowsCheck
-      check-object q = rw (names-none, sym refusal-same ∙ y, ← object-same, q)
+      check-object q = rw (none-refused .0, none-refused .1, ← object-same, q)
 
       pub check-none : (o .tables .object ≡ 2 ^ 64 - 1 → ⊥) → told 0 0 0 ≡ rowsCheck g
       unfolding rowsCheck
-      check-none q = rw (names-none, sym refusal-same ∙ y, ← object-same, ne-eqb (o .tables .object) (2 ^ 64 - 1) q)
+      check-none q = rw (none-refused .0, none-refused .1, ← object-same, ne-eqb (o .tables .object) (2 ^ 64 - 1) q)
+
+  -- what `build` leaves, from no mark
+  pub built-is : (o : Outcome) (pairs pairs′ marks′ : List ℕ)
+      → Fills (built (g .names) (g .«name_at») (g .«name_len») (g .«rec_flags») (g .«rec_class») (g .«rec_at») (g .«rec_len») (g .parents) noMarks) pairs pairs′ marks′ o → o ≡ cameTo (table g)
+  unfolding table
+  built-is o pairs pairs′ marks′ f = f .outcome-is
+
+  pub equal-even : length (g .«name_at») ≡ length (g .«name_len») → Equal (g .«rec_flags») (g .«rec_class») (g .«rec_at») (g .«rec_len») → even g ≡ true
+  unfolding even evenLengths
+  equal-even p q = rw (eq-eqb _ _ p, eq-eqb _ _ (q .0), eq-eqb _ _ (q .1), eq-eqb _ _ (q .2))
 
   pub check-even : evenLengths (length (g .«name_at»)) (length (g .«name_len»)) (length (g .«rec_flags»)) (length (g .«rec_class»)) (length (g .«rec_at»)) (length (g .«rec_len»)) ≡ true → rowsCheck g ≡ tableCheck g
   unfolding tableCheck even

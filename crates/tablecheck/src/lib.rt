@@ -1,15 +1,16 @@
-// Where a class table is refused: its columns are gone through as a question goes through them, and the row that stops them is told.
+// Where a class table is refused. It is built as a question builds it; where a row is refused, its rows are gone through once more for the first.
 use columns::build_names;
 use columns::record_row;
 use questions::is_even;
+use rows::Outcome;
 use tables::MARKS;
 use tables::PAIRS;
 use tables::Tables;
 ghost use mathlib.Core.Path.{_≡_};
 ghost use lib.ListN.{length};
-ghost use Rattle.columns.specs.Given.{given};
+ghost use Rattle.columns.specs.Given.{given, table};
 ghost use Rattle.tablecheck.specs.TableCheck.{rowsCheck, tableCheck};
-ghost use Rattle.tablecheck.specs.Inside.{stopOf, unrecorded, Equal, Fresh};
+ghost use Rattle.tablecheck.specs.Inside.{stopOf, unrecorded, cameTo, Equal, Fresh};
 
 // A refusal, the part of the table that it is about (0 columns of unequal length, 1 names, 2 records, 3 no name is
 // java/lang/Object), and the first refused row of the names or records; zeros where nothing is refused.
@@ -67,7 +68,68 @@ fn check_records(
     }
 }
 
-// Columns of equal length.
+// What columns of equal length come to, whatever the order of their records.
+fn build_rows(
+    names: &[u8],
+    name_at: &[u64],
+    name_len: &[u64],
+    rec_flags: &[u64],
+    rec_class: &[u64],
+    rec_at: &[u64],
+    rec_len: &[u64],
+    parents: &[u64],
+) -> Outcome
+    requires { ⌜ (length (now «name_at») ≡ length (now «name_len»)) × Equal (now «rec_flags») (now «rec_class») (now «rec_at») (now «rec_len») ⌝ }
+    ensures { λ r. ⌜ r ≡ cameTo (table (given (now (names .entry)) (now («name_at» .entry)) (now («name_len» .entry)) (now («rec_flags» .entry)) (now («rec_class» .entry)) (now («rec_at» .entry)) (now («rec_len» .entry)) (now (parents .entry)))) ⌝ }
+{
+    let mut pairs = [0u64; PAIRS];
+    let mut marks = [0u64; MARKS];
+    columns::build(
+        names,
+        name_at,
+        name_len,
+        rec_flags,
+        rec_class,
+        rec_at,
+        rec_len,
+        parents,
+        &mut pairs,
+        &mut marks,
+    )
+}
+
+// The first refused row of columns of equal length, not all of which are taken.
+fn find_row(
+    names: &[u8],
+    name_at: &[u64],
+    name_len: &[u64],
+    rec_flags: &[u64],
+    rec_class: &[u64],
+    rec_at: &[u64],
+    rec_len: &[u64],
+    parents: &[u64],
+) -> TableCheck
+    requires { ⌜ (length (now «name_at») ≡ length (now «name_len»)) × Equal (now «rec_flags») (now «rec_class») (now «rec_at») (now «rec_len») × (table (given (now names) (now «name_at») (now «name_len») (now «rec_flags») (now «rec_class») (now «rec_at») (now «rec_len») (now parents)) .refusal ≡ 0 → ⊥) ⌝ }
+    ensures { λ r. ⌜ r ≡ rowsCheck (given (now (names .entry)) (now («name_at» .entry)) (now («name_len» .entry)) (now («rec_flags» .entry)) (now («rec_class» .entry)) (now («rec_at» .entry)) (now («rec_len» .entry)) (now (parents .entry))) ⌝ }
+{
+    let named = build_names(names, name_at, name_len);
+    let t = named.tables;
+    if named.refusal != 0 {
+        return TableCheck {
+            refusal: named.refusal,
+            part: 1,
+            row: t.names,
+        };
+    }
+    let stop = check_records(rec_flags, rec_class, rec_at, rec_len, parents, t);
+    TableCheck {
+        refusal: stop.refusal,
+        part: 2,
+        row: stop.row,
+    }
+}
+
+// Columns of equal length: built as a question builds them, and gone through row by row only where a row is refused.
 fn check_rows(
     names: &[u8],
     name_at: &[u64],
@@ -81,23 +143,29 @@ fn check_rows(
     requires { ⌜ (length (now «name_at») ≡ length (now «name_len»)) × Equal (now «rec_flags») (now «rec_class») (now «rec_at») (now «rec_len») ⌝ }
     ensures { λ r. ⌜ r ≡ rowsCheck (given (now (names .entry)) (now («name_at» .entry)) (now («name_len» .entry)) (now («rec_flags» .entry)) (now («rec_class» .entry)) (now («rec_at» .entry)) (now («rec_len» .entry)) (now (parents .entry))) ⌝ }
 {
-    let named = build_names(names, name_at, name_len);
-    let t = named.tables;
-    if named.refusal != 0 {
-        return TableCheck {
-            refusal: named.refusal,
-            part: 1,
-            row: t.names,
-        };
+    let whole = build_rows(
+        names,
+        name_at,
+        name_len,
+        rec_flags,
+        rec_class,
+        rec_at,
+        rec_len,
+        parents,
+    );
+    if whole.refusal != 0 {
+        return find_row(
+            names,
+            name_at,
+            name_len,
+            rec_flags,
+            rec_class,
+            rec_at,
+            rec_len,
+            parents,
+        );
     }
-    let stop = check_records(rec_flags, rec_class, rec_at, rec_len, parents, t);
-    if stop.refusal != 0 {
-        return TableCheck {
-            refusal: stop.refusal,
-            part: 2,
-            row: stop.row,
-        };
-    }
+    let t = whole.tables;
     if t.object == u64::MAX {
         return TableCheck {
             refusal: 9,

@@ -1,5 +1,5 @@
 -- `all` meets its contract: the verdict says what the comparison says. Assumes nothing.
-use Rattle.replaying.proofs.Steps.{agrees-if}
+use Rattle.replaying.proofs.Steps.{judges-if}
 use borrow.Author.Needs.{needs}
 use Rattle.replaying.proofs.answers.all.Statement.{statement}
 use Rattle.replaying.proofs.answers.all.Tie as tie
@@ -11,7 +11,7 @@ judged-requires : tie.Need-judged-requires
 judged-requires c κs = search needs
 
 returns : tie.Need-returns
-returns c = agrees-if (c .judged .result) _ (c .judged .ensures) (c .before .is-same .ensures)
+returns c = judges-if (c .judged .result) _ (c .judged .ensures) (c .before .is-same .ensures)
 
 pub all-spec : {M : Type 1} → statement M
 all-spec = tie.close (tie.spec is-same-requires judged-requires returns)
