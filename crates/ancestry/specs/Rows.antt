@@ -1,5 +1,5 @@
 -- Rows: sixteen words for each of 1,024 classes in one slice, the set of row c from word 16 * c on; and what the functions on them
--- leave. Assumes nothing.
+-- leave.
 use mathlib.Core.Path.{_≡_, refl, sym, ap, ap₂, _∙_, subst}
 use mathlib.Core.Bool.{Bool, true, false, cond}
 use mathlib.Core.List.{List}

@@ -1,5 +1,5 @@
 -- The contract of each public function, as the check reads it, allows one outcome: of the copy the ends and the lent slice, of one component
--- the answer, of all variables the answers' slice. What the copies leave in the lent slice is no part of an answer. Assumes nothing.
+-- the answer, of all variables the answers' slice. What the copies leave in the lent slice is no part of an answer.
 use mathlib.Core.Path.{_≡_, sym, _∙_}
 use borrow.Fn.Kinds.{Dens, resT, endedOf}
 use denote.Triple.Clauses.{AtExit}

@@ -1,5 +1,4 @@
 -- What the contracts cite: a component's bounds as words and where each kind ends, the table of some keys, and an answer as a number.
--- Assumes nothing.
 use mathlib.Core.Path.{_≡_}
 use mathlib.Core.List.{List, [], _++_, map}
 use mathlib.Core.Option.{Option, some, none}

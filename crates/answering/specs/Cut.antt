@@ -1,5 +1,4 @@
 -- COPIED FROM ITS OWN KEYS, a component's bounds are those of the whole table. As the code meets it: the span that `sorted::run` finds.
--- Assumes nothing.
 use mathlib.Core.Path.{_≡_, sym, ap, _∙_, subst}
 use mathlib.Core.List.{List, _++_}
 use Prim.Native.Nat.{ℕ, _^_, _≤_, _<_}

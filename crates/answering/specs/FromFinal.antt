@@ -1,5 +1,5 @@
 -- THE COPY OF A COMPONENT'S BOUNDS STANDS FOR ITS STATE in the final table: the parts are the kinds' words, they are what resolve_state asks,
--- and the answers are those of the solve's definition. Every tidy table's keys are such. Assumes nothing.
+-- and the answers are those of the solve's definition. Every tidy table's keys are such.
 use mathlib.Core.Path.{_≡_, refl, sym, ap, ap₂, _∙_, subst}
 use mathlib.Core.List.{List, [], _∷_, _++_, map, append-assoc, append-nil}
 use mathlib.Core.Option.{Option, some, none}

@@ -1,4 +1,4 @@
--- The copies, parts and answers as the code meets them. Assumes nothing.
+-- The copies, parts and answers as the code meets them.
 use mathlib.Core.Path.{_≡_, sym, ap, ap₂, _∙_}
 use mathlib.Core.List.{List, _++_, append-assoc}
 use Prim.Native.Nat.{ℕ, _+_, _-_}

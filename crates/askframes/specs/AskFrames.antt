@@ -1,5 +1,5 @@
 -- What the frame of a question comes to: 6 or 9, or what is said, with the numbers after a question. Every definition that a contract of this
--- crate cites. Assumes nothing.
+-- crate cites.
 use mathlib.Core.Path.{_≡_, refl, sym, ap, ap₂, _∙_}
 use mathlib.Core.Bool.{Bool, true, false, cond, not, _&&_}
 use mathlib.Core.List.{List, [], _∷_}

@@ -1,4 +1,4 @@
--- What the contracts cite: which links a component has. Assumes nothing.
+-- What the contracts cite: which links a component has.
 use mathlib.Core.Bool.{Bool, false, _||_}
 use mathlib.Core.List.{List, [], _∷_, map}
 use Prim.Native.Nat.{ℕ}

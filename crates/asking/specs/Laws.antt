@@ -1,4 +1,4 @@
--- WHAT IS NOT ASKED FOR CHANGES NOTHING: the rules of a turn are the same, whatever is sent of it. Assumes nothing.
+-- WHAT IS NOT ASKED FOR CHANGES NOTHING: the rules of a turn are the same, whatever is sent of it.
 use mathlib.Core.Path.{_≡_, refl, sym, ap, ap₂, _∙_}
 use mathlib.Core.Bool.{Bool, true, false, cond, _||_, false≢true, true≢false}
 use mathlib.Core.List.{List, [], _∷_, _++_, map}

@@ -1,4 +1,4 @@
--- The tests link by link, and by bisection. Assumes nothing.
+-- The tests link by link, and by bisection.
 use mathlib.Core.Path.{_≡_, refl, sym, ap, _∙_}
 use mathlib.Core.Bool.{Bool, true, false, cond, _||_}
 use mathlib.Core.List.{List, [], _∷_, map}

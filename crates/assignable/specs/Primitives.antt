@@ -1,5 +1,5 @@
 -- primitive_assignable by the order of the categories: Byte, Short, Char, Int, Long, Float, Double are 2 to 8, and a value is
--- assignable to a later one that is not Char. For all numbers. Assumes nothing.
+-- assignable to a later one that is not Char. For all numbers.
 use mathlib.Core.Path.{_≡_, refl, sym, ap, _∙_}
 use mathlib.Core.Bool.{Bool, true, false, cond, _&&_, and-false, true≢false}
 use Prim.Native.Nat.{ℕ, zero, suc, _≤_, _<_}

@@ -1,4 +1,4 @@
--- Assignability by the queries that the code asks of two types, one law for each case that it meets. Assumes nothing.
+-- Assignability by the queries that the code asks of two types, one law for each case that it meets.
 use mathlib.Core.Path.{_≡_, refl, sym, ap, ap₂, _∙_}
 use mathlib.Core.Bool.{Bool, true, false, cond, _&&_, _||_, true≢false}
 use mathlib.Core.Option.{some, none}

@@ -1,4 +1,4 @@
--- What the functions of the boundary answer: the fields of each result, from the definitions below. Assumes nothing.
+-- What the functions of the boundary answer: the fields of each result, from the definitions below.
 use mathlib.Core.Path.{_≡_}
 use mathlib.Core.Bool.{cond}
 use mathlib.Core.List.{List}

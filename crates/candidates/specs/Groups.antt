@@ -1,6 +1,5 @@
 -- UPPER BOUNDS ASKED AT ONCE. Of two classes with as many dimensions only the relation decides; whether a bound of another kind takes a class
 -- does not depend on the class. So the bounds of one head (dimensions and tag) are one set of classes, and one answer stands for all the others.
--- Assumes nothing.
 use mathlib.Core.Path.{_≡_, refl, sym, ap, ap₂, _∙_, subst}
 use mathlib.Core.Bool.{Bool, true, false, cond, not, _&&_, _||_, true≢false, false≢true}
 use mathlib.Core.List.{List, [], _∷_, map}

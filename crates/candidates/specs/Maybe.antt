@@ -1,4 +1,4 @@
--- Lists of legal words, and a type that may be missing as a word: there and back. Assumes nothing.
+-- Lists of legal words, and a type that may be missing as a word: there and back.
 use mathlib.Core.Path.{_≡_, refl, sym, ap, _∙_, subst}
 use mathlib.Core.Bool.{Bool, true, false, cond}
 use mathlib.Core.List.{List, [], _∷_}

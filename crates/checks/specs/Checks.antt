@@ -1,6 +1,6 @@
 -- A chain of checks is one list: what comes back is the number of the first check that holds, 0 where none does.
 -- What names, writers, tables and questions refuse are such lists, so a refusal's place in the list is its place in the order; the readers
--- of descriptors refuse in reading order instead. Assumes nothing.
+-- of descriptors refuse in reading order instead.
 use mathlib.Core.Path.{_≡_, refl, sym, ap, _∙_}
 use mathlib.Core.Bool.{Bool, true, false, cond, not, _&&_, false≢true}
 use mathlib.Core.List.{List, [], _∷_, _++_}

@@ -1,4 +1,4 @@
--- The contract, as the check reads it, allows one outcome: the lent slice. Assumes nothing.
+-- The contract, as the check reads it, allows one outcome: the lent slice.
 use mathlib.Core.Path.{_≡_, sym, _∙_}
 use borrow.Fn.Kinds.{Dens, resT, endedOf}
 use denote.Triple.Clauses.{AtExit}

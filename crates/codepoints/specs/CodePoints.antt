@@ -1,4 +1,4 @@
--- UTF-8 by code points: the bytes of a number by arithmetic on it, as Unicode's table 3-6 and RFC 3629 have them. Nothing here knows table 3-7. Assumes nothing.
+-- UTF-8 by code points: the bytes of a number by arithmetic on it, as Unicode's table 3-6 and RFC 3629 have them. Nothing here knows table 3-7.
 use mathlib.Core.Bool.{Bool, true, cond, _&&_, _||_}
 use mathlib.Core.List.{List, [], _∷_, _++_}
 use Prim.Native.Nat.{ℕ, _+_, _/_, _%_}

@@ -1,4 +1,4 @@
--- Worked examples by computation: the first and the last code point of each length, those beside the surrogates, and bytes that encode nothing. Assumes nothing.
+-- Worked examples by computation: the first and the last code point of each length, those beside the surrogates, and bytes that encode nothing.
 use mathlib.Core.Path.{_≡_, refl}
 use mathlib.Core.Bool.{true, false}
 use mathlib.Core.List.{[], _∷_}

@@ -1,5 +1,5 @@
 -- One code point is one sequence of table 3-7: the bytes of a scalar value fit a row, and bytes that fit a row are those of a scalar value.
--- And the first code point can be read back from the bytes. Assumes nothing.
+-- And the first code point can be read back from the bytes.
 use mathlib.Core.Path.{_≡_, refl, sym, ap, subst, _∙_}
 use mathlib.Core.Bool.{Bool, true, false, cond, _&&_, _||_, or-true}
 use mathlib.Core.List.{List, [], _∷_, _++_, List·Memᴰ, List·Memᴰ·head, List·Memᴰ·tail, List·Memᴰ·not-nil, append-cancel-left, cons≢nil}

@@ -1,5 +1,5 @@
 -- The well-formed lists of table 3-7 are exactly the encodings of lists of scalar values, and an encoding is that of one list alone.
--- A list may hold any numbers: one above F4 stands in no row of the table and in no encoding of scalar values. Assumes nothing.
+-- A list may hold any numbers: one above F4 stands in no row of the table and in no encoding of scalar values.
 use mathlib.Core.Path.{_≡_, refl, sym, ap₂, subst}
 use mathlib.Core.Bool.{true}
 use mathlib.Core.List.{List, [], _∷_, _++_}

@@ -1,4 +1,4 @@
--- The contract of the public function, and of those that it is made of, as the check reads it, allows one outcome. Assumes nothing.
+-- The contract of the public function, and of those that it is made of, as the check reads it, allows one outcome.
 use mathlib.Core.Path.{_≡_, sym, _∙_}
 use borrow.Fn.Kinds.{Dens, resT, endedOf}
 use denote.Triple.Clauses.{AtExit}

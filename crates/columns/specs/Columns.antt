@@ -1,4 +1,4 @@
--- The rows that columns hold, taken one after the other until one is refused. Assumes nothing.
+-- The rows that columns hold, taken one after the other until one is refused.
 use mathlib.Core.Path.{_≡_}
 use mathlib.Core.Bool.{Bool, cond, _&&_}
 use mathlib.Core.List.{List, [], _∷_}

@@ -1,4 +1,4 @@
--- A worked example of a table, by computation. Assumes nothing.
+-- A worked example of a table, by computation.
 use mathlib.Core.Path.{_≡_, refl}
 use mathlib.Core.List.{List, [], _∷_}
 use Prim.Native.Nat.{ℕ, _-_, _^_}

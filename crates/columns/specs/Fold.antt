@@ -1,4 +1,4 @@
--- The columns are a list of rows, and the table is what the rows leave, one after the other until one is refused. Assumes nothing.
+-- The columns are a list of rows, and the table is what the rows leave, one after the other until one is refused.
 use mathlib.Core.Path.{_≡_, refl, sym, ap, ap₂, _∙_}
 use mathlib.Core.Bool.{Bool, true, false, cond}
 use mathlib.Core.List.{List, [], _∷_, _++_}

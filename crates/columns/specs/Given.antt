@@ -1,4 +1,4 @@
--- The eight columns of a class table, named as the C header names them, and what their rows come to. Assumes nothing.
+-- The eight columns of a class table, named as the C header names them, and what their rows come to.
 use mathlib.Core.Bool.{Bool, cond, _&&_}
 use mathlib.Core.List.{List, []}
 use Prim.Native.Nat.{ℕ}

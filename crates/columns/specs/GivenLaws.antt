@@ -1,5 +1,5 @@
 -- Laws of the table of columns: what even columns say, that what the rows come to is sound, and that Object's number is a class's or all
--- ones. Assumes nothing.
+-- ones.
 use mathlib.Core.Path.{_≡_, refl}
 use mathlib.Core.Bool.{Bool, true, false, cond, _&&_}
 use mathlib.Core.List.{List, [], _∷_}

@@ -1,4 +1,4 @@
--- Laws of the rows in columns: what is left to do after each, and that the tables stay good. Assumes nothing.
+-- Laws of the rows in columns: what is left to do after each, and that the tables stay good.
 use mathlib.Core.Path.{_≡_, refl, sym, ap, _∙_, subst}
 use mathlib.Core.Bool.{Bool, true, false, cond}
 use mathlib.Core.List.{List, [], _∷_}

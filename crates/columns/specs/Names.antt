@@ -1,4 +1,4 @@
--- The names of a table are refused as `names` refuses them, they are numbered in order, and the three that are wanted are found. Assumes nothing.
+-- The names of a table are refused as `names` refuses them, they are numbered in order, and the three that are wanted are found.
 use mathlib.Core.Path.{_≡_, refl, sym, ap, ap₂, _∙_}
 use mathlib.Core.Bool.{Bool, true, false, cond, _&&_, false≢true}
 use mathlib.Core.List.{List, [], _∷_}

@@ -1,4 +1,4 @@
--- What three columns hold of some keys, and one entry more. Assumes nothing.
+-- What three columns hold of some keys, and one entry more.
 use mathlib.Core.Path.{_≡_, sym, ap, _∙_}
 use mathlib.Core.List.{List, map}
 use Prim.Native.Nat.{ℕ, _+_, _≤_, _<_}

@@ -1,4 +1,4 @@
--- What the contracts of the copies cite. Assumes nothing.
+-- What the contracts of the copies cite.
 use mathlib.Core.List.{List, [], _∷_, _++_, map}
 use Prim.Native.Nat.{ℕ, _-_, _%_, _^_}
 use lib.ListN.{take, drop}

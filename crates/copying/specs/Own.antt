@@ -1,5 +1,5 @@
 -- A COMPONENT'S OWN KEYS: the part of a table's keys that is one component's. Its bounds of a kind, and its state, are those of the whole
--- table; and the part is the keys of a tidy table. Assumes nothing.
+-- table; and the part is the keys of a tidy table.
 use mathlib.Core.Path.{_≡_, refl, sym, ap, ap₂, _∙_, subst}
 use mathlib.Core.List.{List, [], _∷_, _++_, map}
 use Prim.Native.Nat.{ℕ, zero, suc, _-_, _^_, _≤_, _<_}

@@ -1,5 +1,5 @@
 -- WHAT IS COPIED ARE THE TYPES OF THE DEFINITION: of a table's keys, the ranks of a run and its words stand for `typesOf`; and each is what the
--- passes and the queries ask, a rank or a word within the limits. Assumes nothing.
+-- passes and the queries ask, a rank or a word within the limits.
 use mathlib.Core.Path.{_≡_, refl, sym, ap, ap₂, _∙_, subst}
 use mathlib.Core.Bool.{true}
 use mathlib.Core.List.{List, [], _∷_, _++_, map, map-append, List·Memᴰ, List·Memᴰ·head, List·Memᴰ·tail}

@@ -1,4 +1,4 @@
--- The arguments of a question of the boundary, by what they are: the columns, the numbers asked, the length of the work. Assumes nothing.
+-- The arguments of a question of the boundary, by what they are: the columns, the numbers asked, the length of the work.
 use Prim.Native.Nat.{ℕ}
 use lib.ListN.{length}
 use borrow.Fn.Kinds.{Dens}

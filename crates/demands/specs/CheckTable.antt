@@ -1,6 +1,6 @@
 -- The check of a table among the demands: of every result that the contract of `bp_check_table` allows, as the check reads it. It takes any columns;
 -- in the domain nothing is refused, and nothing else is let through; what is refused is the first row in order, and every question over the
--- same columns is refused with the same number. Assumes nothing.
+-- same columns is refused with the same number.
 use mathlib.Core.Path.{_≡_, refl, sym, ap, _∙_, subst}
 use mathlib.Core.Bool.{true, false}
 use mathlib.Core.List.{[], _∷_}

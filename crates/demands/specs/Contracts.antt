@@ -1,4 +1,4 @@
--- The exported readers against JVMS 4.3: what each promises, as the check reads its contract, of every result that it allows. Assumes nothing.
+-- The exported readers against JVMS 4.3: what each promises, as the check reads its contract, of every result that it allows.
 use mathlib.Core.Path.{_≡_, sym, subst}
 use mathlib.Core.List.{List}
 use Prim.Native.Nat.{ℕ, _≤_}

@@ -1,5 +1,5 @@
 -- THE PROVED EXAMPLES OF THE SCOPE PAPER: one statement over one list, of the definitions, the class table in the words of its rows.
--- All ten are there. Assumes nothing.
+-- All ten are there.
 use mathlib.Core.Path.{_≡_, refl}
 use mathlib.Core.Bool.{Bool, true, false}
 use mathlib.Core.List.{List, [], _∷_}

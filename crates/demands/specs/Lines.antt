@@ -1,6 +1,6 @@
 -- SLICES = FRAMES, OF THE EXPORTED FUNCTIONS: where slices are long enough and columns of equal length, the lines of the rows and then 0a, 0b, 0c
 -- or 0d say what bp_solve, bp_relation, bp_supertype or bp_cast returns, a refusal with its number or the answer. Of every result and content of
--- lent memory that a contract allows, as the check reads it. Assumes nothing.
+-- lent memory that a contract allows, as the check reads it.
 use mathlib.Core.Path.{_≡_, refl, sym, ap, _∙_, subst}
 use mathlib.Core.Bool.{Bool, true, false, cond, false≢true}
 use mathlib.Core.List.{List, [], _∷_, _++_, map}

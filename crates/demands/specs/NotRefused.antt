@@ -1,6 +1,6 @@
 -- IN THE DOMAIN NOTHING IS REFUSED: for each exported function when its answer is not a refusal, of every result that its contract allows, as the
 -- check reads it. A question and a writer are not refused exactly in the domain; a lookup is refused only where the name is not there; a
--- descriptor only with the numbers of DescriptorParseError, 24 where reading is strict. Assumes nothing.
+-- descriptor only with the numbers of DescriptorParseError, 24 where reading is strict.
 use mathlib.Core.Path.{_≡_, refl, sym, ap, _∙_, subst}
 use mathlib.Core.Bool.{Bool, true, false, cond, not}
 use mathlib.Core.List.{List, [], _∷_}

@@ -1,5 +1,5 @@
 -- Which numbers a descriptor is refused with: those of DescriptorParseError, 24 where reading is strict, 18 only where 256 '[' stand in a row,
--- 19 only where no ')' follows 255 parameters. Assumes nothing.
+-- 19 only where no ')' follows 255 parameters.
 use mathlib.Core.Path.{_≡_, refl, sym, ap, _∙_, subst}
 use mathlib.Core.Bool.{Bool, true, false}
 use mathlib.Core.List.{List, [], _∷_, _++_, append-assoc}

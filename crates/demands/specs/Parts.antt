@@ -1,5 +1,5 @@
 -- The exported writers over a part of a table of names that holds the names used: every result and output that their contracts allow there,
--- as the check reads them, are those over the whole table. Assumes nothing.
+-- as the check reads them, are those over the whole table.
 use mathlib.Core.Path.{_≡_, refl, sym, ap, _∙_}
 use mathlib.Core.Bool.{true}
 use mathlib.Core.List.{List, map}

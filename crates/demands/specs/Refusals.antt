@@ -1,4 +1,4 @@
--- A descriptor that is refused is refused with a number of 11 or more, and so never with 0. Assumes nothing.
+-- A descriptor that is refused is refused with a number of 11 or more, and so never with 0.
 use mathlib.Core.Path.{_≡_, refl}
 use mathlib.Core.Bool.{Bool, true, false}
 use mathlib.Core.List.{List, [], _∷_}

@@ -1,6 +1,6 @@
 -- A REFUSED QUESTION, AND ITS WORK, of every result and every content of the work that the contracts of the seven questions allow, as the check
 -- reads them: 22 exactly if the work is too short, and any number exactly if it is that of the first check of the list that holds; the work as
--- it came with 22, else zero. Assumes nothing.
+-- it came with 22, else zero.
 use mathlib.Core.Path.{_≡_, sym, ap, _∙_}
 use mathlib.Core.Bool.{Bool, true, false}
 use mathlib.Core.List.{List, [], _∷_}

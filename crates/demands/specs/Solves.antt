@@ -1,5 +1,5 @@
 -- WHAT BP_SOLVE RETURNS AND LEAVES, of every result and every content of lent memory that its contract allows, as the check reads it: not refused, it
--- gives what the scope paper demands of a solve; refused, with which number exactly, and what is then as it came. Assumes nothing.
+-- gives what the scope paper demands of a solve; refused, with which number exactly, and what is then as it came.
 use mathlib.Core.Path.{_≡_, ap}
 use mathlib.Core.List.{_∷_}
 use mathlib.Core.Logic.{_⊎_, _↔_}

@@ -1,5 +1,5 @@
 -- The exported writers, lookup and the readers together: what was written is read back, what was read is written back, and a name is found where
--- it stands; of every result that their contracts allow, as the check reads them. Assumes nothing.
+-- it stands; of every result that their contracts allow, as the check reads them.
 use mathlib.Core.Path.{_≡_, refl, sym, ap, ap₂, _∙_, subst}
 use mathlib.Core.Bool.{Bool, true, false, cond, not, _&&_}
 use mathlib.Core.List.{List, [], _∷_, _++_, append-nil}

@@ -1,5 +1,5 @@
 -- A refusal has its number and, where said, offset and byte; every other field is zero. And the fields of what is accepted that say
--- nothing of it are zero too: offset and byte, the name's place of a primitive type, the category of a class. Assumes nothing.
+-- nothing of it are zero too: offset and byte, the name's place of a primitive type, the category of a class.
 use mathlib.Core.Path.{_≡_, refl}
 use mathlib.Core.Bool.{Bool, true, false}
 use mathlib.Core.List.{List}

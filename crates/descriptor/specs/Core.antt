@@ -1,4 +1,4 @@
--- A type that was read in two words, and that they say all of it. Assumes nothing.
+-- A type that was read in two words, and that they say all of it.
 use mathlib.Core.Path.{_≡_, refl, sym, ap, ap₂, subst, _∙_}
 use mathlib.Core.Bool.{Bool, true, false}
 use mathlib.Core.List.{List}

@@ -1,4 +1,4 @@
--- What a type that was read tells: where it ends, how deep it is, where its name stands. Assumes nothing.
+-- What a type that was read tells: where it ends, how deep it is, where its name stands.
 use mathlib.Core.Path.{_≡_, refl, sym, ap, subst, _∙_}
 use mathlib.Core.Bool.{Bool, true, false}
 use mathlib.Core.List.{List, [], _∷_}

@@ -1,5 +1,5 @@
 -- DescriptorParser::ty of ty.rs, by recursion on the bytes: a type descriptor is read, or refused with an offset.
--- Added to the Rust: refusal 18 at the 256th '[', and strict reading (24). Assumes nothing.
+-- Added to the Rust: refusal 18 at the 256th '[', and strict reading (24).
 use mathlib.Core.Bool.{Bool, true, false, not, _&&_}
 use mathlib.Core.List.{List, [], _∷_}
 use Prim.Native.Nat.{ℕ, suc, _+_, _-_}

@@ -1,4 +1,4 @@
--- One step of reading a type, as the code meets it: at an offset of a slice, with tests that were passed. Assumes nothing.
+-- One step of reading a type, as the code meets it: at an offset of a slice, with tests that were passed.
 use mathlib.Core.Path.{_≡_, refl, sym, ap, ap₂, _∙_}
 use mathlib.Core.Bool.{Bool, true, false}
 use mathlib.Core.List.{List, [], _∷_}

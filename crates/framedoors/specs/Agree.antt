@@ -1,5 +1,5 @@
 -- SLICES = FRAMES: the lines of a table's rows and then a question, or of a table's and a problem's rows and then 0a, say at the first refusal, or
--- at the end, what the functions over slices answer. Assumes nothing.
+-- at the end, what the functions over slices answer.
 use mathlib.Core.Path.{_≡_, refl, sym, ap, ap₂, _∙_, subst}
 use mathlib.Core.Bool.{Bool, true, false, cond, not, _&&_, _||_}
 use mathlib.Core.List.{List, [], _∷_, _++_}

@@ -1,4 +1,4 @@
--- What a frame is refused with before its row is read: KIND, LENGTH, ORDER. Assumes nothing.
+-- What a frame is refused with before its row is read: KIND, LENGTH, ORDER.
 use mathlib.Core.Path.{_≡_, refl, sym, ap, ap₂, _∙_}
 use mathlib.Core.Bool.{Bool, true, false, cond, not, _&&_, _||_}
 use mathlib.Core.List.{List, [], _∷_}

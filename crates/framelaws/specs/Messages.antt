@@ -1,5 +1,5 @@
 -- ROWS AS MESSAGES: a list of messages in order of kind, taken one after the other until one is refused, comes to what the columns of
--- the same rows come to: the same refusal, the same tables, the same problem. Assumes nothing.
+-- the same rows come to: the same refusal, the same tables, the same problem.
 use mathlib.Core.Path.{_≡_, refl, sym, ap, ap₂, _∙_, subst}
 use mathlib.Core.Bool.{Bool, true, false, cond, not, _&&_, _||_}
 use mathlib.Core.List.{List, [], _∷_, _++_}

@@ -1,4 +1,4 @@
--- WHICH NUMBERS A FRAME IS REFUSED WITH: 1 to 10, and 20 or 21 from a run; never one of the descriptors', 22 or 23. Assumes nothing.
+-- WHICH NUMBERS A FRAME IS REFUSED WITH: 1 to 10, and 20 or 21 from a run; never one of the descriptors', 22 or 23.
 use mathlib.Core.Path.{_≡_, refl, ap, subst}
 use mathlib.Core.Bool.{Bool, true, false, cond, not, _&&_, _||_}
 use mathlib.Core.List.{List, [], _∷_}

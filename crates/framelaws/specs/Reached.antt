@@ -1,4 +1,4 @@
--- A REFUSED FRAME CHANGES NOTHING; FROM THE EMPTY STATE EVERY STATE THAT LINES LEAD TO IS SOUND, whatever the lines are. Assumes nothing.
+-- A REFUSED FRAME CHANGES NOTHING; FROM THE EMPTY STATE EVERY STATE THAT LINES LEAD TO IS SOUND, whatever the lines are.
 use mathlib.Core.Path.{_≡_, refl, sym, ap, ap₂, _∙_, subst}
 use mathlib.Core.Bool.{Bool, true, false, cond, not, _&&_, _||_, true≢false}
 use mathlib.Core.List.{List, [], _∷_}

@@ -1,5 +1,5 @@
 -- EVERY STATE THAT LINES LEAD TO IS THAT OF THE ROWS THAT WERE ACCEPTED, as they stand: the names come ascending and well-formed, the table is
--- one that the columns' checks take, its world is that of the rows, and a solve is the solve of the rows. Assumes nothing.
+-- one that the columns' checks take, its world is that of the rows, and a solve is the solve of the rows.
 use mathlib.Core.Path.{_≡_, refl, sym, ap, ap₂, _∙_, subst}
 use mathlib.Core.Bool.{Bool, true, false, cond, _||_, true≢false}
 use mathlib.Core.List.{List, [], _∷_, _++_}

@@ -1,5 +1,5 @@
 -- A MESSAGE AS A LINE: written in hex and read again it is the same message, and the frame of that line is the message against the state:
--- ORDER, then as its row. Assumes nothing.
+-- ORDER, then as its row.
 use mathlib.Core.Path.{_≡_, refl, ap, ap₂, _∙_}
 use mathlib.Core.Bool.{Bool, true, false, cond, _&&_}
 use mathlib.Core.List.{List, [], _∷_}

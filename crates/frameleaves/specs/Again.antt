@@ -1,5 +1,4 @@
 -- WHAT A FRAME LEAVES IS READY FOR THE NEXT: slices and numbers that show a sound state hold it, and have all that a state that lines lead to has.
--- Assumes nothing.
 use mathlib.Core.Path.{_≡_, refl, sym, ap, ap₂, _∙_, subst}
 use mathlib.Core.Bool.{Bool, true, false, cond, _&&_}
 use mathlib.Core.List.{List, map}

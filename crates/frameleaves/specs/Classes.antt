@@ -1,4 +1,4 @@
--- THE SAME OF NAMES, RECORDS, THE COUNT AND QUESTIONS: what the frame of each leaves is what the definition says. Assumes nothing.
+-- THE SAME OF NAMES, RECORDS, THE COUNT AND QUESTIONS: what the frame of each leaves is what the definition says.
 use mathlib.Core.Path.{_≡_, refl, sym, ap, ap₂, _∙_, subst}
 use mathlib.Core.Bool.{Bool, true, false, cond}
 use mathlib.Core.List.{List, [], _∷_}

@@ -1,4 +1,4 @@
--- WHAT THE FRAME OF EACH KIND OF ROW LEAVES IS WHAT THE DEFINITION SAYS: one law a kind, from a state that lines lead to. Assumes nothing.
+-- WHAT THE FRAME OF EACH KIND OF ROW LEAVES IS WHAT THE DEFINITION SAYS: one law a kind, from a state that lines lead to.
 use mathlib.Core.Path.{_≡_, refl, sym, ap, _∙_, subst}
 use mathlib.Core.Bool.{Bool, true, false, cond, _&&_}
 use mathlib.Core.List.{List, [], _∷_, _++_, map}

@@ -1,5 +1,5 @@
 -- THE STATE THAT SLICES HOLD, SHOWN IN THE SAME SLICES: what a frame that is refused leaves, and what a row leaves in the slices that are not its
--- own. Assumes nothing.
+-- own.
 use mathlib.Core.Path.{_≡_, refl, sym, ap, _∙_}
 use mathlib.Core.List.{List, map}
 use Prim.Native.Nat.{ℕ, _≤_}

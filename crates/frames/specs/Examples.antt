@@ -1,4 +1,4 @@
--- EXAMPLES BY COMPUTATION: the whole program on whole inputs, the paper's example byte for byte among them. Assumes nothing.
+-- EXAMPLES BY COMPUTATION: the whole program on whole inputs, the paper's example byte for byte among them.
 use mathlib.Core.Path.{_≡_, refl}
 use mathlib.Core.List.{List, [], _∷_}
 use Prim.Native.Nat.{ℕ}

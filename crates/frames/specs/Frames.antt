@@ -1,5 +1,5 @@
 -- A hex frame against the tables: kind, length, order, and then the row functions of the columns. Every definition that a contract of the
--- frame step cites. Assumes nothing.
+-- frame step cites.
 use mathlib.Core.Bool.{Bool, cond, not, _&&_, _||_}
 use mathlib.Core.List.{List, [], _∷_}
 use mathlib.Core.Option.{Option, some, none}

@@ -1,4 +1,4 @@
--- Lines joined by LF are read as these lines, so what the program prints is line by line what the frames say. Assumes nothing.
+-- Lines joined by LF are read as these lines, so what the program prints is line by line what the frames say.
 use mathlib.Core.Path.{_≡_, refl, sym, ap, _∙_}
 use mathlib.Core.Bool.{Bool, cond}
 use mathlib.Core.List.{List, [], _∷_, _++_}

@@ -1,4 +1,4 @@
--- The program as a function from bytes to bytes: lines, one frame a line, what is printed. Assumes nothing.
+-- The program as a function from bytes to bytes: lines, one frame a line, what is printed.
 use mathlib.Core.Bool.{cond}
 use mathlib.Core.List.{List, [], _∷_, _++_}
 use mathlib.Core.Option.{Option, some, none}

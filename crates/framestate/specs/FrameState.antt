@@ -1,5 +1,5 @@
 -- THE STATE OF HEX FRAMES IN LENT SLICES, of which the first entries count, and one struct of numbers: which state they hold, what a sound one
--- has, and what a frame leaves in them. Every definition that a contract of the frames' code cites. Assumes nothing.
+-- has, and what a frame leaves in them. Every definition that a contract of the frames' code cites.
 use mathlib.Core.Path.{_≡_}
 use mathlib.Core.Bool.{cond}
 use mathlib.Core.List.{List, map}

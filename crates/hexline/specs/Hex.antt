@@ -1,4 +1,4 @@
--- A hex line as bytes, and the numbers that the bytes of a frame hold. Every definition that a contract of this crate cites. Assumes nothing.
+-- A hex line as bytes, and the numbers that the bytes of a frame hold. Every definition that a contract of this crate cites.
 use mathlib.Core.Path.{_≡_}
 use mathlib.Core.Bool.{Bool, true, false, cond, _&&_}
 use mathlib.Core.List.{List, [], _∷_, _++_}

@@ -1,4 +1,4 @@
--- Laws of hex lines, as the code meets them: digits, a pair of digits at a time, a slice filled from the front. Assumes nothing.
+-- Laws of hex lines, as the code meets them: digits, a pair of digits at a time, a slice filled from the front.
 use mathlib.Core.Path.{_≡_, refl, sym, ap, ap₂, _∙_, subst}
 use mathlib.Core.Bool.{Bool, true, false, cond, _&&_, true≢false}
 use mathlib.Core.List.{List, [], _∷_, _++_, append-assoc, append-nil}

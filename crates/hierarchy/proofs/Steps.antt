@@ -1,4 +1,4 @@
--- One step of each loop, as the code meets it. Assumes nothing.
+-- One step of each loop, as the code meets it.
 use mathlib.Core.Path.{_≡_, refl, sym, ap, _∙_}
 use mathlib.Core.Bool.{Bool, true, false, cond}
 use mathlib.Core.List.{List, [], _∷_}

@@ -1,4 +1,4 @@
--- How a walk stands at each level, and what it tells where it ends. Assumes nothing.
+-- How a walk stands at each level, and what it tells where it ends.
 use mathlib.Core.Path.{_≡_, refl, sym, ap, _∙_, subst}
 use mathlib.Core.Bool.{Bool, true, false, cond, true≢false}
 use mathlib.Core.List.{List}

@@ -1,4 +1,4 @@
--- What the contracts of this crate cite beside the view: the cast test on the marks, and what a walk tells. Assumes nothing.
+-- What the contracts of this crate cite beside the view: the cast test on the marks, and what a walk tells.
 use mathlib.Core.Path.{_≡_}
 use mathlib.Core.Bool.{Bool, true, false, _&&_}
 use mathlib.Core.List.{List}

@@ -1,4 +1,4 @@
--- The contract of each public function, as the check reads it, allows one outcome, both slices included. Assumes nothing.
+-- The contract of each public function, as the check reads it, allows one outcome, both slices included.
 use mathlib.Core.Path.{_≡_, sym, ap, _∙_}
 use borrow.Fn.Kinds.{Dens, resT, endedOf}
 use denote.Triple.Clauses.{AtExit}

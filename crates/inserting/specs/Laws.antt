@@ -1,5 +1,5 @@
 -- WHAT THE SLICES SHOW AFTER AN INSERTION IS WHAT insertBound MAKES OF IT, and so with insertions in a row: a refusal, or the table and the
--- queue with it. Assumes nothing.
+-- queue with it.
 use mathlib.Core.Path.{_≡_, refl, sym, ap, _∙_, subst}
 use mathlib.Core.Bool.{Bool, true, false, cond}
 use mathlib.Core.List.{List, [], _∷_, _++_, List·Memᴰ, List·Memᴰ·head, List·Memᴰ·tail, List·Memᴰ·not-nil, List·Memᴰ·cases-cons}

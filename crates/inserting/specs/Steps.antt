@@ -1,4 +1,4 @@
--- One insertion as the code meets it: by the answer of the put, with what the callees leave. Assumes nothing.
+-- One insertion as the code meets it: by the answer of the put, with what the callees leave.
 use mathlib.Core.Path.{_≡_, sym, ap, ap₂, _∙_, subst}
 use mathlib.Core.List.{List}
 use Prim.Native.Nat.{ℕ, _+_, _*_, _^_, _<_}

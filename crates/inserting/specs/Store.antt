@@ -1,5 +1,4 @@
 -- A solve at work, as the slices and numbers of the code: what an insertion does to them, and when they show a table and a queue.
--- Assumes nothing.
 use mathlib.Core.Path.{_≡_}
 use mathlib.Core.Bool.{cond}
 use mathlib.Core.List.{List, [], _∷_}

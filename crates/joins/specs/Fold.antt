@@ -1,5 +1,4 @@
 -- What the join of a list goes by: the first word, the next one, the end; and that every join on the way is a legal word.
--- Assumes nothing.
 use mathlib.Core.Path.{_≡_, refl}
 use mathlib.Core.Bool.{true}
 use mathlib.Core.List.{List, [], _∷_, map}

@@ -1,5 +1,4 @@
 -- What the contracts of this crate cite: which words a join takes, lists in order, and a payload with one member more.
--- Assumes nothing.
 use mathlib.Core.Path.{_≡_}
 use mathlib.Core.Bool.{Bool, true, false, _&&_}
 use mathlib.Core.List.{List, [], _∷_}

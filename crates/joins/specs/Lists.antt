@@ -1,4 +1,4 @@
--- What the functions on lists of categories go by: one law for each case that the code meets. Assumes nothing.
+-- What the functions on lists of categories go by: one law for each case that the code meets.
 use mathlib.Core.Path.{_≡_, refl, sym, ap, ap₂, _∙_}
 use mathlib.Core.Bool.{Bool, true, false, cond, true≢false}
 use mathlib.Core.List.{List, [], _∷_}

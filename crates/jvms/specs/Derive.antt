@@ -1,4 +1,4 @@
--- Laws of derivations alone: what a descriptor begins with, that its bytes derive one type only, which names make it strict. Assumes nothing.
+-- Laws of derivations alone: what a descriptor begins with, that its bytes derive one type only, which names make it strict.
 use mathlib.Core.Path.{_≡_, refl, sym, ap, _∙_}
 use mathlib.Core.Bool.{Bool, true}
 use mathlib.Core.List.{List, [], _∷_, _++_, List·Memᴰ, List·Memᴰ·head, List·Memᴰ·tail, List·Memᴰ·not-nil, append-assoc}

@@ -1,4 +1,4 @@
--- Reading one type up to the end of the bytes: it takes exactly the return descriptors, for the type that they derive. Assumes nothing.
+-- Reading one type up to the end of the bytes: it takes exactly the return descriptors, for the type that they derive.
 use mathlib.Core.Path.{_≡_, refl, sym, ap, _∙_, subst}
 use mathlib.Core.Bool.{Bool, true, false, false≢true}
 use mathlib.Core.List.{List, [], _∷_, _++_, append-nil, append-assoc}

@@ -1,5 +1,5 @@
 -- The errors of ty.rs by their names, and the refusals that they are: DescriptorParseError's variants in source order are 11 to 17.
--- Laws and examples of what is refused speak in these words. Assumes nothing.
+-- Laws and examples of what is refused speak in these words.
 use Prim.Native.Nat.{ℕ}
 use Rattle.descriptor.specs.declared.Read.{Read}
 use Rattle.descriptor.specs.declared.Read.the-variants.{Refused}

@@ -1,5 +1,5 @@
 -- The grammar of JVMS 4.3.2 and 4.3.3 as relations between the bytes of a descriptor and what it stands for: a constructor for each production,
--- which stands in the comment over it. A terminal is its ASCII byte. Names are in UTF-8, not in the modified form of 4.4.7. Assumes nothing.
+-- which stands in the comment over it. A terminal is its ASCII byte. Names are in UTF-8, not in the modified form of 4.4.7.
 use mathlib.Core.List.{List, [], _∷_, _++_, List·Memᴰ}
 use Prim.Native.Nat.{ℕ, suc, _<_}
 use lib.ListN.{length}

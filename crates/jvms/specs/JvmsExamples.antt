@@ -1,4 +1,4 @@
--- Descriptors that the grammar of the JVMS derives, and one that it does not. Assumes nothing.
+-- Descriptors that the grammar of the JVMS derives, and one that it does not.
 use mathlib.Core.Path.{refl}
 use mathlib.Core.List.{List, [], _∷_}
 use Prim.Native.Nat.{ℕ}

@@ -1,6 +1,5 @@
 -- What is read is what the grammar of JVMS 4.3 derives: the same bytes for the same types, in at most 255 dimensions and 255 parameters.
 -- Nothing is claimed of the rule of 4.3.3 that a long or a double counts for two of the 255 parameters and `this` for one: reading does not look at it.
--- Assumes nothing.
 use mathlib.Core.Path.{_≡_, refl, sym, ap, _∙_, subst}
 use mathlib.Core.List.{List, [], _∷_, _++_, List·Memᴰ·head, append-nil}
 use mathlib.Core.Logic.{_↔_}

@@ -1,4 +1,4 @@
--- Reading the parameters of a method: it lists exactly the derived ones, each where its first byte stands. Assumes nothing.
+-- Reading the parameters of a method: it lists exactly the derived ones, each where its first byte stands.
 use mathlib.Core.Path.{_≡_, refl, sym, ap, _∙_, subst}
 use mathlib.Core.Bool.{Bool, true, false}
 use mathlib.Core.List.{List, [], _∷_, _++_, List·Memᴰ, List·Memᴰ·head, List·Memᴰ·tail, List·Memᴰ·not-nil, append-assoc}

@@ -1,4 +1,4 @@
--- What a reading of descriptors says in the terms of the grammar: a place of a name stands for the bytes there. Assumes nothing.
+-- What a reading of descriptors says in the terms of the grammar: a place of a name stands for the bytes there.
 use mathlib.Core.List.{List, [], _∷_, List·Memᴰ}
 use mathlib.Core.Option.{Option, some, none}
 use mathlib.Core.Bool.{false}

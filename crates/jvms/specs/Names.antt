@@ -1,4 +1,4 @@
--- Laws of names: the first ';' after a name ends it, and the strict test decides the ClassName of the JVMS. Assumes nothing.
+-- Laws of names: the first ';' after a name ends it, and the strict test decides the ClassName of the JVMS.
 use mathlib.Core.Path.{_≡_, refl, sym, ap, _∙_}
 use mathlib.Core.Bool.{Bool, true, false, not, _&&_, false≢true}
 use mathlib.Core.List.{List, [], _∷_, _++_, List·Memᴰ, List·Memᴰ·head, List·Memᴰ·tail, List·Memᴰ·append-cases, List·Memᴰ·eq-of-singleton, List·Memᴰ·not-nil, append-assoc, append-nil}

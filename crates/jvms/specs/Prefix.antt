@@ -1,4 +1,4 @@
--- The type reader on bytes that begin with a descriptor: it stops where the descriptor ends, and where it stops one has ended. Assumes nothing.
+-- The type reader on bytes that begin with a descriptor: it stops where the descriptor ends, and where it stops one has ended.
 use mathlib.Core.Path.{_≡_, refl, sym, ap, _∙_, subst}
 use mathlib.Core.Bool.{Bool, true, false}
 use mathlib.Core.List.{List, [], _∷_, _++_, List·Memᴰ, List·Memᴰ·head, List·Memᴰ·eq-of-singleton, append-assoc}

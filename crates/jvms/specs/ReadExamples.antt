@@ -1,4 +1,4 @@
--- Worked examples of reading, by computation. Assumes nothing.
+-- Worked examples of reading, by computation.
 use mathlib.Core.Path.{_≡_, refl}
 use mathlib.Core.Bool.{true, false}
 use mathlib.Core.List.{[], _∷_, _++_}

@@ -1,4 +1,4 @@
--- When each error of ty.rs comes, in the shape of the bytes: so many '[', or what the grammar derives, and then what is wrong. Assumes nothing.
+-- When each error of ty.rs comes, in the shape of the bytes: so many '[', or what the grammar derives, and then what is wrong.
 use mathlib.Core.Path.{_≡_, refl, sym, ap, ap₂, _∙_}
 use mathlib.Core.Bool.{Bool, true, false}
 use mathlib.Core.List.{List, [], _∷_, _++_, List·Memᴰ, List·Memᴰ·head, List·Memᴰ·tail, append-assoc, append-nil}

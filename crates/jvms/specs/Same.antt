@@ -1,5 +1,5 @@
 -- Derivations are unique: two of the same bytes are equal as data. Two proofs that something is a name have to be equal for that, as they are
--- where a test decides the names. Assumes nothing.
+-- where a test decides the names.
 use mathlib.Core.Path.{_≡_, refl, sym, ap, ap₂, subst, subst-refl, _∙_}
 use mathlib.Core.Bool.{Bool, true, Bool-set}
 use mathlib.Core.List.{List, [], _∷_, _++_, List·isSet}

@@ -1,4 +1,4 @@
--- Reading a method's descriptor: it takes exactly the derived ones, for the signature that they derive. Assumes nothing.
+-- Reading a method's descriptor: it takes exactly the derived ones, for the signature that they derive.
 use mathlib.Core.Path.{_≡_, refl, sym, ap, _∙_, subst}
 use mathlib.Core.Bool.{Bool, true, false}
 use mathlib.Core.List.{List, [], _∷_, _++_, append-nil}

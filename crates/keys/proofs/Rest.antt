@@ -1,4 +1,4 @@
--- What each digit of a rank adds to the payload of an Unknown: the steps of the loop of `members_load`. Assumes nothing.
+-- What each digit of a rank adds to the payload of an Unknown: the steps of the loop of `members_load`.
 use mathlib.Core.Path.{_≡_, refl, sym, ap, ap₂, _∙_}
 use mathlib.Core.List.{List, _∷_}
 use Prim.Native.Nat.{ℕ, zero, suc, _+_, _-_, _*_, _/_, _%_, _^_, _≤_, _<_}

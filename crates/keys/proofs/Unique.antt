@@ -1,4 +1,4 @@
--- The promise of each public function, as the check reads it (`Reads.Post`), allows one result. Assumes nothing.
+-- The promise of each public function, as the check reads it (`Reads.Post`), allows one result.
 use mathlib.Core.Path.{_≡_, sym, _∙_}
 use mathlib.Core.List.{List}
 use borrow.Fn.Kinds.{PK, RK, Out, Dens, resT, endedOf}

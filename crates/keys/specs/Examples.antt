@@ -1,4 +1,4 @@
--- Worked examples of ranks and keys, by computation. Assumes nothing.
+-- Worked examples of ranks and keys, by computation.
 use mathlib.Core.Path.{_≡_, refl}
 use mathlib.Core.List.{List, [], _∷_, map}
 use Prim.Native.Nat.{ℕ}

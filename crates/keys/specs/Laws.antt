@@ -1,5 +1,5 @@
 -- Laws of ranks and keys of types within the limits: they fit, they are in the order of types, and what they stand for comes
--- back. Assumes nothing.
+-- back.
 use mathlib.Core.Path.{_≡_, refl, sym, ap, ap₂, _∙_}
 use mathlib.Core.Bool.{true}
 use Prim.Native.Nat.{ℕ, suc, _+_, _-_, _*_, _/_, _%_, _^_, _≤_, _<_}

@@ -1,4 +1,4 @@
--- Laws of an Unknown's digits in a rank: they are in the order of the lists, and the list comes back. Assumes nothing.
+-- Laws of an Unknown's digits in a rank: they are in the order of the lists, and the list comes back.
 use mathlib.Core.Path.{_≡_, refl, sym, ap, ap₂, _∙_}
 use mathlib.Core.Bool.{true}
 use mathlib.Core.List.{List, [], _∷_, _++_, map}

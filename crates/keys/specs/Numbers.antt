@@ -1,5 +1,4 @@
 -- Comparisons that have the same answer: of numbers moved alike, and of numbers made of a high and a low part.
--- Assumes nothing.
 use mathlib.Core.Path.{_≡_, sym, ap, _∙_}
 use Prim.Native.Nat.{ℕ, suc, _+_, _*_, _<_}
 use native.Mathlib.Omega.{arith}

@@ -1,4 +1,4 @@
--- The rank and the word of a type by their parts, as the code puts one together from the other. Assumes nothing.
+-- The rank and the word of a type by their parts, as the code puts one together from the other.
 use mathlib.Core.Path.{_≡_, refl, sym, ap, ap₂, _∙_}
 use mathlib.Core.Bool.{Bool, true, false, cond, true≢false}
 use mathlib.Core.List.{List, [], _∷_, map}

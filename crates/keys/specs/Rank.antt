@@ -1,5 +1,5 @@
 -- A type as a number in the order of types, its rank, and back; and the key of a bound: its component, its kind and its
--- type's rank in one word. Assumes nothing.
+-- type's rank in one word.
 --   rank of k or of class c, in d arrays:    d * 2 ^ 11 + k   or   d * 2 ^ 11 + 2 ^ 10 + c             below 2 ^ 19
 --   rank of Unknown cs, in d arrays:         2 ^ 19 + (255 - d) * 2 ^ 44 + digits of cs                below 2 ^ 52
 -- Unknown comes after all that is known, so the deeper of two arrays of Unknown comes first: its depth counts down.

@@ -1,5 +1,5 @@
 -- WHAT A DOMAIN ACCEPTS: an empty one everything, any other what one of its members accepts; so each of its own members, and with a
--- reference among them every reference. Assumes nothing.
+-- reference among them every reference.
 use mathlib.Core.Path.{_≡_, refl, sym, ap, _∙_}
 use mathlib.Core.Bool.{Bool, true, false, _&&_, _||_, false≢true, or-true}
 use mathlib.Core.List.{List, [], _∷_, List·Memᴰ, List·Memᴰ·head, List·Memᴰ·tail, List·Memᴰ·not-nil, List·Memᴰ·cases-cons}

@@ -1,4 +1,4 @@
--- The examples of the scope paper about types, by computation. Assumes nothing.
+-- The examples of the scope paper about types, by computation.
 use mathlib.Core.Path.{_≡_, refl}
 use mathlib.Core.Bool.{Bool, true, false}
 use mathlib.Core.List.{List, [], _∷_}

@@ -1,5 +1,5 @@
 -- The parts of a join, below the dimensions: lists of categories without repeats, and what each way of `joinApart` gives. What is
--- shown here Legality puts together. Assumes nothing.
+-- shown here Legality puts together.
 use mathlib.Core.Path.{_≡_, refl, sym, ap, _∙_}
 use mathlib.Core.Bool.{Bool, true, false, cond, _&&_, _||_, true≢false}
 use mathlib.Core.List.{List, [], _∷_}

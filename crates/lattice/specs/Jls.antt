@@ -1,5 +1,5 @@
 -- JLS 5.1.2: the nineteen widening primitive conversions, and that primitive_assignable of lattice.rs is exactly these. JLS 5.6.2: binary
--- numeric promotion, and where the join of two primitives is that. Assumes nothing.
+-- numeric promotion, and where the join of two primitives is that.
 use mathlib.Core.Path.{_≡_, refl, sym, ap, _∙_}
 use mathlib.Core.Bool.{Bool, true, false, cond, not, _&&_, _||_, false≢true}
 use mathlib.Core.List.{List, [], _∷_}

@@ -1,5 +1,5 @@
 -- The Rust's join_all sorts its list and then folds it; the code is handed a list in order and folds it. That is the same, in whatever
--- order the Rust has the list. Assumes nothing.
+-- order the Rust has the list.
 use mathlib.Core.Path.{_≡_, refl, sym, ap, ap₂, _∙_}
 use mathlib.Core.Bool.{Bool, true, false, cond, false≢true}
 use mathlib.Core.List.{List, [], _∷_, List·Permᴰ, List·Permᴰ·nil, List·Permᴰ·cons, List·Permᴰ·swap, List·Permᴰ·trans}

@@ -1,4 +1,4 @@
--- The join by what its two types are, one law for each case that code on words meets. Assumes nothing.
+-- The join by what its two types are, one law for each case that code on words meets.
 use mathlib.Core.Path.{_≡_, refl, sym, ap, ap₂, _∙_}
 use mathlib.Core.Bool.{Bool, true, false, cond, _||_, true≢false, false≢true, or-true}
 use mathlib.Core.List.{List, [], _∷_}

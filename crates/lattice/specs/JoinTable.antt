@@ -1,5 +1,5 @@
 -- The join of two primitives, by their categories, and a rule of a table of rows: it holds at every entry where one test, which
--- computes, passes. Assumes nothing.
+-- computes, passes.
 use mathlib.Core.Path.{_≡_, refl, sym, ap, subst, _∙_}
 use mathlib.Core.Bool.{Bool, true, false, cond, _&&_}
 use mathlib.Core.List.{List, [], _∷_}

@@ -1,5 +1,5 @@
 -- WHAT IS ASKED OF ONE TYPE ALONE, of two as bounds, and of a list, a second time: the answers of ty.rs and lattice.rs by kind of type and by
--- example. Assumes nothing.
+-- example.
 use mathlib.Core.Path.{_≡_, refl}
 use mathlib.Core.Bool.{Bool, true, false}
 use mathlib.Core.List.{List, [], _∷_, map}

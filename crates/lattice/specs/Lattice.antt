@@ -1,5 +1,4 @@
 -- The value half of lattice.rs over types and a world, what they ask of the classes, in the names and the order of cases of the Rust.
--- Assumes nothing.
 use mathlib.Core.Bool.{Bool, true, false, cond, not, _&&_, _||_}
 use mathlib.Core.List.{List, [], _∷_}
 use mathlib.Core.Option.{Option, some, none}

@@ -1,5 +1,5 @@
 -- Lists of categories as sets of bits: a digit of the set is 1 exactly for a member, and a list has every member of another
--- exactly if its set does not change when the other's is joined to it. Assumes nothing.
+-- exactly if its set does not change when the other's is joined to it.
 use mathlib.Core.Path.{_≡_, refl, sym, ap, ap₂, _∙_}
 use mathlib.Core.Bool.{Bool, true, false, _&&_, _||_, true≢false}
 use mathlib.Core.List.{List, [], _∷_}

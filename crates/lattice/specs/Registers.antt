@@ -1,5 +1,5 @@
 -- REGISTERS a second time, against JVMS 2.11.1: which types are of category 2, and which two are of one register category, as
--- `is_wide` of ty.rs and `same_register_category` of lattice.rs have it. Assumes nothing.
+-- `is_wide` of ty.rs and `same_register_category` of lattice.rs have it.
 use mathlib.Core.Path.{_≡_, refl}
 use mathlib.Core.Bool.{Bool, true, false, cond, not, _&&_, _||_}
 use mathlib.Core.List.{List, [], _∷_, map}

@@ -1,5 +1,4 @@
 -- Equality of types, as == of the Rust tells it: of equal types alone, and for legal words the equality of the words.
--- Assumes nothing.
 use mathlib.Core.Path.{_≡_, refl, sym, ap, _∙_}
 use mathlib.Core.Bool.{Bool, true, false, true≢false}
 use Prim.Native.Nat.{ℕ}

@@ -1,5 +1,5 @@
 -- Lists of categories and sets of them, one bit a category: what the set of a list has, the members of a list that a set has,
--- and that the lists of a join are such. Assumes nothing.
+-- and that the lists of a join are such.
 use mathlib.Core.Path.{_≡_, refl, sym, ap, ap₂, _∙_}
 use mathlib.Core.Bool.{Bool, true, false, cond, _||_}
 use mathlib.Core.List.{List, [], _∷_}

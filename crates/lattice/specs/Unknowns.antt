@@ -1,5 +1,5 @@
 -- TWO UNKNOWNS, a second time: `left.into_iter().filter(|c| right.contains(c))`. What their join keeps is what both lists have, in the left
--- one's order, and of a list without repeats no other list is that. Assumes nothing.
+-- one's order, and of a list without repeats no other list is that.
 use mathlib.Core.Path.{_≡_, refl, sym, ap, _∙_}
 use mathlib.Core.Bool.{Bool, true, false, cond, _&&_, _||_, true≢false, false≢true}
 use mathlib.Core.List.{List, [], _∷_}

@@ -1,4 +1,4 @@
--- The world that the class tables give: their view, and the numbers of Cloneable and Serializable. Assumes nothing.
+-- The world that the class tables give: their view, and the numbers of Cloneable and Serializable.
 use mathlib.Core.Path.{_≡_, refl, ap, _∙_}
 use mathlib.Core.Bool.{Bool, true, false, cond}
 use mathlib.Core.List.{List}

@@ -1,4 +1,4 @@
--- The contract of each public function, as the check reads it, allows one outcome. Assumes nothing.
+-- The contract of each public function, as the check reads it, allows one outcome.
 use mathlib.Core.Path.{_≡_, sym, ap, _∙_}
 use mathlib.Core.List.{List}
 use borrow.Fn.Kinds.{Dens, resT, endedOf}

@@ -1,4 +1,4 @@
--- Laws of printed texts, as the code meets them: a number's digits one at a time, one text after another in a buffer. Assumes nothing.
+-- Laws of printed texts, as the code meets them: a number's digits one at a time, one text after another in a buffer.
 use mathlib.Core.Path.{_≡_, refl, sym, ap, ap₂, _∙_}
 use mathlib.Core.Bool.{Bool, true, false, cond}
 use mathlib.Core.List.{List, [], _∷_, _++_, map, append-assoc, append-nil}

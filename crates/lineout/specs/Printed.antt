@@ -1,4 +1,4 @@
--- Numbers and words as the bytes of a text, and a printed line. Every definition that a contract of this crate cites. Assumes nothing.
+-- Numbers and words as the bytes of a text, and a printed line. Every definition that a contract of this crate cites.
 use mathlib.Core.Path.{_≡_}
 use mathlib.Core.Bool.{cond}
 use mathlib.Core.List.{List, [], _∷_, _++_, map}

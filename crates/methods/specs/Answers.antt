@@ -1,4 +1,4 @@
--- What the method reader hands back: the answer's fields, and the parameter slice afterwards. Assumes nothing.
+-- What the method reader hands back: the answer's fields, and the parameter slice afterwards.
 use mathlib.Core.Bool.{Bool}
 use mathlib.Core.List.{List, _++_}
 use Prim.Native.Nat.{ℕ}

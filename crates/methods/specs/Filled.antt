@@ -1,4 +1,4 @@
--- What reading a method leaves, as the code goes: the answer and the parameter slice, from a parameter on. Assumes nothing.
+-- What reading a method leaves, as the code goes: the answer and the parameter slice, from a parameter on.
 use mathlib.Core.Path.{_≡_, refl, sym, ap, ap₂, _∙_}
 use mathlib.Core.Bool.{Bool, true, false}
 use mathlib.Core.List.{List, [], _∷_, _++_, append-assoc}

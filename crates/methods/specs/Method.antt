@@ -1,5 +1,5 @@
 -- MethodDescriptor::from_str of ty.rs: the parameters' offsets and the return type, or a refusal with an offset.
--- Added to the Rust: refusal 19 at the 256th parameter, and strict reading (24). Assumes nothing.
+-- Added to the Rust: refusal 19 at the 256th parameter, and strict reading (24).
 use mathlib.Core.Bool.{Bool, true, false}
 use mathlib.Core.List.{List, [], _∷_}
 use Prim.Native.Nat.{ℕ, zero, suc, _+_}

@@ -1,4 +1,4 @@
--- Reading a method as the code goes: the parameters from an offset on, after so many, with the first bad name met so far. Assumes nothing.
+-- Reading a method as the code goes: the parameters from an offset on, after so many, with the first bad name met so far.
 use mathlib.Core.Path.{_≡_, refl, sym, ap, ap₂, subst, _∙_}
 use mathlib.Core.Bool.{Bool, true, false}
 use mathlib.Core.List.{List, [], _∷_}

@@ -1,4 +1,4 @@
--- One step of strict reading, as the code meets it: a name byte by byte, a type judged, the first bad name of a method. Assumes nothing.
+-- One step of strict reading, as the code meets it: a name byte by byte, a type judged, the first bad name of a method.
 use mathlib.Core.Path.{_≡_, refl, sym, ap, ap₂, _∙_}
 use mathlib.Core.Bool.{Bool, true, false, not}
 use mathlib.Core.List.{List, [], _∷_}

@@ -1,4 +1,4 @@
--- Names that are the same from i up to `to`: they stand to each other as what is left of them does. Assumes nothing.
+-- Names that are the same from i up to `to`: they stand to each other as what is left of them does.
 use mathlib.Core.Path.{_≡_, refl, sym, ap, ap₂, _∙_}
 use mathlib.Core.Bool.{Bool, true, false, not, true≢false}
 use mathlib.Core.List.{List, [], _∷_, _++_}

@@ -1,4 +1,4 @@
--- The promise of each public function, as the check reads it, allows one result. Assumes nothing.
+-- The promise of each public function, as the check reads it, allows one result.
 use mathlib.Core.Path.{_≡_, sym, _∙_}
 use borrow.Fn.Kinds.{Dens, resT, endedOf}
 use denote.Triple.Clauses.{AtExit}

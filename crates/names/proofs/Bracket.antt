@@ -1,4 +1,4 @@
--- The search by halving: names before `low` are below the key, names from `high` on are above it. Assumes nothing.
+-- The search by halving: names before `low` are below the key, names from `high` on are above it.
 use mathlib.Core.Path.{_≡_, refl, sym, ap, _∙_}
 use mathlib.Core.Bool.{Bool, true, false}
 use mathlib.Core.List.{List}

@@ -1,4 +1,4 @@
--- Worked examples of the checks and of the lookup, by computation. Assumes nothing.
+-- Worked examples of the checks and of the lookup, by computation.
 use mathlib.Core.Path.{_≡_, refl}
 use mathlib.Core.List.{[], _∷_}
 use Prim.Native.Nat.{_-_, _^_}

@@ -1,4 +1,4 @@
--- What the number of a name is: the place where its bytes stand; and there is none exactly if they stand nowhere. Assumes nothing.
+-- What the number of a name is: the place where its bytes stand; and there is none exactly if they stand nowhere.
 use mathlib.Core.Path.{_≡_, refl, sym, ap, _∙_}
 use mathlib.Core.Bool.{true, false, cond}
 use mathlib.Core.List.{List, [], _∷_}

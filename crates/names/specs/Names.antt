@@ -1,5 +1,5 @@
 -- Names as places in a slice of bytes: name i stands at the i-th of one column and is as long as the i-th of another says.
--- What a place must be, the order of names, their checks, and the number of a name. Assumes nothing.
+-- What a place must be, the order of names, their checks, and the number of a name.
 use mathlib.Core.Bool.{Bool, true, false, cond, not, _&&_, _||_}
 use mathlib.Core.List.{List, [], _∷_}
 use mathlib.Core.Option.{Option, some, none}

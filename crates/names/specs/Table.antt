@@ -1,5 +1,5 @@
 -- What the checks mean: a table is accepted exactly if its columns are of one length, its names few, short, inside the
--- slice, well-formed and rising. The order of numbers is then the order of names. Assumes nothing.
+-- slice, well-formed and rising. The order of numbers is then the order of names.
 use mathlib.Core.Path.{_≡_, refl, sym, ap, _∙_}
 use mathlib.Core.Bool.{Bool, true, false, cond, not, _&&_, _||_, false≢true}
 use mathlib.Core.List.{List, [], _∷_}

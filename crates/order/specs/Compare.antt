@@ -1,4 +1,4 @@
--- How numbers and lists of numbers are compared. Assumes nothing.
+-- How numbers and lists of numbers are compared.
 use mathlib.Core.Bool.{Bool, true, false, cond}
 use mathlib.Core.List.{List, [], _∷_}
 use Prim.Native.Nat.{ℕ}

@@ -1,5 +1,5 @@
 -- The order of numbers and of lists is a total order: it says Equal of equals alone, turns round when its arguments do, and Less is
--- transitive. Assumes nothing.
+-- transitive.
 use mathlib.Core.Path.{_≡_, refl, sym, ap, ap₂, _∙_}
 use mathlib.Core.Bool.{Bool, true, false, cond}
 use mathlib.Core.List.{List, [], _∷_}

@@ -1,4 +1,4 @@
--- Whether a number is in a list. Assumes nothing.
+-- Whether a number is in a list.
 use mathlib.Core.Bool.{Bool, false, _||_}
 use mathlib.Core.List.{List, [], _∷_}
 use Prim.Native.Nat.{ℕ}

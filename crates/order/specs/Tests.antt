@@ -1,4 +1,4 @@
--- A test of every number below a bound, computed once: what was tested holds of each of them. Assumes nothing.
+-- A test of every number below a bound, computed once: what was tested holds of each of them.
 use mathlib.Core.Path.{_≡_, refl, ap, _∙_}
 use mathlib.Core.Bool.{Bool, true, false, _&&_, false≢true}
 use Prim.Native.Nat.{ℕ, zero, suc, _<_}

@@ -1,4 +1,4 @@
--- Laws of truth values that the library does not have. Assumes nothing.
+-- Laws of truth values that the library does not have.
 use mathlib.Core.Path.{_≡_, refl, sym, ap₂}
 use mathlib.Core.Bool.{Bool, true, false, _&&_, false≢true}
 

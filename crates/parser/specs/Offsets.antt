@@ -1,4 +1,4 @@
--- What stands at an offset, the offset after a byte that is asked for, and whether the bytes end there. Assumes nothing.
+-- What stands at an offset, the offset after a byte that is asked for, and whether the bytes end there.
 use mathlib.Core.Bool.{Bool, true, false}
 use mathlib.Core.List.{List}
 use Prim.Native.Nat.{ℕ, _+_}

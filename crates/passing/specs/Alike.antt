@@ -1,5 +1,5 @@
 -- WHICH RULE SENDS A TYPE, AND WHICH ARRAY IT IS THAT IS TOO DEEP, changes nothing in the slices: so a pass of the code, which has no number
--- of its rule and one mark for all that is too deep, is the pass of the definition. Assumes nothing.
+-- of its rule and one mark for all that is too deep, is the pass of the definition.
 use mathlib.Core.Path.{_≡_, refl, sym, ap, _∙_}
 use mathlib.Core.Bool.{Bool, true, false, cond}
 use mathlib.Core.List.{List, [], _∷_}

@@ -1,4 +1,4 @@
--- What the contracts of the passes cite. Assumes nothing.
+-- What the contracts of the passes cite.
 use mathlib.Core.List.{List, map}
 use Prim.Native.Nat.{ℕ, _%_}
 

@@ -1,5 +1,4 @@
 -- A pass by index, over the slices: each step puts what one target gets, and the store stays ready while nothing is refused.
--- Assumes nothing.
 use mathlib.Core.Path.{_≡_, sym, ap, _∙_, subst}
 use mathlib.Core.Bool.{Bool, true, false, cond}
 use mathlib.Core.List.{List, [], _∷_, map, List·Memᴰ, List·Memᴰ·not-nil, List·Memᴰ·cases-cons}

@@ -1,5 +1,5 @@
 -- KEYS WITH ROWS BEHIND THEM. A slice of 20,480 words has the keys of a class table in its first 4,096 words and rows in the others; it is ready
--- if every row that is there is what its class reaches. A slice of another length has no row, and is ready as it is. Assumes nothing.
+-- if every row that is there is what its class reaches. A slice of another length has no row, and is ready as it is.
 use mathlib.Core.Path.{_≡_, refl, sym, ap, ap₂, _∙_, subst}
 use mathlib.Core.Bool.{Bool, true, false, cond, _&&_, true≢false, false≢true}
 use mathlib.Core.List.{List, [], _∷_, _++_, append-nil}

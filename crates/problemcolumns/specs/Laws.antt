@@ -1,4 +1,4 @@
--- THE RUNS ARE THE PROBLEM OF THE COLUMNS: kind by kind the same refusal, and the entries hold what the rows have made. Assumes nothing.
+-- THE RUNS ARE THE PROBLEM OF THE COLUMNS: kind by kind the same refusal, and the entries hold what the rows have made.
 use mathlib.Core.Path.{_≡_, refl, sym, ap, _∙_, subst}
 use mathlib.Core.Bool.{Bool, true, false, cond}
 use mathlib.Core.List.{List, [], _∷_, _++_, map, append-assoc, append-nil}

@@ -1,4 +1,4 @@
--- THE PROBLEM THAT COLUMNS GIVE, IN LENT SLICES: what a caller of this crate must believe. Assumes nothing.
+-- THE PROBLEM THAT COLUMNS GIVE, IN LENT SLICES: what a caller of this crate must believe.
 use mathlib.Core.Path.{_≡_}
 use mathlib.Core.Bool.{Bool, _&&_}
 use mathlib.Core.List.{List, map}

@@ -1,4 +1,4 @@
--- The rows of columns, kind by kind, on the entries of their kind: what the contracts of the inner functions cite. Assumes nothing.
+-- The rows of columns, kind by kind, on the entries of their kind: what the contracts of the inner functions cite.
 use mathlib.Core.Path.{_≡_}
 use mathlib.Core.Bool.{cond}
 use mathlib.Core.List.{List, [], _∷_}

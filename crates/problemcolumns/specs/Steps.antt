@@ -1,4 +1,4 @@
--- One turn of each loop, and the tests, as the code meets them. Assumes nothing.
+-- One turn of each loop, and the tests, as the code meets them.
 use mathlib.Core.Path.{_≡_, refl, sym, ap, ap₂, _∙_, subst}
 use mathlib.Core.Bool.{Bool, true, false, cond, _&&_}
 use mathlib.Core.List.{List, [], _∷_, _++_}

@@ -1,5 +1,5 @@
 -- A ROW ON KEPT SLICES IS THE PROBLEM'S ROW: the same refusal, the entries that it leaves hold the problem after it, and they are kept again.
--- One law a kind of row. Assumes nothing.
+-- One law a kind of row.
 use mathlib.Core.Path.{_≡_, refl, sym, ap, _∙_, subst}
 use mathlib.Core.Bool.{Bool, true, false, cond, not, _&&_}
 use mathlib.Core.List.{List, [], _∷_, _++_, map}

@@ -1,4 +1,4 @@
--- Laws of the rows as the code meets them. Assumes nothing.
+-- Laws of the rows as the code meets them.
 use mathlib.Core.Path.{_≡_, refl, sym, ap, ap₂, _∙_, subst}
 use mathlib.Core.Bool.{Bool, true, false, cond, false≢true}
 use mathlib.Core.List.{List, [], _∷_, _++_, append-assoc}

@@ -1,5 +1,5 @@
 -- A ROW OF A PROBLEM ON THE ENTRIES OF ITS KIND, as sorted slices keep them: every definition that a contract of this crate cites. That it
--- is the row of the problem stands in Kept. Assumes nothing.
+-- is the row of the problem stands in Kept.
 use mathlib.Core.Path.{_≡_}
 use mathlib.Core.Bool.{cond, _&&_}
 use mathlib.Core.List.{List, [], _∷_, _++_}

@@ -1,5 +1,5 @@
 -- A PROBLEM IS TAKEN EXACTLY IF its rows are in range, its words legal and its entries, counted without repeats, within the limits: so a
--- version that refuses more is ruled out, and order and repeats have no effect on whether it is refused. Assumes nothing.
+-- version that refuses more is ruled out, and order and repeats have no effect on whether it is refused.
 use mathlib.Core.Path.{_≡_, refl, ap₂, _∙_, subst}
 use mathlib.Core.Bool.{Bool, true, false, cond, not, _&&_}
 use mathlib.Core.List.{List, [], _∷_, _++_}

@@ -1,4 +1,4 @@
--- Rows by computation: what is taken, what is refused and in which order, on both sides of the limits. Assumes nothing.
+-- Rows by computation: what is taken, what is refused and in which order, on both sides of the limits.
 use mathlib.Core.Path.{_≡_, refl}
 use mathlib.Core.List.{List, [], _∷_, map}
 use Prim.Native.Nat.{ℕ, zero, suc, _+_, _^_}

@@ -1,5 +1,5 @@
 -- WHAT A PROBLEM IS THAT ROWS HAVE MADE: components of the problem, kinds, legal types, ascending sets within their limits. It is so
--- after the count, stays so with every row, taken or refused, and gives what a solve asks. Assumes nothing.
+-- after the count, stays so with every row, taken or refused, and gives what a solve asks.
 use mathlib.Core.Path.{_≡_, refl, sym, subst}
 use mathlib.Core.Bool.{Bool, true, false, cond, not, _&&_}
 use mathlib.Core.List.{List, [], _∷_, _++_, List·Memᴰ, List·Memᴰ·not-nil, List·Memᴰ·cases-cons, List·Memᴰ·append-cases}

@@ -1,5 +1,4 @@
 -- A PROBLEM THAT SORTED SLICES KEEP: what the row functions leave, the solve reads, and every contract between them speaks of.
--- Assumes nothing.
 use mathlib.Core.Path.{_≡_, refl, sym, ap, subst}
 use mathlib.Core.List.{List, [], _∷_, map, List·Memᴰ, List·Memᴰ·head, List·Memᴰ·tail}
 use Prim.Native.Nat.{ℕ, _+_, _≤_, _<_}

@@ -1,5 +1,5 @@
 -- A PROBLEM THAT IS TAKEN IS THE ONE THAT ITS ROWS LIST: the same rows, in any order and with any repeats, so a solve of it is the solve of
--- what was given. Assumes nothing.
+-- what was given.
 use mathlib.Core.Path.{_≡_, refl, sym, ap, _∙_, subst}
 use mathlib.Core.Bool.{Bool, true, false, cond}
 use mathlib.Core.List.{List, [], _∷_, _++_, List·Memᴰ, List·Memᴰ·head, List·Memᴰ·not-nil, List·Memᴰ·cases-cons, List·Memᴰ·append-cases, Memᴰ·append-left, Memᴰ·append-right}

@@ -1,5 +1,5 @@
 -- What a row of a problem is refused for, and what it makes of the problem: one function a kind, on plain lists of distinct entries.
--- The columns of a problem are such rows, in order of kind. Every definition that a contract cites. Assumes nothing.
+-- The columns of a problem are such rows, in order of kind. Every definition that a contract cites.
 use mathlib.Core.Bool.{Bool, cond, not, _&&_}
 use mathlib.Core.List.{List, [], _∷_, _++_}
 use Prim.Native.Nat.{ℕ, _+_}

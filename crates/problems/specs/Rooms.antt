@@ -1,4 +1,4 @@
--- How the room is counted: a new entry past the limit is refused, one that is there never. Assumes nothing.
+-- How the room is counted: a new entry past the limit is refused, one that is there never.
 use mathlib.Core.Path.{_≡_, refl, ap, _∙_}
 use mathlib.Core.Bool.{Bool, true, false, cond, not, _&&_}
 use mathlib.Core.List.{List}

@@ -1,5 +1,5 @@
 -- A PROBLEM IN SORTED SLICES: bounds as the keys of `keys`, pairs as first * 512 + second. A row that is taken is one put of `sorted`, and
--- the room is counted by what the put leaves. What the code of the rows cites. Assumes nothing.
+-- the room is counted by what the put leaves. What the code of the rows cites.
 use mathlib.Core.Path.{_≡_, refl, sym, ap, ap₂, _∙_, subst}
 use mathlib.Core.Bool.{Bool, true, false, cond}
 use mathlib.Core.List.{List, [], _∷_, map, List·Memᴰ, List·Memᴰ·head, List·Memᴰ·tail}

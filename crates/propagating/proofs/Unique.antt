@@ -1,5 +1,4 @@
 -- The contract of propagate, as the check reads it, allows one outcome: the refusal; unrefused the turns, and the table at the front of the cells.
--- Assumes nothing.
 use mathlib.Core.Path.{_≡_, sym, _∙_}
 use mathlib.Core.List.{map}
 use Prim.Native.Nat.{ℕ}

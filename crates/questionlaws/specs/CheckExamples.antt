@@ -1,5 +1,4 @@
 -- Where the tables of `Examples` are refused, by computation: a case for each part. a/Probe 0, a/TrussA 1, a/TrussB 2, java/lang/Object 3.
--- Assumes nothing.
 use mathlib.Core.Path.{_≡_, refl}
 use mathlib.Core.List.{[], _∷_}
 use Rattle.text.specs.Text.{ascii}

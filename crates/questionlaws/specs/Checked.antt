@@ -1,5 +1,5 @@
 -- THE CHECK OF A TABLE REFUSES WHAT EVERY QUESTION OVER IT REFUSES: with the same number, where the work is long enough and the numbers are those of
--- classes, or types. Assumes nothing.
+-- classes, or types.
 use mathlib.Core.Path.{_≡_, refl, sym, ap, _∙_}
 use mathlib.Core.Bool.{Bool, true, false, cond, not}
 use mathlib.Core.List.{List, [], _∷_}

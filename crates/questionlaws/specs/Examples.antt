@@ -1,5 +1,5 @@
 -- The examples of the scope paper from their columns, and a case for each refusal: one statement over one list, by computation.
--- a/Probe 0, a/TrussA 1, a/TrussB 2, java/lang/Object 3. Assumes nothing.
+-- a/Probe 0, a/TrussA 1, a/TrussB 2, java/lang/Object 3.
 use mathlib.Core.Path.{_≡_, refl}
 use mathlib.Core.List.{List, [], _∷_}
 use Prim.Native.Nat.{ℕ, _-_, _^_}

@@ -1,5 +1,5 @@
 -- THE LOOP OF `subtype_relation`, as hierarchy.rs has it, over the rows of a question that is not refused: it ends, with the relation that is
--- answered. Assumes nothing.
+-- answered.
 use mathlib.Core.Path.{_≡_}
 use mathlib.Core.Option.{some}
 use Prim.Native.Nat.{ℕ}

@@ -1,4 +1,4 @@
--- 22 comes back exactly if the work is too short: no row is refused with that number. Assumes nothing.
+-- 22 comes back exactly if the work is too short: no row is refused with that number.
 use mathlib.Core.Path.{_≡_, refl}
 use mathlib.Core.Bool.{Bool, true, false, cond, not, _&&_, _||_}
 use mathlib.Core.List.{List, [], _∷_, _++_}

@@ -1,5 +1,4 @@
 -- What the inner functions promise each other: the checks over the tables as they were built, and slices that hold what the rows say.
--- Assumes nothing.
 use mathlib.Core.Path.{_≡_}
 use mathlib.Core.Bool.{Bool, true, false, cond, not}
 use mathlib.Core.List.{List, [], _∷_}

@@ -1,5 +1,5 @@
 -- Laws of the questions over slices, as the code meets them: what the checks say, that the slices hold what the rows say, and what an answer
--- is. Assumes nothing.
+-- is.
 use mathlib.Core.Path.{_≡_, refl, sym, ap, ap₂, _∙_, subst}
 use mathlib.Core.Bool.{Bool, true, false, cond, not, _&&_}
 use mathlib.Core.List.{List, [], _∷_}

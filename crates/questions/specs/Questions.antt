@@ -1,5 +1,5 @@
 -- What a question over slices comes to: its refusals in order, its answer in the words of the table's rows, and the work at exit. All that
--- a caller must believe. Assumes nothing.
+-- a caller must believe.
 use mathlib.Core.Path.{_≡_}
 use mathlib.Core.Bool.{Bool, true, false, cond, not}
 use mathlib.Core.List.{List, [], _∷_}

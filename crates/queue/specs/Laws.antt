@@ -1,5 +1,4 @@
 -- WHAT THE RING SHOWS: filled it shows the first n components, an offer is `enqueue` of the solve's definition, and a pop takes the front.
--- Assumes nothing.
 use mathlib.Core.Path.{_≡_, refl, sym, ap, ap₂, _∙_, subst}
 use mathlib.Core.Bool.{Bool, true, false, not, cond, _&&_, _||_, true≢false}
 use mathlib.Core.List.{List, [], _∷_, _++_}

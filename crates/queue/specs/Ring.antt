@@ -1,4 +1,4 @@
--- A queue in a ring of 512 words: what the contracts cite, and when a ring shows a list. Assumes nothing.
+-- A queue in a ring of 512 words: what the contracts cite, and when a ring shows a list.
 use mathlib.Core.Path.{_≡_}
 use mathlib.Core.Bool.{cond}
 use mathlib.Core.List.{List, [], _∷_}

@@ -1,5 +1,5 @@
 -- That the places of a table lie inside the slices that are cut there, and that it has no more than 2,048 numbers, so that the address of each
--- fits. Assumes nothing.
+-- fits.
 use Prim.Native.Nat.{ℕ, _≤_}
 use Rattle.replaying.specs.Replaying.{Inside}
 use Rattle.replay_queries.specs.declared.cutting.Table.{Table}

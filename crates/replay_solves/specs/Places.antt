@@ -1,5 +1,5 @@
 -- That the places of a table, of a problem and of what is lent lie inside the slices that are cut there, and that a line has no more than 1,600
--- numbers, so that the address of each fits. Assumes nothing.
+-- numbers, so that the address of each fits.
 use Prim.Native.Nat.{ℕ, _≤_}
 use mathlib.Core.List.{List}
 use lib.ListN.{length}

@@ -1,4 +1,4 @@
--- What the loops, the lists and the verdicts go by, stated as the code meets it. Assumes nothing.
+-- What the loops, the lists and the verdicts go by, stated as the code meets it.
 use mathlib.Core.Bool.{Bool, true, false, cond, true≢false}
 use mathlib.Core.List.{List}
 use mathlib.Core.Logic.{_↔_}

@@ -1,5 +1,4 @@
 -- The contract of each public function but `cases::read`, as the check reads it, allows one result and one content of lent memory.
--- Assumes nothing.
 use mathlib.Core.Bool.{Bool, true, false, true≢false}
 use mathlib.Core.List.{List}
 use mathlib.Core.Logic.{_↔_}

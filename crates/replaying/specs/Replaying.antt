@@ -1,4 +1,4 @@
--- What the contracts cite: parts of a text, lists among numbers, and what a verdict does to the counts. Assumes nothing.
+-- What the contracts cite: parts of a text, lists among numbers, and what a verdict does to the counts.
 use mathlib.Core.Bool.{Bool, cond}
 use mathlib.Core.List.{List}
 use mathlib.Core.Logic.{_↔_}

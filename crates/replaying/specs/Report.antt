@@ -1,4 +1,4 @@
--- The report of a program: a line for each name with its two counts, one for lines that are no case, and one for all. Assumes nothing.
+-- The report of a program: a line for each name with its two counts, one for lines that are no case, and one for all.
 use mathlib.Core.Bool.{cond, _&&_}
 use mathlib.Core.List.{List, [], _∷_, _++_}
 use Prim.Native.Nat.{ℕ, zero, suc, _+_, _*_, _%_, _^_}

@@ -1,4 +1,4 @@
--- Laws of the report, as the code meets them. Assumes nothing.
+-- Laws of the report, as the code meets them.
 use mathlib.Core.Path.{_≡_, refl, sym, ap, ap₂, _∙_}
 use mathlib.Core.Bool.{Bool, true, false, cond, _&&_}
 use mathlib.Core.List.{List, [], _∷_, _++_, append-assoc}

@@ -1,5 +1,4 @@
 -- What the contracts cite: a component's state from words, which words are asked for, and the ways as the code has them.
--- Assumes nothing.
 use mathlib.Core.Path.{_≡_}
 use mathlib.Core.Bool.{Bool, false, cond, not, _&&_}
 use mathlib.Core.List.{List, map}

@@ -1,5 +1,5 @@
 -- THE ONE HINT OF THE DOMAIN: the hints are a set; there is exactly one if there is some and none differs from it. From the last observed
--- type to the first, as the code goes. Assumes nothing.
+-- type to the first, as the code goes.
 use mathlib.Core.Path.{_≡_, refl, sym, ap, _∙_}
 use mathlib.Core.Bool.{Bool, true, false, not}
 use mathlib.Core.List.{List, [], _∷_, map}

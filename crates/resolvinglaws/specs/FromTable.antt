@@ -1,5 +1,5 @@
 -- A COMPONENT'S BOUNDS, COPIED OUT OF A TABLE AS WORDS, are what produced_type and resolve_state ask: types over the names, in their order;
--- and the state that they stand for is the component's. Assumes nothing.
+-- and the state that they stand for is the component's.
 use mathlib.Core.Path.{_≡_, sym, subst}
 use mathlib.Core.List.{List, [], _∷_, map}
 use Prim.Native.Nat.{ℕ, _<_}

@@ -1,5 +1,4 @@
 -- Five copies one after the other in one slice: they fit where the table's keys do, and a part of it between two ends is one kind's words.
--- Assumes nothing.
 use mathlib.Core.Path.{_≡_, sym, ap, _∙_}
 use mathlib.Core.List.{List, _++_}
 use Prim.Native.Nat.{ℕ, _+_, _-_, _*_, _^_, _≤_}

@@ -1,4 +1,4 @@
--- What the grammar derives is printed of the type that it stands for, and that type is within the limits. Assumes nothing.
+-- What the grammar derives is printed of the type that it stands for, and that type is within the limits.
 use mathlib.Core.Path.{_≡_, refl, sym, ap, ap₂, subst, _∙_}
 use mathlib.Core.Bool.{Bool, true, _&&_}
 use mathlib.Core.List.{List, [], _∷_, _++_, List·Memᴰ, List·Memᴰ·head, List·Memᴰ·tail}

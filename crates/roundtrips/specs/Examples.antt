@@ -1,4 +1,4 @@
--- Worked examples of the definitions, by computation, over the table of the names `a/B` and `c`. Assumes nothing.
+-- Worked examples of the definitions, by computation, over the table of the names `a/B` and `c`.
 use mathlib.Core.Path.{_≡_, refl}
 use mathlib.Core.List.{List, [], _∷_}
 use mathlib.Core.Option.{some, none, bind}

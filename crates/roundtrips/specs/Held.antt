@@ -1,4 +1,4 @@
--- Which descriptors have a word over a table of names: those that are read, where the table holds each class's name. Assumes nothing.
+-- Which descriptors have a word over a table of names: those that are read, where the table holds each class's name.
 use mathlib.Core.Path.{_≡_, refl, sym, ap, subst}
 use mathlib.Core.List.{List, [], _∷_, List·Memᴰ, List·Memᴰ·head, List·Memᴰ·tail, List·Memᴰ·not-nil}
 use mathlib.Core.Logic.{_↔_}

@@ -1,5 +1,5 @@
 -- Writing over a part of a table of names. Each call checks all names that it is lent; a caller may lend only those that its
--- words use, with their classes renumbered: what is refused and what is written is the same. Assumes nothing.
+-- words use, with their classes renumbered: what is refused and what is written is the same.
 use mathlib.Core.Path.{_≡_, refl, sym, ap, ap₂, subst, _∙_}
 use mathlib.Core.Bool.{Bool, true, false, cond, not, _&&_, _||_, true≢false, false≢true}
 use mathlib.Core.List.{List, [], _∷_, _++_, map}

@@ -1,4 +1,4 @@
--- What can be read back: its descriptor is derived by the grammar, and stands for it. Assumes nothing.
+-- What can be read back: its descriptor is derived by the grammar, and stands for it.
 use mathlib.Core.Path.{_≡_, refl, sym, ap, subst, _∙_}
 use mathlib.Core.Bool.{Bool, true, false, not, _&&_, _||_, false≢true}
 use mathlib.Core.List.{List, [], _∷_, List·Memᴰ, List·Memᴰ·head, List·Memᴰ·tail, List·Memᴰ·not-nil, List·Memᴰ·eq-of-singleton}

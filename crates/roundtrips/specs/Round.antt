@@ -1,4 +1,4 @@
--- Reading then writing gives the same bytes back, and writing then reading the same type. Assumes nothing.
+-- Reading then writing gives the same bytes back, and writing then reading the same type.
 use mathlib.Core.Path.{_≡_, refl, sym, ap, ap₂, subst, _∙_}
 use mathlib.Core.Bool.{true}
 use mathlib.Core.List.{List, [], _∷_, _++_}

@@ -1,4 +1,4 @@
--- A descriptor as a type: what is read, with a class's number for its name; and as the word of that type. Assumes nothing.
+-- A descriptor as a type: what is read, with a class's number for its name; and as the word of that type.
 use mathlib.Core.List.{List, [], _∷_}
 use mathlib.Core.Option.{Option, some, Option·map, bind}
 use Prim.Native.Nat.{ℕ}

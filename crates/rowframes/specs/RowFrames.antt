@@ -1,5 +1,5 @@
 -- What the frame of a row leaves in its own slices and in the numbers, by the row functions of tables and problems. Every definition that a
--- contract of this crate cites. Assumes nothing.
+-- contract of this crate cites.
 use mathlib.Core.Path.{_≡_, refl, sym, ap, _∙_}
 use mathlib.Core.Bool.{Bool, true, false, cond}
 use mathlib.Core.List.{List}

@@ -1,4 +1,4 @@
--- Laws of the rows: what a row that is taken must be, what it makes of the tables, and that a refused one changes nothing. Assumes nothing.
+-- Laws of the rows: what a row that is taken must be, what it makes of the tables, and that a refused one changes nothing.
 use mathlib.Core.Path.{_≡_, refl, sym, ap, ap₂, _∙_}
 use mathlib.Core.Bool.{Bool, true, false, cond, not, _&&_, _||_, false≢true}
 use mathlib.Core.List.{List, [], _∷_, map}

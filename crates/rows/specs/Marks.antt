@@ -1,4 +1,4 @@
--- Laws of the marks: what a record tells of its class, and that it tells nothing else. Assumes nothing.
+-- Laws of the marks: what a record tells of its class, and that it tells nothing else.
 use mathlib.Core.Path.{_≡_, ap, ap₂, _∙_}
 use mathlib.Core.Bool.{Bool, true, false, cond}
 use mathlib.Core.List.{List}

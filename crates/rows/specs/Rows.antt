@@ -1,4 +1,4 @@
--- What a row is refused for, and what it makes of the tables: every definition that a contract of this crate cites. Assumes nothing.
+-- What a row is refused for, and what it makes of the tables: every definition that a contract of this crate cites.
 use mathlib.Core.Path.{_≡_}
 use mathlib.Core.Bool.{Bool, true, cond, not, _&&_, _||_}
 use mathlib.Core.List.{List, [], _∷_, _++_}

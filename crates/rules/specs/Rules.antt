@@ -1,5 +1,4 @@
 -- What a turn inserts, from links as numbers, ranks, and what is sent: as `additions` of the solve's definition, without the rules' numbers.
--- Assumes nothing.
 use mathlib.Core.List.{List, _++_, map}
 use Prim.Native.Nat.{ℕ}
 use Rattle.keys.specs.Rank.{unrank}

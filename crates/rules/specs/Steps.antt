@@ -1,4 +1,4 @@
--- The rules as the code meets them: one pass after the other, ready again after each, or the first refusal. Assumes nothing.
+-- The rules as the code meets them: one pass after the other, ready again after each, or the first refusal.
 use mathlib.Core.Path.{_≡_, sym, ap, _∙_}
 use mathlib.Core.List.{List, [], _∷_, _++_, map, List·Memᴰ, List·Memᴰ·not-nil, List·Memᴰ·cases-cons, List·Memᴰ·append-cases}
 use mathlib.Core.Logic.{⊎-elim}

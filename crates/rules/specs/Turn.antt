@@ -1,5 +1,5 @@
 -- THE RULES OVER SLICES ARE THOSE OF THE DEFINITION: where what is sent and the ranks stand for the types that a component's state gives, the
--- store is that of `additions`, and what it shows is the turn. Assumes nothing.
+-- store is that of `additions`, and what it shows is the turn.
 use mathlib.Core.Path.{_≡_, sym, ap, _∙_, subst}
 use mathlib.Core.List.{List, _++_, map}
 use Prim.Native.Nat.{ℕ, _≤_}

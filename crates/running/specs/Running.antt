@@ -1,4 +1,4 @@
--- A run over the slices: what the contracts cite, and the invariant of the loop. Assumes nothing.
+-- A run over the slices: what the contracts cite, and the invariant of the loop.
 use mathlib.Core.Path.{_≡_}
 use mathlib.Core.List.{List, [], map}
 use Prim.Native.Nat.{ℕ, suc, _<_}

@@ -1,4 +1,4 @@
--- WHAT CODE PRINTS IS WHAT THE DEFINITION PRINTS: all ones stands for nothing, and no class, no type of an answer is all ones. Assumes nothing.
+-- WHAT CODE PRINTS IS WHAT THE DEFINITION PRINTS: all ones stands for nothing, and no class, no type of an answer is all ones.
 use mathlib.Core.Path.{_≡_, refl, sym, ap, ap₂, _∙_, subst}
 use mathlib.Core.Bool.{Bool, true, false, cond, true≢false}
 use mathlib.Core.List.{List, [], _∷_, _++_, map}

@@ -1,4 +1,4 @@
--- WHAT IS PRINTED OF WHAT A FRAME SAYS, as code has it, and what a line leaves. Every definition that a contract of this crate cites. Assumes nothing.
+-- WHAT IS PRINTED OF WHAT A FRAME SAYS, as code has it, and what a line leaves. Every definition that a contract of this crate cites.
 use mathlib.Core.Path.{_≡_}
 use mathlib.Core.List.{List, []}
 use Prim.Native.Nat.{ℕ}

@@ -1,5 +1,4 @@
 -- WHAT IS SENT IS WHAT THE DEFINITION GIVES, of a type that may be missing and is legal where it is there; and all of it can be sent.
--- Assumes nothing.
 use mathlib.Core.Path.{_≡_, refl, sym, ap, _∙_, subst}
 use mathlib.Core.Bool.{Bool, true, false, cond}
 use mathlib.Core.List.{[], _∷_}

@@ -1,4 +1,4 @@
--- What the contracts cite: how a type that may be missing is sent. Assumes nothing.
+-- What the contracts cite: how a type that may be missing is sent.
 use mathlib.Core.Bool.{cond}
 use Rattle.ty.specs.declared.MaybeType.{MaybeType}
 use Rattle.ty.specs.declared.MaybeType.the-variants.{Is, Nothing}

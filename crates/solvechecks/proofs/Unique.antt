@@ -1,4 +1,4 @@
--- The contracts of the public functions, as the check reads them, allow one result and one content of lent memory. Assumes nothing.
+-- The contracts of the public functions, as the check reads them, allow one result and one content of lent memory.
 use mathlib.Core.Path.{_≡_, sym, _∙_}
 use borrow.Fn.Kinds.{Dens, resT, endedOf}
 use denote.Triple.Clauses.{AtExit}

@@ -1,4 +1,4 @@
--- What a solve over slices is refused with by lengths, and after its rows; and the work of one that is refused by its lengths. Assumes nothing.
+-- What a solve over slices is refused with by lengths, and after its rows; and the work of one that is refused by its lengths.
 use mathlib.Core.Bool.{Bool, cond, not, _||_}
 use mathlib.Core.List.{List, [], _∷_}
 use Prim.Native.Nat.{ℕ, _-_, _^_}

@@ -1,4 +1,4 @@
--- The steps of the checks: each way through them, and what a refusal or none tells. Assumes nothing.
+-- The steps of the checks: each way through them, and what a refusal or none tells.
 use mathlib.Core.Path.{_≡_, refl, _∙_}
 use mathlib.Core.Bool.{Bool, true, false}
 use mathlib.Core.List.{List}

@@ -1,4 +1,4 @@
--- The solve where no slice is too short: what the laws lead every way through the door to. Assumes nothing.
+-- The solve where no slice is too short: what the laws lead every way through the door to.
 use mathlib.Core.Bool.{cond}
 use lib.Dec.{eqb}
 use Rattle.checks.specs.Checks.{firstRefusal}

@@ -1,5 +1,5 @@
 -- Laws of a solve over slices, as the code meets them: which check refuses, and that a solve over the slices that were built is the one that
--- is promised. Assumes nothing.
+-- is promised.
 use mathlib.Core.Path.{_≡_, refl, sym, ap, ap₂, _∙_, subst}
 use mathlib.Core.Bool.{Bool, true, false, cond, not, _||_, false≢true}
 use mathlib.Core.List.{List}

@@ -1,5 +1,5 @@
 -- What a solve over slices comes to: its refusals in order, its result, and what stands in the lent slices afterwards. Every definition that
--- its contract cites. Assumes nothing.
+-- its contract cites.
 use mathlib.Core.Path.{_≡_}
 use mathlib.Core.Bool.{Bool, cond, not, _||_}
 use mathlib.Core.List.{List, [], _∷_}

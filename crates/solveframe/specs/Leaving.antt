@@ -1,4 +1,4 @@
--- WHAT THE FRAME OF A SOLVE LEAVES IS WHAT THE DEFINITION SAYS, from a state that lines lead to. Assumes nothing.
+-- WHAT THE FRAME OF A SOLVE LEAVES IS WHAT THE DEFINITION SAYS, from a state that lines lead to.
 use mathlib.Core.Path.{_≡_, refl, sym, ap, ap₂, _∙_, subst}
 use mathlib.Core.Bool.{Bool, true, false, cond}
 use mathlib.Core.List.{List}

@@ -1,4 +1,4 @@
--- What the frame of a solve comes to: 9, or what the solve of the problem says. Every definition that a contract of this crate cites. Assumes nothing.
+-- What the frame of a solve comes to: 9, or what the solve of the problem says. Every definition that a contract of this crate cites.
 use mathlib.Core.Path.{_≡_}
 use mathlib.Core.Bool.{cond}
 use mathlib.Core.List.{List}

@@ -1,6 +1,6 @@
 -- WHAT A SOLVE OVER SLICES THAT IS NOT REFUSED GIVES, in terms of what came back and of the caller's columns, row by row: every given row is
 -- among the final rows; these ascend strictly and no rule gives a bound that is not among them; an answer is all ones or a concrete type; and
--- along a chain of rows it fits what is asked at the end. Assumes nothing.
+-- along a chain of rows it fits what is asked at the end.
 use mathlib.Core.Path.{_≡_, refl, sym, ap, _∙_, subst}
 use mathlib.Core.Bool.{Bool, true, false, cond}
 use mathlib.Core.List.{List, map, List·Memᴰ}

@@ -1,5 +1,5 @@
 -- WHAT A SOLVE OVER SLICES THAT NO CHECK REFUSES MEANS, in the words of the rows: it is the solve of the rows as they stand, over the world of
--- the table's rows; that world is lawful and the rows are within the limits, so every theorem about solves is about it. Assumes nothing.
+-- the table's rows; that world is lawful and the rows are within the limits, so every theorem about solves is about it.
 use mathlib.Core.Path.{_≡_, refl, ap, _∙_}
 use mathlib.Core.Bool.{Bool, true, false, cond, not}
 use Prim.Native.Nat.{_-_, _^_, _≤_}

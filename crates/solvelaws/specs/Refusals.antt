@@ -1,6 +1,5 @@
 -- WHEN A SOLVE OVER SLICES IS REFUSED, WITH WHICH NUMBER, AND WHAT IT THEN LEAVES: the first check of its list that holds, else what the run
 -- stops with; 22 exactly if a slice is too short, 20 and 21 exactly if no check holds and the run stops with them; in the domain no other.
--- Assumes nothing.
 use mathlib.Core.Path.{_≡_, refl, sym, ap, _∙_}
 use mathlib.Core.Bool.{Bool, true, false, cond, not, _&&_, _||_, false≢true}
 use mathlib.Core.List.{List, [], _∷_, _++_}

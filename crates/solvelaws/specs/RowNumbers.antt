@@ -1,4 +1,4 @@
--- ROWS BY THEIR NUMBERS: row i of some columns is among what they list, and chains of rows of flows and upper flows. Assumes nothing.
+-- ROWS BY THEIR NUMBERS: row i of some columns is among what they list, and chains of rows of flows and upper flows.
 use mathlib.Core.Path.{_≡_, refl, sym, ap, ap₂, subst}
 use mathlib.Core.Bool.{true}
 use mathlib.Core.List.{List, [], _∷_, _++_, map, List·Memᴰ, List·Memᴰ·head, List·Memᴰ·tail, List·Memᴰ·not-nil, List·Memᴰ·cases-cons}

@@ -1,4 +1,4 @@
--- The contract of solve, as the check reads it, allows one outcome: the counts, and unrefused the final table. Assumes nothing.
+-- The contract of solve, as the check reads it, allows one outcome: the counts, and unrefused the final table.
 use mathlib.Core.Path.{_≡_}
 use mathlib.Core.List.{map}
 use lib.ListN.{take}

@@ -1,4 +1,4 @@
--- What a solve asks of its tables, what it leaves, and that what a run leaves is that. Assumes nothing.
+-- What a solve asks of its tables, what it leaves, and that what a run leaves is that.
 use mathlib.Core.Path.{_≡_, refl, sym, ap, _∙_, subst}
 use mathlib.Core.Bool.{cond}
 use mathlib.Core.List.{List, [], _++_, map}

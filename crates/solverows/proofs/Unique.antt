@@ -1,4 +1,4 @@
--- The contract of the public function, as the check reads it, allows one result and one content of lent memory. Assumes nothing.
+-- The contract of the public function, as the check reads it, allows one result and one content of lent memory.
 use mathlib.Core.Path.{_≡_, sym, _∙_}
 use borrow.Fn.Kinds.{Dens, resT, endedOf}
 use denote.Triple.Clauses.{AtExit}

@@ -1,5 +1,5 @@
 -- Why the steps of a solve over a table come to what is promised: a refused one leaves answers and columns, and the solve of the slices that
--- were filled is the solve of the columns. Assumes nothing.
+-- were filled is the solve of the columns.
 use mathlib.Core.Path.{_≡_, refl, sym, ap, _∙_, subst}
 use mathlib.Core.List.{List}
 use Prim.Native.Nat.{ℕ, _-_, _^_}

@@ -1,4 +1,4 @@
--- The solve of columns over a table as it was built: the checks from the problem's rows on, and the solve. Assumes nothing.
+-- The solve of columns over a table as it was built: the checks from the problem's rows on, and the solve.
 use mathlib.Core.Path.{_≡_}
 use mathlib.Core.Bool.{cond}
 use mathlib.Core.List.{List}

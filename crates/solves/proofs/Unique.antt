@@ -1,4 +1,4 @@
--- The contract of the public function, as the check reads it, allows one outcome: the counts and every lent slice. Assumes nothing.
+-- The contract of the public function, as the check reads it, allows one outcome: the counts and every lent slice.
 use mathlib.Core.Path.{_≡_, sym, _∙_}
 use borrow.Fn.Kinds.{Dens, resT, endedOf}
 use denote.Triple.Clauses.{AtExit}

@@ -1,4 +1,4 @@
--- WITH ROWS OR WITHOUT: the classes that the given bounds speak of, when rows are made, and that they change nothing. Assumes nothing.
+-- WITH ROWS OR WITHOUT: the classes that the given bounds speak of, when rows are made, and that they change nothing.
 use mathlib.Core.Path.{_≡_, refl, sym, ap, _∙_, subst}
 use mathlib.Core.Bool.{Bool, true, false, _||_, true≢false, false≢true}
 use mathlib.Core.List.{List}

@@ -1,4 +1,4 @@
--- What a solve leaves, by computation: the scope paper's example, and a refused one. Assumes nothing.
+-- What a solve leaves, by computation: the scope paper's example, and a refused one.
 use mathlib.Core.Path.{_≡_, refl, ap}
 use mathlib.Core.List.{List, [], _∷_}
 use mathlib.Core.Option.{none}

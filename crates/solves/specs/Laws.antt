@@ -1,5 +1,5 @@
 -- FROM A PROBLEM THAT SLICES KEEP TO ITS SOLVE: what is kept is what the run asks, the run is that of the definition, and what it leaves,
--- written out, is what a solve leaves. Assumes nothing.
+-- written out, is what a solve leaves.
 use mathlib.Core.Path.{_≡_, refl, sym, ap, ap₂, _∙_, subst}
 use mathlib.Core.List.{List, [], _∷_, _++_, map, List·Memᴰ, List·Memᴰ·head, List·Memᴰ·tail}
 use mathlib.Core.Logic.{_⊎_, inl, inr, ⊎-elim}

@@ -1,4 +1,4 @@
--- WHAT A SOLVE LEAVES IN THE SLICES THAT A CALLER LENDS, and hands back. Assumes nothing.
+-- WHAT A SOLVE LEAVES IN THE SLICES THAT A CALLER LENDS, and hands back.
 use mathlib.Core.Path.{_≡_}
 use mathlib.Core.List.{List, map}
 use Prim.Native.Nat.{ℕ, _≤_}

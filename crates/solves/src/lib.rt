@@ -30,7 +30,7 @@ ghost use Rattle.solves.specs.Laws.{runOf, Leaves};
 ghost use Rattle.solves.specs.Choice.{Inside, Decides};
 
 // From how many given bounds on rows are made.
-const MANY: usize = 32;
+const MANY: usize = 8;
 
 // The run, with its incoming links in a lent slice.
 fn run_linked(

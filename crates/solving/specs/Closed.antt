@@ -1,4 +1,4 @@
--- CLOSED: what a run ends in, unrefused, is a table to which no rule adds a bound, from the state of any component. Assumes nothing.
+-- CLOSED: what a run ends in, unrefused, is a table to which no rule adds a bound, from the state of any component.
 use mathlib.Core.Path.{_≡_, refl, sym, ap, _∙_, subst}
 use mathlib.Core.Bool.{Bool, true, false, cond, false≢true}
 use mathlib.Core.List.{List, [], _∷_, List·Memᴰ, List·Memᴰ·head, List·Memᴰ·tail, List·Memᴰ·not-nil, List·Memᴰ·cases-cons}

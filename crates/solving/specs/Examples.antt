@@ -1,4 +1,4 @@
--- Solves by computation: the scope paper's example, and the cases in which a reader could take another result. Assumes nothing.
+-- Solves by computation: the scope paper's example, and the cases in which a reader could take another result.
 use mathlib.Core.Path.{_≡_, refl}
 use mathlib.Core.Bool.{true, false}
 use mathlib.Core.List.{List, [], _∷_}

@@ -1,5 +1,5 @@
 -- Insertions and turns, one step at a time: what an insertion does, and two laws by which a fact that insertions keep is kept by a
--- turn, and one that taking the front keeps too by a run. Assumes nothing.
+-- turn, and one that taking the front keeps too by a run.
 use mathlib.Core.Path.{_≡_, refl, sym, _∙_, subst}
 use mathlib.Core.Bool.{Bool, true, false, cond, _||_, false≢true}
 use mathlib.Core.List.{List, [], _∷_, _++_, List·Memᴰ, List·Memᴰ·head, List·Memᴰ·tail, List·Memᴰ·not-nil, List·Memᴰ·cases-cons, Memᴰ·append-left, Memᴰ·append-right}

@@ -1,4 +1,4 @@
--- Bounds, pairs and types are totally ordered, and the types of a kind in a table stand in their order. Assumes nothing.
+-- Bounds, pairs and types are totally ordered, and the types of a kind in a table stand in their order.
 use mathlib.Core.Path.{_≡_, refl, sym, ap, ap₂, _∙_}
 use mathlib.Core.Bool.{Bool, true, false, cond}
 use mathlib.Core.List.{[], _∷_}

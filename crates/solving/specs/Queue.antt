@@ -1,4 +1,4 @@
--- Different numbers below n are at most n: why a queue without repeats has room; and a queue stays without repeats. Assumes nothing.
+-- Different numbers below n are at most n: why a queue without repeats has room; and a queue stays without repeats.
 use mathlib.Core.Path.{_≡_, refl, sym, ap, _∙_, subst}
 use mathlib.Core.Bool.{Bool, true, false, cond, _||_, true≢false}
 use mathlib.Core.List.{List, [], _∷_, _++_}

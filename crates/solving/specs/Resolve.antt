@@ -1,4 +1,4 @@
--- resolve_state in the words of the Rust, with its tests as conjunctions: what the five ways come to. Assumes nothing.
+-- resolve_state in the words of the Rust, with its tests as conjunctions: what the five ways come to.
 use mathlib.Core.Path.{_≡_, refl, ap, ap₂, _∙_}
 use mathlib.Core.Bool.{Bool, true, false, cond, _&&_}
 use mathlib.Core.List.{List, [], _∷_}

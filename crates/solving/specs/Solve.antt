@@ -1,6 +1,6 @@
 -- WHAT A SOLVE THAT IS NOT REFUSED GIVES, in the words of the scope paper: its table has the given bounds, is strictly ascending, within
 -- 4,096 and closed; turns are at most components plus bounds added; answers are resolve_state's, are concrete, and have the property of
--- chains; and it depends on the sets of rows alone. Assumes nothing.
+-- chains; and it depends on the sets of rows alone.
 use mathlib.Core.Path.{_≡_, refl, sym, ap, ap₂, _∙_}
 use mathlib.Core.Bool.{true}
 use mathlib.Core.List.{List, [], _∷_, _++_, List·Memᴰ, List·Memᴰ·head, List·Memᴰ·tail, List·Memᴰ·not-nil, List·Memᴰ·cases-cons, List·Memᴰ·append-cases, Memᴰ·append-left, Memᴰ·append-right}

@@ -1,5 +1,5 @@
 -- The solving half of lattice.rs over types and a world, in the names and the order of cases of the Rust: a table of bounds, the
--- rules of propagate, turns, and the five ways of resolve_state. A component is its number. Assumes nothing.
+-- rules of propagate, turns, and the five ways of resolve_state. A component is its number.
 use mathlib.Core.Bool.{Bool, true, false, cond}
 use mathlib.Core.List.{List, [], _∷_, _++_}
 use mathlib.Core.Option.{Option, some, none}

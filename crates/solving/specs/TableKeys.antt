@@ -1,6 +1,5 @@
 -- THE TABLE AS SORTED NUMBERS: a bound as its key, component (9 bits), kind (3), rank of its type (52). Of legal bounds the keys stand in
 -- the order of the bounds; one put of the crate sorted is one insertion; and the types of a component's kind are a run of neighbours.
--- Assumes nothing.
 use mathlib.Core.Path.{_≡_, refl, sym, ap, ap₂, _∙_, subst}
 use mathlib.Core.Bool.{Bool, true, false, cond, _||_}
 use mathlib.Core.List.{List, [], _∷_, map, List·Memᴰ, List·Memᴰ·head, List·Memᴰ·tail}

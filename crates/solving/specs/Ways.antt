@@ -1,5 +1,5 @@
 -- WHAT AN ANSWER OF resolve_state IS, whatever the state: it is concrete, it is assignable to every upper bound or both are references,
--- and it comes from the first way that answers; a cause that a way names holds. Assumes nothing.
+-- and it comes from the first way that answers; a cause that a way names holds.
 use mathlib.Core.Path.{_≡_, refl, sym, ap, _∙_, subst}
 use mathlib.Core.Bool.{Bool, true, false, cond}
 use mathlib.Core.List.{List, [], _∷_, _++_, List·Memᴰ, List·Memᴰ·head, List·Memᴰ·tail, List·Memᴰ·not-nil, List·Memᴰ·cases-cons}

@@ -1,4 +1,4 @@
--- WHAT A STATE THAT LINES LEAD TO GIVES EACH FRAME of what it asks for; and what a head that is not refused says of kind and body. Assumes nothing.
+-- WHAT A STATE THAT LINES LEAD TO GIVES EACH FRAME of what it asks for; and what a head that is not refused says of kind and body.
 use mathlib.Core.Path.{_≡_, refl, sym, ap, _∙_, subst}
 use mathlib.Core.Bool.{Bool, true, false, cond, not, _&&_, _||_}
 use mathlib.Core.List.{List, map}

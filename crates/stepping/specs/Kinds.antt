@@ -1,4 +1,4 @@
--- THE FRAME OF EACH KIND IS THE STEP OF ITS MESSAGE, over the state in four slices. Assumes nothing.
+-- THE FRAME OF EACH KIND IS THE STEP OF ITS MESSAGE, over the state in four slices.
 use mathlib.Core.Path.{_≡_, refl, sym, ap, _∙_, subst}
 use mathlib.Core.Bool.{cond}
 use mathlib.Core.List.{List}

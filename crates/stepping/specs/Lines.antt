@@ -1,4 +1,4 @@
--- FROM THE BYTES OF A LINE TO THE STEP OF ITS FRAME: HEX, the head, the message. Assumes nothing.
+-- FROM THE BYTES OF A LINE TO THE STEP OF ITS FRAME: HEX, the head, the message.
 use mathlib.Core.Path.{_≡_, refl, sym, ap, ap₂, _∙_, subst}
 use mathlib.Core.Bool.{Bool, true, false, cond, true≢false}
 use mathlib.Core.List.{List, [], _∷_, _++_}

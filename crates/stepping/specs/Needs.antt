@@ -1,4 +1,4 @@
--- WHAT THE FRAME OF A KIND ASKS FOR, from a state that lines lead to and a head that is not refused. Assumes nothing.
+-- WHAT THE FRAME OF A KIND ASKS FOR, from a state that lines lead to and a head that is not refused.
 use mathlib.Core.Path.{_≡_, refl, sym, ap, _∙_}
 use mathlib.Core.Bool.{true}
 use mathlib.Core.List.{List}

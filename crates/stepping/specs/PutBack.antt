@@ -1,4 +1,4 @@
--- A PART OF THE ROWS, WRITTEN AND PUT BACK: it is what was written, and every other part is as it was. Assumes nothing.
+-- A PART OF THE ROWS, WRITTEN AND PUT BACK: it is what was written, and every other part is as it was.
 use mathlib.Core.Path.{_≡_, refl, sym, ap, _∙_}
 use mathlib.Core.List.{List, [], _∷_, _++_}
 use Prim.Native.Nat.{ℕ, zero, suc, _+_, _-_, _≤_}

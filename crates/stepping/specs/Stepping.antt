@@ -1,4 +1,4 @@
--- WHAT A STEP ASKS OF THE STATE'S SLICES, AND LEAVES IN THEM. Every definition that a contract of this crate cites. Assumes nothing.
+-- WHAT A STEP ASKS OF THE STATE'S SLICES, AND LEAVES IN THEM. Every definition that a contract of this crate cites.
 use mathlib.Core.Path.{_≡_}
 use mathlib.Core.List.{List}
 use Prim.Native.Nat.{ℕ}

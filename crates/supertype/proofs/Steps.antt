@@ -1,4 +1,4 @@
--- One step of the loop of `not_reaching`, as the code meets it. Assumes nothing.
+-- One step of the loop of `not_reaching`, as the code meets it.
 use mathlib.Core.Path.{_≡_, ap}
 use mathlib.Core.Bool.{cond}
 use mathlib.Core.List.{List}

@@ -1,4 +1,4 @@
--- What the inner functions promise each other: the records by the tables that they leave. Assumes nothing.
+-- What the inner functions promise each other: the records by the tables that they leave.
 use mathlib.Core.Path.{_≡_}
 use mathlib.Core.Bool.{cond}
 use mathlib.Core.List.{List, [], _∷_}

@@ -1,4 +1,4 @@
--- Laws of the records gone through, as the loop meets them; that the tables stop where the rows do; and what a table says that is not refused. Assumes nothing.
+-- Laws of the records gone through, as the loop meets them; that the tables stop where the rows do; and what a table says that is not refused.
 use mathlib.Core.Path.{_≡_, refl, sym, ap, ap₂, _∙_, subst}
 use mathlib.Core.Bool.{Bool, true, false, cond, not}
 use mathlib.Core.List.{List, [], _∷_, _++_}

@@ -1,4 +1,4 @@
--- Where a class table is refused, and with what, in the words of its rows: all that a caller must believe. Assumes nothing.
+-- Where a class table is refused, and with what, in the words of its rows: all that a caller must believe.
 use mathlib.Core.Bool.{cond, not}
 use mathlib.Core.List.{List, [], _∷_, _++_}
 use Prim.Native.Nat.{ℕ, suc, _+_, _-_, _^_}

@@ -1,4 +1,4 @@
--- The example of the scope paper from its table, by computation: a/Probe 0, a/TrussA 1, a/TrussB 2, java/lang/Object 3. Assumes nothing.
+-- The example of the scope paper from its table, by computation: a/Probe 0, a/TrussA 1, a/TrussB 2, java/lang/Object 3.
 use mathlib.Core.Path.{_≡_, refl}
 use mathlib.Core.List.{List, [], _∷_}
 use mathlib.Core.Option.{some}

@@ -1,5 +1,5 @@
 -- A CLASS WITHOUT A ROW HAS NO PARENTS. So over the rows of any table the loop of `subtype_relation`, as hierarchy.rs has it, ends with
--- what `relation` defines, and nothing is left to assume of the table. Assumes nothing.
+-- what `relation` defines, and nothing is left to assume of the table.
 use mathlib.Core.Path.{_≡_, refl, ap}
 use mathlib.Core.Bool.{Bool, true, false, cond, _||_, true≢false}
 use mathlib.Core.List.{List, [], _∷_, _++_}

@@ -1,5 +1,5 @@
 -- The domain of a class table in the words of its rows, and that a table of columns is taken exactly if each row lies inside its slice and the
--- rows are in the domain. Assumes nothing.
+-- rows are in the domain.
 use mathlib.Core.Path.{_≡_, refl, sym, ap, ap₂, _∙_, subst}
 use mathlib.Core.Bool.{Bool, true, false, cond, _&&_, _||_, false≢true, or-false, or-assoc}
 use mathlib.Core.List.{List, [], _∷_, _++_, map, List·Memᴰ, List·Memᴰ·head, List·Memᴰ·tail, List·Memᴰ·not-nil, List·Memᴰ·cases-cons}

@@ -1,5 +1,5 @@
 -- The view and the world that the tables of the code give: keys and marks in slices, read by bisection and by bits. `Agrees` says that they
--- are those of the rows, so a caller need not read this. Assumes nothing.
+-- are those of the rows, so a caller need not read this.
 use Rattle.view.specs.View.{View}
 use Rattle.tables.specs.Table.{viewOf}
 use Rattle.lattice.specs.Lattice.{World}

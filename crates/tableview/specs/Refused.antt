@@ -1,5 +1,4 @@
 -- A TABLE IS REFUSED AS ITS ROWS ARE: the state of keys and marks refuses the same row with the same number, whether the columns are even or not.
--- Assumes nothing.
 use mathlib.Core.Path.{_≡_, refl, sym, ap, _∙_, subst}
 use mathlib.Core.Bool.{Bool, true, false, cond, not, _&&_, _||_}
 use mathlib.Core.List.{List, [], _∷_, _++_, map, List·Memᴰ, List·Memᴰ·not-nil}

@@ -1,5 +1,5 @@
 -- What a table of columns is refused with, in the words of its rows: the first row that is refused, names before records. No key, no mark: the
--- pairs of a class and a parent are a list. Assumes nothing.
+-- pairs of a class and a parent are a list.
 use mathlib.Core.Bool.{Bool, false, cond, not, _&&_, _||_}
 use mathlib.Core.List.{List, [], _∷_, _++_}
 use Prim.Native.Nat.{ℕ, suc}

@@ -1,5 +1,5 @@
 -- VIEWS THAT AGREE ANSWER ALIKE: the same parents as sets, the same facts; every relation, distance, set of ancestors, cast and least
--- common supertype is the same. Assumes nothing.
+-- common supertype is the same.
 use mathlib.Core.Path.{_≡_, refl, sym, ap, ap₂, _∙_}
 use mathlib.Core.Bool.{Bool, true, false, cond, not, _&&_, _||_, true≢false}
 use mathlib.Core.List.{List, [], _∷_, List·Memᴰ}

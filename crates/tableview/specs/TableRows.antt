@@ -1,5 +1,5 @@
 -- A class table as plain rows, and the view and the world that it gives: what a reader must believe of a table. A class is the place
--- of its name. Assumes nothing.
+-- of its name.
 use mathlib.Core.Bool.{Bool, true, false, cond, _&&_, _||_}
 use mathlib.Core.List.{List, [], _∷_, _++_}
 use mathlib.Core.Option.{Option, some, none}

@@ -1,5 +1,4 @@
 -- What records that are taken leave, in the words of the rows: the pairs are those that rows list, the marks those that rows tell.
--- Assumes nothing.
 use mathlib.Core.Path.{_≡_, refl, sym, ap, _∙_, subst}
 use mathlib.Core.Bool.{Bool, true, false, cond, _&&_, _||_, false≢true, or-false}
 use mathlib.Core.List.{List, [], _∷_, _++_, map}

@@ -1,4 +1,4 @@
--- Names and terminals as text: `ascii "java/lang/Object"` is the list of its bytes, and computes. Assumes nothing.
+-- Names and terminals as text: `ascii "java/lang/Object"` is the list of its bytes, and computes.
 use mathlib.Core.Path.{_≡_, refl}
 use mathlib.Core.List.{List}
 use mathlib.Core.List as list

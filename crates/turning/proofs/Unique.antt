@@ -1,4 +1,4 @@
--- The contract of turn, as the check reads it, allows one outcome: the state, the cells and the ring. Assumes nothing.
+-- The contract of turn, as the check reads it, allows one outcome: the state, the cells and the ring.
 use mathlib.Core.Path.{_≡_, sym, ap, _∙_}
 use borrow.Fn.Kinds.{Dens, resT, endedOf}
 use denote.Triple.Clauses.{AtExit}

@@ -1,4 +1,4 @@
--- The answers of the functions on words: each enum's cases, from the definitions on types. Assumes nothing.
+-- The answers of the functions on words: each enum's cases, from the definitions on types.
 use mathlib.Core.Path.{_≡_, refl, sym, ap, _∙_}
 use mathlib.Core.Bool.{Bool, true, false, cond}
 use mathlib.Core.List.{List, [], _∷_}

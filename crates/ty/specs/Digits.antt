@@ -1,4 +1,4 @@
--- Laws of hex digits: a list of digits as a number, and back. Assumes nothing.
+-- Laws of hex digits: a list of digits as a number, and back.
 use mathlib.Core.Path.{_≡_, refl, sym, ap, ap₂, _∙_}
 use mathlib.Core.List.{List, [], _∷_, _++_}
 use Prim.Native.Nat.{ℕ, zero, suc, _+_, _*_, _/_, _%_, _^_, _≤_, _<_}

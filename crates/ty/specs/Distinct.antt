@@ -1,4 +1,4 @@
--- Lists of categories without repeats: their digits in a payload, and that there are at most eleven. Assumes nothing.
+-- Lists of categories without repeats: their digits in a payload, and that there are at most eleven.
 use mathlib.Core.Path.{_≡_, refl, sym, ap, ap₂, _∙_}
 use mathlib.Core.Bool.{Bool, true, false, not, _&&_, _||_, true≢false}
 use mathlib.Core.List.{List, [], _∷_, _++_}

@@ -1,4 +1,4 @@
--- Words, types and their order at work, by computation. Assumes nothing.
+-- Words, types and their order at work, by computation.
 use mathlib.Core.Path.{_≡_, refl}
 use mathlib.Core.Bool.{true, false}
 use mathlib.Core.List.{List, [], _∷_}

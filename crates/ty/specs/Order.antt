@@ -1,5 +1,5 @@
 -- The order of types is a total order: it says Equal of equal types alone, turns round when its arguments do, and Less is
--- transitive. Assumes nothing.
+-- transitive.
 use mathlib.Core.Path.{_≡_, refl, sym, ap, _∙_}
 use mathlib.Core.List.{List, [], _∷_}
 use Prim.Native.Nat.{ℕ, zero, suc}

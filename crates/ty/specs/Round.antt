@@ -1,5 +1,4 @@
 -- Words and types, there and back: a legal word is the word of its type, and a type within the limits is the type of its word.
--- Assumes nothing.
 use mathlib.Core.Path.{_≡_, refl, sym, ap, ap₂, _∙_}
 use mathlib.Core.Bool.{true, false, true≢false, or-false}
 use mathlib.Core.List.{List, [], _∷_, _++_}

@@ -1,5 +1,4 @@
 -- One array more is 2 ^ 56 more in the word: what that does to the word's type, its parts and whether it is legal.
--- Assumes nothing.
 use mathlib.Core.Path.{_≡_, sym, ap, _∙_}
 use Prim.Native.Nat.{ℕ, suc, _+_, _-_, _^_, _≤_, _<_}
 use native.Mathlib.Nat.{add-comm}

@@ -1,6 +1,5 @@
 -- The types of ty.rs and what is asked of one or two of them, in the names and the order of cases of the Rust.
 -- A category and a class are numbers: a category's number is its place in PrimitiveType, a class's its place among the names.
--- Assumes nothing.
 use mathlib.Core.Bool.{Bool, true, false, cond, not, _&&_, _||_}
 use mathlib.Core.List.{List, [], _∷_}
 use mathlib.Core.Option.{Option, some, none}

@@ -1,4 +1,4 @@
--- A part of a list whose bytes have no fault is smooth, and so well-formed, as the code meets it. Assumes nothing.
+-- A part of a list whose bytes have no fault is smooth, and so well-formed, as the code meets it.
 use mathlib.Core.Path.{_≡_, subst}
 use mathlib.Core.List.{List, [], append-nil}
 use Prim.Native.Nat.{ℕ, zero, suc, _+_, _-_, _≤_, _<_}

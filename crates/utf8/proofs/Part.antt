@@ -1,4 +1,4 @@
--- Rows, sequences and the valid prefix at the bytes of a list from i up to `to`, as the code meets them. Assumes nothing.
+-- Rows, sequences and the valid prefix at the bytes of a list from i up to `to`, as the code meets them.
 use mathlib.Core.Path.{_≡_, refl, sym, ap, _∙_}
 use mathlib.Core.Bool.{Bool, true, false, cond, _&&_, false≢true, true≢false, and-true}
 use mathlib.Core.List.{List, [], _∷_, List·Memᴰ, List·Memᴰ·head, List·Memᴰ·tail}

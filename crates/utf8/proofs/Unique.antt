@@ -1,4 +1,4 @@
--- The promises of the public functions, as the check reads them (`Reads.Post`), allow one result. Assumes nothing.
+-- The promises of the public functions, as the check reads them (`Reads.Post`), allow one result.
 use mathlib.Core.Path.{_≡_, sym, _∙_}
 use borrow.Fn.Kinds.{Dens, resT, endedOf}
 use denote.Triple.Clauses.{AtExit}

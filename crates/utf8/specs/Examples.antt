@@ -1,4 +1,4 @@
--- Worked examples of the definitions, by computation. Assumes nothing.
+-- Worked examples of the definitions, by computation.
 use mathlib.Core.Path.{_≡_, refl}
 use mathlib.Core.Bool.{true, false}
 use mathlib.Core.List.{[], _∷_}

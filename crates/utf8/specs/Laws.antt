@@ -1,4 +1,4 @@
--- Laws of well-formed UTF-8: the computation decides the relation, the valid prefix is the longest, ASCII bytes stand alone. Assumes nothing.
+-- Laws of well-formed UTF-8: the computation decides the relation, the valid prefix is the longest, ASCII bytes stand alone.
 use mathlib.Core.Path.{_≡_, refl, sym, ap, subst, _∙_}
 use mathlib.Core.Bool.{true}
 use mathlib.Core.List.{List, [], _∷_, _++_, List·Memᴰ, List·Memᴰ·head, List·Memᴰ·tail, append-assoc, append-nil}

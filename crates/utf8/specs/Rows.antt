@@ -1,4 +1,4 @@
--- The rows of Unicode's table: the test of a row is its relation, at most one row matches, and only the first row has bytes below 80. Assumes nothing.
+-- The rows of Unicode's table: the test of a row is its relation, at most one row matches, and only the first row has bytes below 80.
 use mathlib.Core.Path.{_≡_, refl, sym, ap, subst, _∙_}
 use mathlib.Core.Bool.{Bool, true, false, cond, _&&_, false≢true, and-false}
 use mathlib.Core.List.{List, [], _∷_, _++_, List·Memᴰ, List·Memᴰ·head, List·Memᴰ·tail, List·Memᴰ·not-nil}

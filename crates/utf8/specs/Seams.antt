@@ -1,5 +1,5 @@
 -- Text of sequences of at most three bytes, told by each byte and the two before it: where no byte has a fault, the text is well-formed. Each
--- test is a number, 0 where all is well, as the code adds them up. Assumes nothing.
+-- test is a number, 0 where all is well, as the code adds them up.
 use mathlib.Core.Path.{_≡_, refl, subst, _∙_}
 use mathlib.Core.Bool.{Bool, true, false, cond}
 use mathlib.Core.List.{List, [], _∷_, List·Memᴰ, List·Memᴰ·head, List·Memᴰ·tail}

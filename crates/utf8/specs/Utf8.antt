@@ -1,4 +1,4 @@
--- Well-formed UTF-8 by Unicode's table 3-7, over lists of bytes: as a computation and, apart from it, as a relation. Assumes nothing.
+-- Well-formed UTF-8 by Unicode's table 3-7, over lists of bytes: as a computation and, apart from it, as a relation.
 use mathlib.Core.Bool.{Bool, true, false, cond, _&&_}
 use mathlib.Core.List.{List, [], _∷_, _++_, List·Memᴰ}
 use Prim.Native.Nat.{ℕ, zero, suc, _≤_}

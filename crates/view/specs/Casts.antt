@@ -1,5 +1,5 @@
 -- CASTS a second time, from the `match` of `is_cast_convertible`: its answer for each of the sixteen ways in which two classes can be
--- declared, as a rule, as a table, and through a view. Assumes nothing.
+-- declared, as a rule, as a table, and through a view.
 use mathlib.Core.Path.{_≡_, refl, ap, _∙_}
 use mathlib.Core.Bool.{Bool, true, false, cond, not, _&&_, _||_}
 use mathlib.Core.List.{List, [], _∷_}

@@ -1,5 +1,5 @@
 -- The example of the scope paper, by computation: a/Probe 0, a/TrussA 1, a/TrussB 2, java/lang/Object 3; and the cases in which a
--- reader of that paper could take another answer. Assumes nothing.
+-- reader of that paper could take another answer.
 use mathlib.Core.Path.{_≡_, refl}
 use mathlib.Core.Bool.{Bool, false}
 use mathlib.Core.List.{List, [], _∷_}

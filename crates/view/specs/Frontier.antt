@@ -1,4 +1,4 @@
--- Laws of the walk over any view: the members of a set one by one, and that it is enough to expand what is new. Assumes nothing.
+-- Laws of the walk over any view: the members of a set one by one, and that it is enough to expand what is new.
 use mathlib.Core.Path.{_≡_, refl, sym, ap, _∙_}
 use mathlib.Core.Bool.{Bool, true, false}
 use mathlib.Core.List.{List, [], _∷_, List·Memᴰ}

@@ -1,5 +1,5 @@
 -- What `insertAll`, `withParents` and `grow` make of a set: sixteen words stay sixteen words, no member is lost, and the
--- new members are the parents. Assumes nothing.
+-- new members are the parents.
 use mathlib.Core.Path.{_≡_, refl, sym, ap, _∙_, subst}
 use mathlib.Core.Bool.{Bool, true, false}
 use mathlib.Core.List.{List, [], _∷_, List·Memᴰ, List·Memᴰ·head, List·Memᴰ·tail, List·Memᴰ·not-nil, List·Memᴰ·cases-cons}

@@ -1,4 +1,4 @@
--- The nearest of a list: the smallest by greater distance, sum of the distances, number. Assumes nothing.
+-- The nearest of a list: the smallest by greater distance, sum of the distances, number.
 use mathlib.Core.Path.{_≡_, refl, sym, ap, _∙_, subst}
 use mathlib.Core.Bool.{Bool, true, false, cond, _&&_, _||_, true≢false, false≢true}
 use mathlib.Core.List.{List, [], _∷_, List·Memᴰ, List·Memᴰ·head, List·Memᴰ·tail, List·Memᴰ·not-nil, List·Memᴰ·cases-cons}

@@ -1,6 +1,5 @@
 -- What is asked of a class table, from hierarchy.rs, over a view of the table: how many names there are, which is
 -- java/lang/Object, which classes have a record, their parents, and what was declared of them. A class is its number.
--- Assumes nothing.
 use mathlib.Core.Bool.{Bool, true, false, cond, not, _&&_, _||_}
 use mathlib.Core.List.{List, [], _∷_}
 use mathlib.Core.Option.{Option, some, none}

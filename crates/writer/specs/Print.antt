@@ -1,5 +1,5 @@
 -- ArgType::to_descriptor and Display of MethodDescriptor of ty.rs: the bytes of a type and of a method.
--- Added to the Rust: a word for a type, refusals, an output that is lent. Assumes nothing.
+-- Added to the Rust: a word for a type, refusals, an output that is lent.
 use mathlib.Core.Path.{_≡_}
 use mathlib.Core.Bool.{Bool, true, not, _&&_}
 use mathlib.Core.List.{List, [], _∷_, _++_}

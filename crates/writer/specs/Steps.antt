@@ -1,5 +1,4 @@
 -- The laws that the code leans on: which words are types, what a word prints, how long that is, and what is refused.
--- Assumes nothing.
 use mathlib.Core.Path.{_≡_, refl, sym, ap, ap₂, _∙_}
 use mathlib.Core.Bool.{Bool, true, false, not, _&&_}
 use mathlib.Core.List.{List, [], _∷_, _++_}

@@ -1,5 +1,5 @@
 -- Bytes stored one after the other into a slice, from an offset on: the slice after that is `sets slice offset bytes` of lib.Seq,
--- which is the slice before the offset, the bytes, and the slice after them (`sets-eq`). Assumes nothing.
+-- which is the slice before the offset, the bytes, and the slice after them (`sets-eq`).
 use mathlib.Core.Path.{_≡_, refl, sym, ap, _∙_}
 use mathlib.Core.List.{List, [], _∷_, _++_}
 use Prim.Native.Nat.{ℕ, suc, _+_, _≤_, _<_}

@@ -1,4 +1,4 @@
--- `cast_frame` meets its contract. Assumes nothing.
+-- `cast_frame` meets its contract.
 use borrow.Author.Needs.{needs}
 use mathlib.Core.Path.{_≡_, ap, ap₂, _∙_}
 use mathlib.Core.Bool.{Bool, cond}

@@ -1,4 +1,4 @@
--- `check_ask` meets its contract. Assumes nothing.
+-- `check_ask` meets its contract.
 use borrow.Author.Needs.{needs}
 use native.Mathlib.Omega.{arith}
 use Rattle.askframes.specs.AskFrames.{ask-first, ask-second, ask-object, ask-none}

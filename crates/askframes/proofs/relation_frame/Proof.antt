@@ -1,4 +1,4 @@
--- `relation_frame` meets its contract. Assumes nothing.
+-- `relation_frame` meets its contract.
 use borrow.Author.Needs.{needs}
 use mathlib.Core.Path.{_≡_, ap, ap₂, _∙_}
 use Prim.Native.Nat.{ℕ}

@@ -1,4 +1,4 @@
--- `relation_number` meets its contract. Assumes nothing.
+-- `relation_number` meets its contract.
 use borrow.Author.Needs.{needs}
 use mathlib.Core.Path.{sym, ap}
 use Rattle.view.specs.View.{relationNumber}

@@ -1,4 +1,4 @@
--- `say` meets its contract. Assumes nothing.
+-- `say` meets its contract.
 use borrow.Author.Needs.{needs}
 use mathlib.Core.Path.{ap}
 use Rattle.framestate.specs.FrameState.{framed}

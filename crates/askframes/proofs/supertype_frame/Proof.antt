@@ -1,4 +1,4 @@
--- `supertype_frame` meets its contract: both numbers are classes, and Object is one. Assumes nothing.
+-- `supertype_frame` meets its contract: both numbers are classes, and Object is one.
 use borrow.Author.Needs.{needs}
 use Rattle.prepared.specs.Prepared.{plain-prepared}
 use mathlib.Core.Path.{_≡_, sym, ap, ap₂, _∙_}

@@ -1,4 +1,4 @@
--- Assignability and the array rule meet their contracts: the rule asks about the elements, whose words are less. Assumes nothing.
+-- Assignability and the array rule meet their contracts: the rule asks about the elements, whose words are less.
 use borrow.Author.Needs.{needs}
 use mathlib.Core.Path.{sym, _∙_}
 use Prim.Native.Nat.{ℕ, _+_, _-_, _*_, _^_, _<_}

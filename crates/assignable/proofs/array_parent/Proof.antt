@@ -1,4 +1,4 @@
--- `array_parent` meets its contract: a missing number is no class's. Assumes nothing.
+-- `array_parent` meets its contract: a missing number is no class's.
 use mathlib.Core.Path.{refl}
 use mathlib.Core.List.{[]}
 use Rattle.lattice.specs.World.{worldOf}

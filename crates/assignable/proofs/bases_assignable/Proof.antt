@@ -1,4 +1,4 @@
--- `bases_assignable` meets its contract: to an Unknown, from one, and between known types. Assumes nothing.
+-- `bases_assignable` meets its contract: to an Unknown, from one, and between known types.
 use borrow.Author.Needs.{needs}
 use mathlib.Core.Path.{sym, _∙_}
 use Rattle.ty.specs.Words.{typeOf}

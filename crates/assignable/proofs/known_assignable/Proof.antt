@@ -1,4 +1,4 @@
--- `known_assignable` meets its contract. Assumes nothing.
+-- `known_assignable` meets its contract.
 use borrow.Author.Needs.{needs}
 use mathlib.Core.Path.{sym, ap, _∙_}
 use native.Mathlib.Omega.{arith}

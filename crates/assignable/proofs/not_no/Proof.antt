@@ -1,4 +1,4 @@
--- `not_no` meets its contract. Assumes nothing.
+-- `not_no` meets its contract.
 use borrow.Author.Needs.{needs}
 use mathlib.Core.Path.{sym, ap}
 use Rattle.lattice.specs.Lattice.{notNo}

@@ -1,4 +1,4 @@
--- `primitive_assignable` meets its contract. Assumes nothing.
+-- `primitive_assignable` meets its contract.
 use mathlib.Core.Path.{sym, _∙_}
 use borrow.Author.Tests.{eq-eqb, ne-eqb, lt-ltb, le-ltb}
 use Rattle.assignable.specs.Primitives.{byOrder, widens-by-order}

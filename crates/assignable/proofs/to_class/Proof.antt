@@ -1,4 +1,4 @@
--- `to_class` meets its contract: an array, a class, or what is no reference. Assumes nothing.
+-- `to_class` meets its contract: an array, a class, or what is no reference.
 use borrow.Author.Needs.{needs}
 use mathlib.Core.Path.{sym, ap, _∙_}
 use Rattle.ty.specs.Types.{Object}

@@ -1,4 +1,4 @@
--- `unknown_accepts` meets its contract: the union of the two sets. Assumes nothing.
+-- `unknown_accepts` meets its contract: the union of the two sets.
 use borrow.Author.Needs.{needs}
 use native.Mathlib.Omega.{arith}
 use Rattle.lattice.specs.Masks.{accepts-mask}

@@ -1,4 +1,4 @@
--- `bp_check_table` meets its contract: the answer of the check. Assumes nothing.
+-- `bp_check_table` meets its contract: the answer of the check.
 use borrow.Author.Needs.{needs}
 use mathlib.Core.Path.{ap, _∙_}
 use Rattle.bracepuffin.specs.Boundary.{checkAnswer}

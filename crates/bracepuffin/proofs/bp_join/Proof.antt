@@ -1,4 +1,4 @@
--- `bp_join` meets its contract: the answer of the question, and the work that it leaves. Assumes nothing.
+-- `bp_join` meets its contract: the answer of the question, and the work that it leaves.
 use borrow.Author.Needs.{needs}
 use mathlib.Core.Path.{ap, _∙_}
 use Rattle.questions.specs.Questions.{valueOf, answerOf}

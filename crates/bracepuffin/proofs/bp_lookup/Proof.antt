@@ -1,4 +1,4 @@
--- `bp_lookup` meets its contract: the answer of what is looked up. Assumes nothing.
+-- `bp_lookup` meets its contract: the answer of what is looked up.
 use borrow.Author.Needs.{needs}
 use mathlib.Core.Path.{ap, _∙_}
 use Rattle.bracepuffin.specs.Boundary.{foundAnswer}

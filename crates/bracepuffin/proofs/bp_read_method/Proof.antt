@@ -1,4 +1,4 @@
--- `bp_read_method` meets its contract: the answer of what is read, and the parameter slice that the reader leaves. Assumes nothing.
+-- `bp_read_method` meets its contract: the answer of what is read, and the parameter slice that the reader leaves.
 use borrow.Author.Needs.{needs}
 use mathlib.Core.Path.{ap, _∙_}
 use Rattle.bracepuffin.specs.Boundary.{bpMethod}

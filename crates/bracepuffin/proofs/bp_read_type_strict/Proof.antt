@@ -1,4 +1,4 @@
--- `bp_read_type_strict` meets its contract: the answer of what is read. Assumes nothing.
+-- `bp_read_type_strict` meets its contract: the answer of what is read.
 use borrow.Author.Needs.{needs}
 use mathlib.Core.Path.{ap, _∙_}
 use Rattle.bracepuffin.specs.Boundary.{typeAnswer}

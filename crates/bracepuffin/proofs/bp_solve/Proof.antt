@@ -1,4 +1,4 @@
--- `bp_solve` meets its contract: the counts of the solve, and the slices that it leaves. Assumes nothing.
+-- `bp_solve` meets its contract: the counts of the solve, and the slices that it leaves.
 use borrow.Author.Needs.{needs}
 use mathlib.Core.Path.{ap, _∙_}
 use Rattle.bracepuffin.specs.Boundary.{solvedAnswer, solvedTold}

@@ -1,4 +1,4 @@
--- `bp_write_type` meets its contract: the answer of the writer, and the output that it leaves. Assumes nothing.
+-- `bp_write_type` meets its contract: the answer of the writer, and the output that it leaves.
 use borrow.Author.Needs.{needs}
 use mathlib.Core.Path.{ap, _∙_}
 use Rattle.bracepuffin.specs.Boundary.{writtenAnswer}

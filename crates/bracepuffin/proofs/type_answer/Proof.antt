@@ -1,4 +1,4 @@
--- `type_answer` meets its contract, by what was read. Assumes nothing.
+-- `type_answer` meets its contract, by what was read.
 use borrow.Author.Needs.{needs}
 use mathlib.Core.Path.{sym, ap, _∙_}
 use Rattle.bracepuffin.specs.Boundary.{typeAnswer}

@@ -1,4 +1,4 @@
--- `type_found` meets its contract, by the base. Assumes nothing.
+-- `type_found` meets its contract, by the base.
 use borrow.Author.Needs.{needs}
 use mathlib.Core.Path.{sym, ap}
 use Rattle.bracepuffin.specs.Boundary.{typeFound}

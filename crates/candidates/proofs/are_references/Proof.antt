@@ -1,4 +1,4 @@
--- `are_references` meets its contract. Assumes nothing.
+-- `are_references` meets its contract.
 use borrow.Author.Needs.{needs}
 use mathlib.Core.Path.{sym, ap, _∙_}
 use mathlib.Core.Bool.{Bool, _&&_}

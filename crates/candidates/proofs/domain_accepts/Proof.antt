@@ -1,4 +1,4 @@
--- `domain_accepts` meets its contract. Assumes nothing.
+-- `domain_accepts` meets its contract.
 use borrow.Author.Needs.{needs}
 use mathlib.Core.Path.{_∙_}
 use Rattle.ty.specs.Words.{typeOf}

@@ -1,4 +1,4 @@
--- `group_of` meets its contract: the group is that of the bounds from `i` on, and one that refuses refuses for all. Assumes nothing.
+-- `group_of` meets its contract: the group is that of the bounds from `i` on, and one that refuses refuses for all.
 use borrow.Author.Needs.{needs}
 use mathlib.Core.Path.{_≡_, refl, sym, ap, _∙_, subst}
 use mathlib.Core.Bool.{Bool, true, false}

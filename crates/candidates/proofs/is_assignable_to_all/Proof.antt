@@ -1,4 +1,4 @@
--- `is_assignable_to_all` meets its contract: at once or one by one. Assumes nothing.
+-- `is_assignable_to_all` meets its contract: at once or one by one.
 use borrow.Author.Needs.{needs}
 use mathlib.Core.Path.{sym, _∙_}
 use mathlib.Core.List.{map}

@@ -1,4 +1,4 @@
--- `is_assignable_to_each` meets its contract: the bounds from `i` on take the candidate. Assumes nothing.
+-- `is_assignable_to_each` meets its contract: the bounds from `i` on take the candidate.
 use borrow.Author.Needs.{needs}
 use mathlib.Core.Path.{_≡_, refl, sym, _∙_, ap}
 use mathlib.Core.Bool.{Bool, true, false}

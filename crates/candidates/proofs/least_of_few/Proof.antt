@@ -1,4 +1,4 @@
--- `least_of_few` meets its contract: the best so far is the least hint of the bounds from `i` on. Assumes nothing.
+-- `least_of_few` meets its contract: the best so far is the least hint of the bounds from `i` on.
 use borrow.Author.Needs.{needs}
 use mathlib.Core.Path.{_≡_, sym, ap, _∙_}
 use mathlib.Core.List.{map}

@@ -1,4 +1,4 @@
--- `lesser` meets its contract. Assumes nothing.
+-- `lesser` meets its contract.
 use borrow.Author.Needs.{needs}
 use mathlib.Core.Path.{sym, ap, _∙_, subst}
 use Rattle.ty.specs.declared.MaybeType.{MaybeType}

@@ -1,4 +1,4 @@
--- `lesser_if` meets its contract. Assumes nothing.
+-- `lesser_if` meets its contract.
 use borrow.Author.Needs.{needs}
 use mathlib.Core.Path.{sym, ap, _∙_}
 use mathlib.Core.Bool.{Bool, cond}

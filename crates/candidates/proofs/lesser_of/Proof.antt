@@ -1,4 +1,4 @@
--- `lesser_of` meets its contract. Assumes nothing.
+-- `lesser_of` meets its contract.
 use borrow.Author.Needs.{needs}
 use mathlib.Core.Path.{sym, _∙_}
 use Rattle.ty.specs.Words.{typeOf}

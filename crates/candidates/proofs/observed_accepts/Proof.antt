@@ -1,4 +1,4 @@
--- `observed_accepts` meets its contract. Assumes nothing.
+-- `observed_accepts` meets its contract.
 use borrow.Author.Needs.{needs}
 use mathlib.Core.Path.{sym, _∙_}
 use Rattle.ty.specs.Words.{typeOf}

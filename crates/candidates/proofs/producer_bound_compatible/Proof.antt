@@ -1,4 +1,4 @@
--- `producer_bound_compatible` meets its contract. Assumes nothing.
+-- `producer_bound_compatible` meets its contract.
 use borrow.Author.Needs.{needs}
 use mathlib.Core.Path.{sym, _∙_}
 use Rattle.ty.specs.Words.{typeOf}

@@ -1,4 +1,4 @@
--- `same_register_category` meets its contract. Assumes nothing.
+-- `same_register_category` meets its contract.
 use borrow.Author.Needs.{needs}
 use mathlib.Core.Path.{sym, ap, _∙_}
 use mathlib.Core.Bool.{not}

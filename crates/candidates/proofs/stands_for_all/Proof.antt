@@ -1,4 +1,4 @@
--- `stands_for_all` meets its contract: what is left besides the class, Object and what is reached answers for all. Assumes nothing.
+-- `stands_for_all` meets its contract: what is left besides the class, Object and what is reached answers for all.
 use borrow.Author.Needs.{needs}
 use mathlib.Core.Path.{_≡_, sym, ap, _∙_}
 use mathlib.Core.List.{List}

@@ -1,4 +1,4 @@
--- `takes` meets its contract. Assumes nothing.
+-- `takes` meets its contract.
 use borrow.Author.Needs.{needs}
 use mathlib.Core.Path.{_≡_, sym, _∙_, subst}
 use Prim.Native.Nat.{ℕ}

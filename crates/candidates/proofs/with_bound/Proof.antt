@@ -1,4 +1,4 @@
--- `with_bound` meets its contract: the hint is a legal type's word, or there is none. Assumes nothing.
+-- `with_bound` meets its contract: the hint is a legal type's word, or there is none.
 use borrow.Author.Needs.{needs}
 use mathlib.Core.Path.{sym, ap, _∙_, subst}
 use mathlib.Core.List.{map}

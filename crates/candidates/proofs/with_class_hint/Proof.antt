@@ -1,4 +1,4 @@
--- `with_class_hint` meets its contract: the group of the hint's head tells whether it counts. Assumes nothing.
+-- `with_class_hint` meets its contract: the group of the hint's head tells whether it counts.
 use borrow.Author.Needs.{needs}
 use mathlib.Core.Path.{sym, ap, _∙_}
 use mathlib.Core.Bool.{Bool, cond}

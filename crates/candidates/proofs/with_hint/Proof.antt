@@ -1,4 +1,4 @@
--- `with_hint` meets its contract. Assumes nothing.
+-- `with_hint` meets its contract.
 use borrow.Author.Needs.{needs}
 use mathlib.Core.Path.{sym, ap, _∙_}
 use mathlib.Core.Bool.{Bool, cond}

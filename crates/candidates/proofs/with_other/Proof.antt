@@ -1,4 +1,4 @@
--- `with_other` meets its contract. Assumes nothing.
+-- `with_other` meets its contract.
 use borrow.Author.Needs.{needs}
 use mathlib.Core.Path.{_≡_, refl, sym, ap, _∙_}
 use Prim.Native.Nat.{ℕ}

@@ -1,4 +1,4 @@
--- Each way out is a step of reading a core, by the letter of the first byte; the bytes left fall with each '['. Assumes nothing.
+-- Each way out is a step of reading a core, by the letter of the first byte; the bytes left fall with each '['.
 use borrow.Author.Needs.{needs}
 use mathlib.Core.Path.{ap, _∙_}
 use mathlib.Core.Bool.{false}

@@ -1,4 +1,4 @@
--- Each way out is a case of `endedOf`. Assumes nothing.
+-- Each way out is a case of `endedOf`.
 use borrow.Author.Tests.{eq-eqb, ne-eqb, lt-ltb, le-ltb}
 use Rattle.descriptor.proofs.ended.Statement.{statement}
 use Rattle.descriptor.proofs.ended.Tie as tie

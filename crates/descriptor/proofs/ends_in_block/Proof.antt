@@ -1,4 +1,4 @@
--- The test of a block meets its contract: after k bytes, `found` says whether the first ';' is among them. Assumes nothing.
+-- The test of a block meets its contract: after k bytes, `found` says whether the first ';' is among them.
 use borrow.Author.Needs.{needs}
 use borrow.Author.Tests.{lt-ltb, le-ltb, ltb-true, ltb-false}
 use mathlib.Core.Path.{_≡_, refl, sym, ap, _∙_}

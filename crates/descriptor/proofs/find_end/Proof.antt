@@ -1,4 +1,4 @@
--- The search for a ';' meets its contract: what is left of the search from `from` is the search from `i`. Assumes nothing.
+-- The search for a ';' meets its contract: what is left of the search from `from` is the search from `i`.
 use borrow.Author.Needs.{needs}
 use mathlib.Core.Path.{_≡_, sym, _∙_}
 use Prim.Native.Nat.{_+_, _-_, _≤_}

@@ -1,4 +1,4 @@
--- Each way out is a case of `flatOf`. Assumes nothing.
+-- Each way out is a case of `flatOf`.
 use borrow.Author.Needs.{needs}
 use borrow.Author.Tests.{eq-eqb, ne-eqb, lt-ltb, le-ltb}
 use Rattle.descriptor.proofs.flat_core.Statement.{statement}

@@ -1,4 +1,4 @@
--- Each arm of the `match` is a case of `letterOf`. Assumes nothing.
+-- Each arm of the `match` is a case of `letterOf`.
 use mathlib.Core.Path.{sym, ap}
 use borrow.Author.Tests.{ne-eqb}
 use Rattle.descriptor.specs.Read.{letterOf}

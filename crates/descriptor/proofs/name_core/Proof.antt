@@ -1,4 +1,4 @@
--- Each way out is the core of a case of `readName`. Assumes nothing.
+-- Each way out is the core of a case of `readName`.
 use borrow.Author.Needs.{needs}
 use mathlib.Core.Path.{ap, _∙_}
 use mathlib.Core.List.{List}

@@ -1,4 +1,4 @@
--- The type that its core stands for, once that core is ended. Assumes nothing.
+-- The type that its core stands for, once that core is ended.
 use borrow.Author.Needs.{needs}
 use mathlib.Core.Path.{sym, _∙_}
 use Rattle.descriptor.specs.Core.{ended-tells}

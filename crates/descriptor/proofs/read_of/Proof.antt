@@ -1,4 +1,4 @@
--- Each way out is a case of `unCore`. Assumes nothing.
+-- Each way out is a case of `unCore`.
 use borrow.Author.Needs.{needs}
 use mathlib.Core.Path.{sym, ap, _∙_}
 use native.Mathlib.Omega.{arith}

@@ -1,4 +1,4 @@
--- The type that its core stands for. Assumes nothing.
+-- The type that its core stands for.
 use borrow.Author.Needs.{needs}
 use mathlib.Core.Path.{sym, _∙_}
 use Rattle.descriptor.specs.Core.{core-tells}

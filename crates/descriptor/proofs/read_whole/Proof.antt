@@ -1,4 +1,4 @@
--- The type at offset 0, which has to be all. Assumes nothing.
+-- The type at offset 0, which has to be all.
 use borrow.Author.Needs.{needs}
 use Rattle.descriptor.specs.Read.{readWhole}
 use Rattle.descriptor.proofs.read_whole.Statement.{statement}

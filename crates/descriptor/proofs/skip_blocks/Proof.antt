@@ -1,4 +1,4 @@
--- The passing of blocks meets its contract: the search from `from` is the search from `i`, past each block without a ';'. Assumes nothing.
+-- The passing of blocks meets its contract: the search from `from` is the search from `i`, past each block without a ';'.
 use borrow.Author.Needs.{needs}
 use borrow.Author.Tests.{ltb-false}
 use mathlib.Core.Path.{_≡_, refl, sym, _∙_}

@@ -1,4 +1,4 @@
--- `check_head` meets its contract. Assumes nothing.
+-- `check_head` meets its contract.
 use borrow.Author.Needs.{needs}
 use mathlib.Core.Path.{sym, _∙_}
 use native.Mathlib.Omega.{arith}

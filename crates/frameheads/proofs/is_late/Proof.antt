@@ -1,4 +1,4 @@
--- `is_late` meets its contract. Assumes nothing.
+-- `is_late` meets its contract.
 use borrow.Author.Needs.{needs}
 use mathlib.Core.Path.{_≡_, sym, _∙_, subst}
 use Prim.Native.Nat.{ℕ, _≤_, _<_}

@@ -1,4 +1,4 @@
--- `is_length` meets its contract, kind by kind. Assumes nothing.
+-- `is_length` meets its contract, kind by kind.
 use borrow.Author.Needs.{needs}
 use mathlib.Core.Path.{_≡_, sym, ap, ap₂, _∙_}
 use mathlib.Core.Bool.{Bool, _&&_}

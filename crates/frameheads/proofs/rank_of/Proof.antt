@@ -1,4 +1,4 @@
--- `rank_of` meets its contract. Assumes nothing.
+-- `rank_of` meets its contract.
 use borrow.Author.Needs.{needs}
 use mathlib.Core.Path.{sym, ap}
 use mathlib.Core.Bool.{Bool, cond}

@@ -1,4 +1,4 @@
--- `is_digit` meets its contract: digits below, in, between, from a on. Assumes nothing.
+-- `is_digit` meets its contract: digits below, in, between, from a on.
 use borrow.Author.Needs.{needs}
 use mathlib.Core.Path.{sym, ap}
 use native.Mathlib.Omega.{arith}

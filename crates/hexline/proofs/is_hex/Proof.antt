@@ -1,4 +1,4 @@
--- `is_hex` meets its contract: what is left decides. Assumes nothing.
+-- `is_hex` meets its contract: what is left decides.
 use borrow.Author.Needs.{needs}
 use mathlib.Core.Path.{_≡_, refl, sym, ap, _∙_}
 use Prim.Native.Nat.{_*_, _-_, _≤_}

@@ -1,4 +1,4 @@
--- `number_at` meets its contract. Assumes nothing.
+-- `number_at` meets its contract.
 use borrow.Author.Needs.{needs}
 use mathlib.Core.Path.{ap₂}
 use Prim.Native.Nat.{ℕ, _+_, _*_}

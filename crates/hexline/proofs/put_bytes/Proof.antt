@@ -1,4 +1,4 @@
--- `put_bytes` meets its contract: the bytes that are left are those of the line from the next pair on. Assumes nothing.
+-- `put_bytes` meets its contract: the bytes that are left are those of the line from the next pair on.
 use borrow.Author.Needs.{needs}
 use mathlib.Core.Path.{_≡_, refl, sym, ap, ap₂, _∙_, subst}
 use mathlib.Core.Bool.{true}

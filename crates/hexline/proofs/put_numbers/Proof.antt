@@ -1,4 +1,4 @@
--- `put_numbers` meets its contract: the numbers that are left are those of the bytes from the next pair on. Assumes nothing.
+-- `put_numbers` meets its contract: the numbers that are left are those of the bytes from the next pair on.
 use borrow.Author.Needs.{needs}
 use mathlib.Core.Path.{_≡_, refl, sym, ap, _∙_, subst}
 use mathlib.Core.List.{List, [], _∷_}

@@ -1,4 +1,4 @@
--- `read_line` meets its contract: too long, odd, no digits, or the bytes. Assumes nothing.
+-- `read_line` meets its contract: too long, odd, no digits, or the bytes.
 use borrow.Author.Needs.{needs}
 use mathlib.Core.Path.{sym, _∙_}
 use native.Mathlib.Omega.{arith}

@@ -1,4 +1,4 @@
--- `value` meets its contract: digits below, in, between, letters, above. Assumes nothing.
+-- `value` meets its contract: digits below, in, between, letters, above.
 use borrow.Author.Needs.{needs}
 use mathlib.Core.Path.{sym, ap}
 use native.Mathlib.Omega.{arith}

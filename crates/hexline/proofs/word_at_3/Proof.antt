@@ -1,4 +1,4 @@
--- `word_at_3` meets its contract: two halves of four bytes. Assumes nothing.
+-- `word_at_3` meets its contract: two halves of four bytes.
 use borrow.Author.Needs.{needs}
 use mathlib.Core.Path.{sym, ap₂, _∙_}
 use Prim.Native.Nat.{ℕ, _+_, _*_}

@@ -1,4 +1,4 @@
--- `join` and `join_arrays` meet their contracts: each turn of the two takes a dimension off. Assumes nothing.
+-- `join` and `join_arrays` meet their contracts: each turn of the two takes a dimension off.
 use mathlib.Core.Path.{_≡_, sym, _∙_}
 use native.Mathlib.Omega.{arith}
 use Rattle.ty.specs.Words.{dimsOf}

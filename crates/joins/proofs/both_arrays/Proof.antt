@@ -1,4 +1,4 @@
--- `both_arrays` meets its contract. Assumes nothing.
+-- `both_arrays` meets its contract.
 use mathlib.Core.Path.{sym, _∙_}
 use Rattle.joins.specs.Cases.{arrays-true, arrays-false}
 use borrow.Author.Needs.{needs}

@@ -1,4 +1,4 @@
--- `category` meets its contract, by dimensions and tag. Assumes nothing.
+-- `category` meets its contract, by dimensions and tag.
 use native.Mathlib.Omega.{arith}
 use Rattle.ty.specs.Steps.{legal-category}
 use Rattle.joins.specs.Lists.{category-array, category-primitive, category-object}

@@ -1,4 +1,4 @@
--- `in_both` meets its contract. Assumes nothing.
+-- `in_both` meets its contract.
 use mathlib.Core.Path.{_≡_, sym, ap, _∙_}
 use Prim.Native.Nat.{ℕ, _+_, _*_, _^_}
 use native.Mathlib.Omega.{arith}

@@ -1,4 +1,4 @@
--- `join_all` meets its contract. Invariant: the join so far, with the words left, is the whole. Assumes nothing.
+-- `join_all` meets its contract. Invariant: the join so far, with the words left, is the whole.
 use borrow.Author.Needs.{needs}
 use mathlib.Core.Path.{_≡_, sym, ap, _∙_}
 use mathlib.Core.Bool.{true}

@@ -1,4 +1,4 @@
--- `join_apart` meets its contract. Assumes nothing.
+-- `join_apart` meets its contract.
 use mathlib.Core.Path.{sym, _∙_}
 use Rattle.joins.specs.Cases.{legal-left, legal-right, word-unknowns, word-right-unknown, word-left-unknown}
 use borrow.Author.Needs.{needs}

@@ -1,4 +1,4 @@
--- `join_array` meets its contract. Assumes nothing.
+-- `join_array` meets its contract.
 use mathlib.Core.Path.{ap, _∙_}
 use Rattle.ty.specs.Words.{wordOf}
 use Rattle.joins.specs.Cases.{array-object, array-other}

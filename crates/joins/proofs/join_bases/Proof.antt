@@ -1,4 +1,4 @@
--- `join_bases` meets its contract, by what the two are. Assumes nothing.
+-- `join_bases` meets its contract, by what the two are.
 use mathlib.Core.Path.{sym, ap₂, _∙_}
 use Prim.Native.Nat.{ℕ}
 use native.Mathlib.Omega.{arith}

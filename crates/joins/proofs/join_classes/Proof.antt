@@ -1,4 +1,4 @@
--- `join_classes` meets its contract: there is always a supertype. Assumes nothing.
+-- `join_classes` meets its contract: there is always a supertype.
 use mathlib.Core.Path.{ap, _∙_}
 use Prim.Native.Nat.{ℕ, _+_, _^_}
 use native.Mathlib.Omega.{arith}

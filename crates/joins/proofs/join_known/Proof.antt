@@ -1,4 +1,4 @@
--- `join_known` meets its contract. Assumes nothing.
+-- `join_known` meets its contract.
 use mathlib.Core.Path.{sym, ap, _∙_}
 use Rattle.ty.specs.Words.{typeOf, wordOf}
 use Rattle.ty.specs.Round.{word-of-type}

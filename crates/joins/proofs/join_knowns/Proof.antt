@@ -1,4 +1,4 @@
--- `join_knowns` meets its contract. Assumes nothing.
+-- `join_knowns` meets its contract.
 use mathlib.Core.Path.{sym, _∙_}
 use native.Mathlib.Omega.{arith}
 use Rattle.joins.specs.Cases.{legal-left, legal-right, arrays-true, word-left-array, word-right-array}

@@ -1,4 +1,4 @@
--- `join_primitives` meets its contract: every cell of the table is the join of its row and its column, by one test. Assumes nothing.
+-- `join_primitives` meets its contract: every cell of the table is the join of its row and its column, by one test.
 use mathlib.Core.List.{List, [], _∷_}
 use Prim.Native.Nat.{ℕ}
 use lib.Dec.{T}

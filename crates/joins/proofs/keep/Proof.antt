@@ -1,4 +1,4 @@
--- `keep` meets its contract. Assumes nothing.
+-- `keep` meets its contract.
 use Rattle.joins.specs.Joins.{withFirst}
 use borrow.Author.Needs.{needs}
 use Rattle.joins.proofs.keep.Statement.{statement}

@@ -1,4 +1,4 @@
--- `keep_members` meets its contract. Invariant: what was found is what is kept of the members from i on. Assumes nothing.
+-- `keep_members` meets its contract. Invariant: what was found is what is kept of the members from i on.
 use borrow.Author.Needs.{needs}
 use mathlib.Core.Path.{_≡_, ap, _∙_}
 use Prim.Native.Nat.{ℕ, _/_, _%_, _^_, _≤_}

@@ -1,4 +1,4 @@
--- `unknown_union` meets its contract: of the eleven categories those that are in either set. Assumes nothing.
+-- `unknown_union` meets its contract: of the eleven categories those that are in either set.
 use mathlib.Core.Path.{ap, _∙_}
 use Prim.Native.Nat.{ℕ, _+_, _*_, _^_}
 use Rattle.ty.specs.Words.{typeOf}

@@ -1,4 +1,4 @@
--- `compare_types` meets its contract: what the comparison of the ranks finds is the order of the types. Assumes nothing.
+-- `compare_types` meets its contract: what the comparison of the ranks finds is the order of the types.
 use mathlib.Core.Path.{_≡_, sym, ap₂, _∙_}
 use Prim.Native.Nat.{ℕ, _^_, _<_}
 use native.Mathlib.Omega.{arith}

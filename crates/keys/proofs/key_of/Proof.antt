@@ -1,4 +1,4 @@
--- `key_of` meets its contract, and the sum fits. Assumes nothing.
+-- `key_of` meets its contract, and the sum fits.
 use mathlib.Core.Path.{ap}
 use Prim.Native.Nat.{ℕ, _+_, _*_, _^_}
 use native.Mathlib.Omega.{arith}

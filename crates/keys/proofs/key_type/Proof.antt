@@ -1,4 +1,4 @@
--- `key_type` meets its contract: the type of the rank in the key. Assumes nothing.
+-- `key_type` meets its contract: the type of the rank in the key.
 use borrow.Author.Needs.{needs}
 use Rattle.keys.specs.Rank.{keyType}
 use Rattle.keys.proofs.key_type.Statement.{statement}

@@ -1,5 +1,5 @@
 -- `members_load` meets its contract. The loop's invariant: the payload is what the digits passed have made, and what the
--- rest will add. Assumes nothing.
+-- rest will add.
 use mathlib.Core.Path.{_≡_}
 use Prim.Native.Nat.{_+_, _-_, _*_, _^_, _≤_}
 use native.Mathlib.Omega.{arith}

@@ -1,4 +1,4 @@
--- `ones` meets its contract: by computation at each n below 12. Assumes nothing.
+-- `ones` meets its contract: by computation at each n below 12.
 use mathlib.Core.Path.{_≡_, refl, sym, _∙_}
 use mathlib.Core.List.{List, [], _∷_}
 use Prim.Native.Nat.{ℕ, zero, suc, _-_, _*_, _/_, _^_, _<_}

@@ -1,4 +1,4 @@
--- `rank_of` meets its contract: the parts of the word make the rank. Assumes nothing.
+-- `rank_of` meets its contract: the parts of the word make the rank.
 use mathlib.Core.Path.{sym}
 use Prim.Native.Nat.{_^_, _<_}
 use native.Mathlib.Omega.{arith}

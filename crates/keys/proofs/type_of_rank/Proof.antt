@@ -1,4 +1,4 @@
--- `type_of_rank` meets its contract: the parts of the rank make the word. Assumes nothing.
+-- `type_of_rank` meets its contract: the parts of the rank make the word.
 use mathlib.Core.Path.{sym}
 use Prim.Native.Nat.{_-_, _%_, _^_}
 use native.Mathlib.Omega.{arith}

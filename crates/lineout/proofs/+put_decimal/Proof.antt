@@ -1,4 +1,4 @@
--- Each way out is a step of the digits: one digit, or those of a tenth and then the last; the number falls. Assumes nothing.
+-- Each way out is a step of the digits: one digit, or those of a tenth and then the last; the number falls.
 use borrow.Author.Needs.{needs}
 use mathlib.Core.Path.{_≡_, sym, ap, _∙_}
 use mathlib.Core.List.{List, [], _∷_, _++_}

@@ -1,4 +1,4 @@
--- `hex_digit` meets its contract. Assumes nothing.
+-- `hex_digit` meets its contract.
 use borrow.Author.Needs.{needs}
 use mathlib.Core.Path.{sym, ap}
 use mathlib.Core.Bool.{Bool, cond}

@@ -1,4 +1,4 @@
--- `put_byte` meets its contract. Assumes nothing.
+-- `put_byte` meets its contract.
 use borrow.Author.Needs.{needs}
 use Rattle.lineout.specs.Laws.{puts-one}
 use Rattle.lineout.proofs.put_byte.Statement.{statement}

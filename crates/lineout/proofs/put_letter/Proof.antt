@@ -1,4 +1,4 @@
--- `put_letter` meets its contract: one byte after another. Assumes nothing.
+-- `put_letter` meets its contract: one byte after another.
 use borrow.Author.Needs.{needs}
 use mathlib.Core.List.{[], _∷_}
 use native.Mathlib.Omega.{arith}

@@ -1,4 +1,4 @@
--- `put_number` meets its contract: letter, number, LF. Assumes nothing.
+-- `put_number` meets its contract: letter, number, LF.
 use borrow.Author.Needs.{needs}
 use native.Mathlib.Omega.{arith}
 use Rattle.lineout.specs.Printed.{numberText}

@@ -1,4 +1,4 @@
--- `put_number_or_dash` meets its contract: a word has at most 20 digits. Assumes nothing.
+-- `put_number_or_dash` meets its contract: a word has at most 20 digits.
 use borrow.Author.Needs.{needs}
 use mathlib.Core.Path.{sym}
 use native.Mathlib.Omega.{arith}

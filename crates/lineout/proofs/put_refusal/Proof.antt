@@ -1,4 +1,4 @@
--- `put_refusal` meets its contract: letter, two numbers, LF. Assumes nothing.
+-- `put_refusal` meets its contract: letter, two numbers, LF.
 use borrow.Author.Needs.{needs}
 use mathlib.Core.Path.{_∙_}
 use native.Mathlib.Omega.{arith}

@@ -1,4 +1,4 @@
--- `put_variable` meets its contract: letter, number, word, LF. Assumes nothing.
+-- `put_variable` meets its contract: letter, number, word, LF.
 use borrow.Author.Needs.{needs}
 use mathlib.Core.Path.{_∙_}
 use native.Mathlib.Omega.{arith}

@@ -1,4 +1,4 @@
--- `put_variables` meets its contract: the lines that are left are those from the next variable on. Assumes nothing.
+-- `put_variables` meets its contract: the lines that are left are those from the next variable on.
 use borrow.Author.Needs.{needs}
 use mathlib.Core.Path.{_≡_, refl, sym, ap, _∙_, subst}
 use mathlib.Core.List.{List, []}

@@ -1,4 +1,4 @@
--- `put_word` meets its contract: the digits that are left are those from the next on. Assumes nothing.
+-- `put_word` meets its contract: the digits that are left are those from the next on.
 use borrow.Author.Needs.{needs}
 use mathlib.Core.Path.{_≡_, refl, sym, ap, _∙_, subst}
 use mathlib.Core.List.{List, [], _∷_, _++_, append-nil}

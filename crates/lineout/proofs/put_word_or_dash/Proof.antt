@@ -1,4 +1,4 @@
--- `put_word_or_dash` meets its contract. Assumes nothing.
+-- `put_word_or_dash` meets its contract.
 use borrow.Author.Needs.{needs}
 use mathlib.Core.Path.{sym}
 use native.Mathlib.Omega.{arith}

@@ -1,4 +1,4 @@
--- The parameters' reader meets its contract: each way out is a step of `methodFrom`; the bytes left fall with each parameter. Assumes nothing.
+-- The parameters' reader meets its contract: each way out is a step of `methodFrom`; the bytes left fall with each parameter.
 use borrow.Author.Needs.{needs}
 use mathlib.Core.Path.{refl, sym, ap, subst, _∙_}
 use mathlib.Core.Bool.{false}

@@ -1,4 +1,4 @@
--- Each way out is a case of `answerOf`. Assumes nothing.
+-- Each way out is a case of `answerOf`.
 use borrow.Author.Needs.{needs}
 use mathlib.Core.Path.{sym, ap, _∙_}
 use Rattle.methods.specs.Answers.{answerOf}

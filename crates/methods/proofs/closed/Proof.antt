@@ -1,4 +1,4 @@
--- Each way out is a case of `closing`. Assumes nothing.
+-- Each way out is a case of `closing`.
 use borrow.Author.Needs.{needs}
 use mathlib.Core.Path.{subst, _∙_}
 use borrow.Author.Tests.{not-true, not-false}

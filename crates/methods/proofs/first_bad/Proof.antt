@@ -1,4 +1,4 @@
--- Each way out is a case of `firstBad`. Assumes nothing.
+-- Each way out is a case of `firstBad`.
 use borrow.Author.Needs.{needs}
 use mathlib.Core.Path.{ap, _∙_}
 use borrow.Author.Tests.{not-true, not-false}

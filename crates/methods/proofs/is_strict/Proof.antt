@@ -1,4 +1,4 @@
--- The loop meets its contract: whether the name is strict is whether what is left from `i` goes on strictly. Assumes nothing.
+-- The loop meets its contract: whether the name is strict is whether what is left from `i` goes on strictly.
 use borrow.Author.Needs.{needs}
 use mathlib.Core.Path.{_≡_, refl, sym, ap, _∙_}
 use mathlib.Core.Bool.{Bool, false, not}

@@ -1,4 +1,4 @@
--- Each way out is a case of `strictly`; the name lies within the bytes. Assumes nothing.
+-- Each way out is a case of `strictly`; the name lies within the bytes.
 use borrow.Author.Needs.{needs}
 use mathlib.Core.Path.{sym, ap, _∙_}
 use native.Mathlib.Omega.{arith}

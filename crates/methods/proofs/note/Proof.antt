@@ -1,4 +1,4 @@
--- What is written is what the contract says, by the test of `refusal`. Assumes nothing.
+-- What is written is what the contract says, by the test of `refusal`.
 use borrow.Author.Needs.{needs}
 use borrow.Author.Tests.{eq-eqb, ne-eqb}
 use Rattle.methods.proofs.note.Statement.{statement}

@@ -1,4 +1,4 @@
--- Refused before the parameters, or read by their reader from offset 1. Assumes nothing.
+-- Refused before the parameters, or read by their reader from offset 1.
 use mathlib.Core.Path.{ap, _∙_}
 use mathlib.Core.List.{List}
 use Prim.Native.Nat.{ℕ}

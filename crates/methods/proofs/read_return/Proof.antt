@@ -1,4 +1,4 @@
--- The type after the ')', finished and judged, as an answer. Assumes nothing.
+-- The type after the ')', finished and judged, as an answer.
 use borrow.Author.Needs.{needs}
 use mathlib.Core.Path.{sym, ap, subst, _∙_}
 use mathlib.Core.Bool.{true}

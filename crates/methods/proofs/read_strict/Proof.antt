@@ -1,4 +1,4 @@
--- The whole type, judged. Assumes nothing.
+-- The whole type, judged.
 use borrow.Author.Needs.{needs}
 use mathlib.Core.Path.{sym, ap, subst, _∙_}
 use mathlib.Core.Bool.{true}

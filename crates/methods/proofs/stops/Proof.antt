@@ -1,4 +1,4 @@
--- Each arm of the `match` is a case of `stopsAt`. Assumes nothing.
+-- Each arm of the `match` is a case of `stopsAt`.
 use mathlib.Core.Path.{sym, ap}
 use borrow.Author.Tests.{ne-eqb}
 use Rattle.methods.specs.Strict.{stopsAt}

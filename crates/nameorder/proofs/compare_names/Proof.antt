@@ -1,4 +1,4 @@
--- `compare_names` meets its contract. The invariant: the names are compared as their bytes from i on are. Assumes nothing.
+-- `compare_names` meets its contract. The invariant: the names are compared as their bytes from i on are.
 use borrow.Author.Needs.{needs}
 use mathlib.Core.Path.{_≡_, refl, sym, ap₂, _∙_}
 use mathlib.Core.List.{List}

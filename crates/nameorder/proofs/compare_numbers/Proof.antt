@@ -1,4 +1,4 @@
--- `compare_numbers` meets its contract. Assumes nothing.
+-- `compare_numbers` meets its contract.
 use mathlib.Core.Path.{_≡_, sym, ap, _∙_}
 use native.Mathlib.Omega.{arith}
 use Rattle.order.specs.Laws.{numbers-less, numbers-same, numbers-greater}

@@ -1,4 +1,4 @@
--- The test of a block meets its contract: the names differ in it where they differ in its first k bytes or in the rest. Assumes nothing.
+-- The test of a block meets its contract: the names differ in it where they differ in its first k bytes or in the rest.
 use borrow.Author.Needs.{needs}
 use mathlib.Core.Path.{_≡_, sym, ap, ap₂, _∙_}
 use mathlib.Core.Bool.{Bool, _||_, or-true, or-false}

@@ -1,4 +1,4 @@
--- `is_not_above` meets its contract: past the blocks in common, the order is that of what is left. Assumes nothing.
+-- `is_not_above` meets its contract: past the blocks in common, the order is that of what is left.
 use borrow.Author.Needs.{needs}
 use mathlib.Core.Path.{_≡_, sym, ap, ap₂, _∙_}
 use mathlib.Core.Bool.{not, _&&_}

@@ -1,4 +1,4 @@
--- `rest_is_not_above` meets its contract. Assumes nothing.
+-- `rest_is_not_above` meets its contract.
 use borrow.Author.Needs.{needs}
 use mathlib.Core.Path.{_≡_}
 use mathlib.Core.Bool.{not, _&&_}

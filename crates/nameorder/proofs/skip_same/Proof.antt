@@ -1,4 +1,4 @@
--- The passing of equal blocks meets its contract: the names stand to each other as they do from i on. Assumes nothing.
+-- The passing of equal blocks meets its contract: the names stand to each other as they do from i on.
 use borrow.Author.Needs.{needs}
 use mathlib.Core.Path.{_≡_, refl, sym, _∙_}
 use Prim.Native.Nat.{_+_, _-_, _≤_}

@@ -1,4 +1,4 @@
--- `check_name` meets its contract: its tests in the order of the chain. Assumes nothing.
+-- `check_name` meets its contract: its tests in the order of the chain.
 use borrow.Author.Needs.{needs}
 use mathlib.Core.Path.{_≡_, refl, sym, ap, _∙_}
 use mathlib.Core.Bool.{Bool, true, false, cond, not, _&&_, _||_}

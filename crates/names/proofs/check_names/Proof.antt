@@ -1,4 +1,4 @@
--- `check_names` meets its contract. The invariant: what is refused is what the rows from i on are refused, after the i names passed. Assumes nothing.
+-- `check_names` meets its contract. The invariant: what is refused is what the rows from i on are refused, after the i names passed.
 use borrow.Author.Needs.{needs}
 use mathlib.Core.Path.{_≡_, sym, _∙_}
 use mathlib.Core.List.{List}

@@ -1,4 +1,4 @@
--- `check_row` meets its contract: the place, then the name there. Assumes nothing.
+-- `check_row` meets its contract: the place, then the name there.
 use borrow.Author.Needs.{needs}
 use mathlib.Core.Path.{_≡_, sym, ap₂, _∙_}
 use mathlib.Core.Bool.{true}

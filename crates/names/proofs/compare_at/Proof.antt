@@ -1,4 +1,4 @@
--- `compare_at` meets its contract. Assumes nothing.
+-- `compare_at` meets its contract.
 use borrow.Author.Needs.{needs}
 use mathlib.Core.Path.{ap, _∙_}
 use mathlib.Core.List.{List}

@@ -1,4 +1,4 @@
--- `is_place` meets its contract. Assumes nothing.
+-- `is_place` meets its contract.
 use native.Mathlib.Omega.{arith}
 use borrow.Author.Tests.{le-leb, lt-leb}
 use Rattle.names.specs.Names.{placeGood}

@@ -1,4 +1,4 @@
--- `look_up` meets its contract: the check, then the search. Assumes nothing.
+-- `look_up` meets its contract: the check, then the search.
 use borrow.Author.Needs.{needs}
 use mathlib.Core.Path.{sym}
 use Rattle.names.specs.Lookup.{look-refused, look-searched}

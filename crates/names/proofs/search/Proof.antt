@@ -1,4 +1,4 @@
--- `search` meets its contract: the middle name settles all on one side of it. Assumes nothing.
+-- `search` meets its contract: the middle name settles all on one side of it.
 use borrow.Author.Needs.{needs}
 use mathlib.Core.Path.{sym, ap, _∙_}
 use Prim.Native.Nat.{_+_, _-_, _/_}

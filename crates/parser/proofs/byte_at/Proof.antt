@@ -1,5 +1,4 @@
 -- `parser::byte_at` meets its contract: each branch's test says which case of `byteAt` holds.
--- Assumes nothing.
 use borrow.Author.Needs.{needs}
 use borrow.Author.Tests.{le-ltb, lt-ltb}
 use Rattle.parser.proofs.byte_at.Statement.{statement}

@@ -1,4 +1,4 @@
--- `parser::consume_at` meets its contract: the tests say which case of `consumeAt` holds. Assumes nothing.
+-- `parser::consume_at` meets its contract: the tests say which case of `consumeAt` holds.
 use borrow.Author.Needs.{needs}
 use borrow.Author.Tests.{lt-ltb, le-ltb, eq-eqb, ne-eqb}
 use Rattle.parser.proofs.consume_at.Statement.{statement}

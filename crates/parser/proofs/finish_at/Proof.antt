@@ -1,4 +1,4 @@
--- `parser::finish_at` meets its contract: the test says which case of `finishAt` holds. Assumes nothing.
+-- `parser::finish_at` meets its contract: the test says which case of `finishAt` holds.
 use borrow.Author.Tests.{eq-eqb, ne-eqb}
 use Rattle.parser.proofs.finish_at.Statement.{statement}
 use Rattle.parser.proofs.finish_at.Tie as tie

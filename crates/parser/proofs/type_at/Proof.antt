@@ -1,4 +1,4 @@
--- `parser::type_at` meets its contract: it is what the type reader ensures. Assumes nothing.
+-- `parser::type_at` meets its contract: it is what the type reader ensures.
 use borrow.Author.Needs.{needs}
 use Rattle.parser.proofs.type_at.Statement.{statement}
 use Rattle.parser.proofs.type_at.Tie as tie

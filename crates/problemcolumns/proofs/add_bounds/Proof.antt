@@ -1,4 +1,4 @@
--- `add_bounds` meets its contract: what is left are the rows from i on; the keys so far stand in front of the slice as it came. Assumes nothing.
+-- `add_bounds` meets its contract: what is left are the rows from i on; the keys so far stand in front of the slice as it came.
 use borrow.Author.Needs.{needs}
 use mathlib.Core.Path.{_≡_, refl, sym, ap, _∙_}
 use mathlib.Core.List.{[]}

@@ -1,4 +1,4 @@
--- `add_pairs_after` meets its contract: nothing after a refusal, else the pairs. Assumes nothing.
+-- `add_pairs_after` meets its contract: nothing after a refusal, else the pairs.
 use borrow.Author.Needs.{needs}
 use mathlib.Core.List.{[]}
 use Rattle.problemcolumns.specs.Runs.{pairRun}

@@ -1,4 +1,4 @@
--- `build_entries` meets its contract: kind after kind, each after the refusal of those before it. Assumes nothing.
+-- `build_entries` meets its contract: kind after kind, each after the refusal of those before it.
 use borrow.Author.Needs.{needs}
 use native.Mathlib.Omega.{arith}
 use Rattle.problems.specs.Problems.{Columns}

@@ -1,4 +1,4 @@
--- `build_problem` meets its contract: the refusal of the count or of the variables, or the entries after them. Assumes nothing.
+-- `build_problem` meets its contract: the refusal of the count or of the variables, or the entries after them.
 use borrow.Author.Needs.{needs}
 use mathlib.Core.Path.{sym, _∙_}
 use native.Mathlib.Omega.{arith}

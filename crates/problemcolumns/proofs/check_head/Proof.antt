@@ -1,4 +1,4 @@
--- `check_head` meets its contract: the refusal of the count, or of the variables. Assumes nothing.
+-- `check_head` meets its contract: the refusal of the count, or of the variables.
 use borrow.Author.Needs.{needs}
 use Rattle.problemcolumns.specs.Steps.{head-count, head-variables}
 use Rattle.problemcolumns.proofs.check_head.Statement.{statement}

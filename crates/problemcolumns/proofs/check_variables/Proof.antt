@@ -1,4 +1,4 @@
--- `check_variables` meets its contract: what is left are the variables from i on, those before them taken. Assumes nothing.
+-- `check_variables` meets its contract: what is left are the variables from i on, those before them taken.
 use borrow.Author.Needs.{needs}
 use mathlib.Core.Path.{_≡_, refl, sym, ap, _∙_}
 use mathlib.Core.List.{[]}

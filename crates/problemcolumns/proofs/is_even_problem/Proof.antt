@@ -1,4 +1,4 @@
--- `is_even_problem` meets its contract: the first columns that differ decide. Assumes nothing.
+-- `is_even_problem` meets its contract: the first columns that differ decide.
 use borrow.Author.Tests.{eq-eqb, ne-eqb}
 use Rattle.problemcolumns.specs.ProblemColumns.{evenRows}
 use Rattle.problemcolumns.specs.Steps.{even-last}

@@ -1,4 +1,4 @@
--- `add_bound` meets its contract: its tests in the order of the definition, and the key put. Assumes nothing.
+-- `add_bound` meets its contract: its tests in the order of the definition, and the key put.
 use borrow.Author.Needs.{needs}
 use mathlib.Core.Path.{sym, _∙_}
 use native.Mathlib.Omega.{arith}

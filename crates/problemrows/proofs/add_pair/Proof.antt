@@ -1,4 +1,4 @@
--- `add_pair` meets its contract: its tests, and the entry put. Assumes nothing.
+-- `add_pair` meets its contract: its tests, and the entry put.
 use borrow.Author.Needs.{needs}
 use native.Mathlib.Omega.{arith}
 use lib.ListN.{take}

@@ -1,4 +1,4 @@
--- `add_variable` meets its contract: refused, or at the end of the variables. Assumes nothing.
+-- `add_variable` meets its contract: refused, or at the end of the variables.
 use borrow.Author.Needs.{needs}
 use mathlib.Core.Path.{sym, _∙_}
 use native.Mathlib.Omega.{arith}

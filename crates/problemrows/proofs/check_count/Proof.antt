@@ -1,4 +1,4 @@
--- `check_count` meets its contract. Assumes nothing.
+-- `check_count` meets its contract.
 use native.Mathlib.Omega.{arith}
 use Rattle.problemrows.specs.Laws.{count-over, count-fits}
 use Rattle.problemrows.proofs.check_count.Statement.{statement}

@@ -1,4 +1,4 @@
--- `check_variable` meets its contract: its tests in the order of the definition. Assumes nothing.
+-- `check_variable` meets its contract: its tests in the order of the definition.
 use native.Mathlib.Omega.{arith}
 use Rattle.problemrows.specs.Laws.{variable-outside, variable-over, variable-fits}
 use Rattle.problemrows.proofs.check_variable.Statement.{statement}

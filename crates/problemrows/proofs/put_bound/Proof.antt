@@ -1,4 +1,4 @@
--- `put_bound` meets its contract: the key of the bound is what is put. Assumes nothing.
+-- `put_bound` meets its contract: the key of the bound is what is put.
 use borrow.Author.Needs.{needs}
 use mathlib.Core.Path.{sym, ap}
 use Prim.Native.Nat.{ℕ}

@@ -1,4 +1,4 @@
--- `put_entry` meets its contract: by what `insert` answers for the part that may be filled. Assumes nothing.
+-- `put_entry` meets its contract: by what `insert` answers for the part that may be filled.
 use borrow.Author.Needs.{needs}
 use mathlib.Core.Path.{sym, _∙_}
 use Prim.Native.Nat.{_-_}

@@ -1,4 +1,4 @@
--- `each_line` is safe and ends: a line ends inside the input. Assumes nothing.
+-- `each_line` is safe and ends: a line ends inside the input.
 use borrow.Author.Needs.{needs}
 use mathlib.Core.Path.{_≡_}
 use Prim.Native.Nat.{_+_, _-_, _^_, _<_}

@@ -1,4 +1,4 @@
--- `print` is safe and ends: what was put is inside the buffer. Assumes nothing.
+-- `print` is safe and ends: what was put is inside the buffer.
 use borrow.Author.Needs.{needs}
 use mathlib.Core.Path.{sym}
 use lib.Seq.{length-take-le}

@@ -1,4 +1,4 @@
--- `array_element` meets its contract: what is produced is legal, and its element the one of the bounds. Assumes nothing.
+-- `array_element` meets its contract: what is produced is legal, and its element the one of the bounds.
 use borrow.Author.Needs.{needs}
 use mathlib.Core.Path.{ap, _∙_}
 use mathlib.Core.List.{[], map}

@@ -1,4 +1,4 @@
--- `both_differ` meets its contract: by the words of both. Assumes nothing.
+-- `both_differ` meets its contract: by the words of both.
 use borrow.Author.Needs.{needs}
 use mathlib.Core.Path.{_∙_}
 use Rattle.resolving.specs.Hints.{both-is}

@@ -1,4 +1,4 @@
--- `cast_passes` meets its contract: two tests in a row. Assumes nothing.
+-- `cast_passes` meets its contract: two tests in a row.
 use borrow.Author.Needs.{needs}
 use mathlib.Core.Path.{sym, _∙_}
 use mathlib.Core.List.{map}

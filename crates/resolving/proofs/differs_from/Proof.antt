@@ -1,4 +1,4 @@
--- `differs_from` meets its contract: by the words. Assumes nothing.
+-- `differs_from` meets its contract: by the words.
 use borrow.Author.Needs.{needs}
 use Rattle.resolving.specs.Hints.{differs-not, differs-yes}
 use Rattle.resolving.proofs.differs_from.Statement.{statement}

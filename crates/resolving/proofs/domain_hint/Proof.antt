@@ -1,4 +1,4 @@
--- `domain_hint` meets its contract: the hint by the upper bounds. Assumes nothing.
+-- `domain_hint` meets its contract: the hint by the upper bounds.
 use borrow.Author.Needs.{needs}
 use mathlib.Core.Path.{ap, _∙_}
 use mathlib.Core.List.{map}

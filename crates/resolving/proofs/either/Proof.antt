@@ -1,4 +1,4 @@
--- `either` meets its contract: by what is there. Assumes nothing.
+-- `either` meets its contract: by what is there.
 use borrow.Author.Needs.{needs}
 use Rattle.resolving.specs.Hints.{either-is}
 use Rattle.resolving.proofs.either.Statement.{statement}

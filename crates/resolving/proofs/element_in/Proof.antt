@@ -1,4 +1,4 @@
--- `element_in` meets its contract: the element of a legal word is that of its type. Assumes nothing.
+-- `element_in` meets its contract: the element of a legal word is that of its type.
 use borrow.Author.Needs.{needs}
 use mathlib.Core.Path.{_∙_}
 use Rattle.resolving.specs.Laws.{element-is}

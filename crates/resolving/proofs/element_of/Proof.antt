@@ -1,4 +1,4 @@
--- `element_of` meets its contract: the element of what `or_upper` hands on. Assumes nothing.
+-- `element_of` meets its contract: the element of what `or_upper` hands on.
 use borrow.Author.Needs.{needs}
 use mathlib.Core.Path.{ap, _∙_}
 use mathlib.Core.Option.{Option}

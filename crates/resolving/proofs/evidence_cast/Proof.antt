@@ -1,4 +1,4 @@
--- `evidence_cast` meets its contract: what is produced passes by its test. Assumes nothing.
+-- `evidence_cast` meets its contract: what is produced passes by its test.
 use borrow.Author.Needs.{needs}
 use mathlib.Core.Path.{_∙_}
 use mathlib.Core.List.{map}

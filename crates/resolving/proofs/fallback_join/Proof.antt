@@ -1,4 +1,4 @@
--- `fallback_join` meets its contract: the join is legal, and passes by its test where it is concrete. Assumes nothing.
+-- `fallback_join` meets its contract: the join is legal, and passes by its test where it is concrete.
 use borrow.Author.Needs.{needs}
 use mathlib.Core.Path.{ap, _∙_}
 use mathlib.Core.List.{map}

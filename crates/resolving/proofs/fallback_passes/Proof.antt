@@ -1,4 +1,4 @@
--- `fallback_passes` meets its contract: two tests in a row. Assumes nothing.
+-- `fallback_passes` meets its contract: two tests in a row.
 use mathlib.Core.Path.{sym, _∙_}
 use mathlib.Core.List.{map}
 use Rattle.ty.specs.Words.{typeOf}

@@ -1,4 +1,4 @@
--- `fits_upper` meets its contract: a candidate passes where it is assignable to every upper bound. Assumes nothing.
+-- `fits_upper` meets its contract: a candidate passes where it is assignable to every upper bound.
 use borrow.Author.Needs.{needs}
 use mathlib.Core.Path.{_∙_}
 use mathlib.Core.List.{map}

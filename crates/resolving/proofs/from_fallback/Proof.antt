@@ -1,4 +1,4 @@
--- `from_fallback` meets its contract: way 4, else way 5. Assumes nothing.
+-- `from_fallback` meets its contract: way 4, else way 5.
 use borrow.Author.Needs.{needs}
 use mathlib.Core.Path.{_∙_}
 use mathlib.Core.List.{map}

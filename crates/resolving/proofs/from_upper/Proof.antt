@@ -1,4 +1,4 @@
--- `from_upper` meets its contract: way 2, else those after it. Assumes nothing.
+-- `from_upper` meets its contract: way 2, else those after it.
 use borrow.Author.Needs.{needs}
 use mathlib.Core.Path.{_∙_}
 use mathlib.Core.List.{map}

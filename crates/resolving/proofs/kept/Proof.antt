@@ -1,4 +1,4 @@
--- `kept` meets its contract: by the test. Assumes nothing.
+-- `kept` meets its contract: by the test.
 use borrow.Author.Needs.{needs}
 use mathlib.Core.Path.{sym, ap}
 use mathlib.Core.Bool.{Bool}

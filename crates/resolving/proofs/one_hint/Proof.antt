@@ -1,4 +1,4 @@
--- `one_hint` meets its contract: the hints of the types from `i` on are what was found alone. Assumes nothing.
+-- `one_hint` meets its contract: the hints of the types from `i` on are what was found alone.
 use borrow.Author.Needs.{needs}
 use mathlib.Core.Path.{_≡_, sym, ap, _∙_, subst}
 use mathlib.Core.List.{map}

@@ -1,4 +1,4 @@
--- `only_concrete` meets its contract: a word is kept as it is, or not at all. Assumes nothing.
+-- `only_concrete` meets its contract: a word is kept as it is, or not at all.
 use borrow.Author.Needs.{needs}
 use mathlib.Core.Path.{sym, ap, _∙_, subst}
 use Rattle.candidates.specs.Maybe.{LegalMaybe, maybeType}

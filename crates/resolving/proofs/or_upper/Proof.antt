@@ -1,4 +1,4 @@
--- `or_upper` meets its contract: what is produced is legal, and so is the most specific upper bound. Assumes nothing.
+-- `or_upper` meets its contract: what is produced is legal, and so is the most specific upper bound.
 use borrow.Author.Needs.{needs}
 use mathlib.Core.Path.{_∙_}
 use mathlib.Core.List.{map}

@@ -1,4 +1,4 @@
--- `produced_type` meets its contract: the exact bounds if there are any, else the lower ones. Assumes nothing.
+-- `produced_type` meets its contract: the exact bounds if there are any, else the lower ones.
 use borrow.Author.Needs.{needs}
 use mathlib.Core.Path.{ap, _∙_}
 use mathlib.Core.List.{[]}

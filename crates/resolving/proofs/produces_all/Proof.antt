@@ -1,4 +1,4 @@
--- `produces_all` meets its contract: what is left to ask is the question of the words from `i` on. Assumes nothing.
+-- `produces_all` meets its contract: what is left to ask is the question of the words from `i` on.
 use borrow.Author.Needs.{needs}
 use mathlib.Core.Path.{_≡_, refl, sym, _∙_}
 use mathlib.Core.List.{map}

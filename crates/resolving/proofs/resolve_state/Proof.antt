@@ -1,4 +1,4 @@
--- `resolve_state` meets its contract: what is produced is legal; way 1, else those after it, is the definition. Assumes nothing.
+-- `resolve_state` meets its contract: what is produced is legal; way 1, else those after it, is the definition.
 use borrow.Author.Needs.{needs}
 use mathlib.Core.Path.{ap, _∙_}
 use mathlib.Core.List.{[], map}

@@ -1,4 +1,4 @@
--- `upper_candidate` meets its contract: the most specific upper bound is legal, and passes by its test. Assumes nothing.
+-- `upper_candidate` meets its contract: the most specific upper bound is legal, and passes by its test.
 use borrow.Author.Needs.{needs}
 use mathlib.Core.Path.{ap, _∙_}
 use mathlib.Core.List.{map}

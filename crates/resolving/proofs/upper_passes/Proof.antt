@@ -1,4 +1,4 @@
--- `upper_passes` meets its contract: three tests in a row: exact bounds, lower bounds, domain. Assumes nothing.
+-- `upper_passes` meets its contract: three tests in a row: exact bounds, lower bounds, domain.
 use borrow.Author.Needs.{needs}
 use mathlib.Core.Path.{sym, _∙_}
 use mathlib.Core.List.{map}

@@ -1,4 +1,4 @@
--- `bound_frame` meets its contract. Assumes nothing.
+-- `bound_frame` meets its contract.
 use borrow.Author.Needs.{needs}
 use Rattle.framestate.specs.FrameState.{boundNumbers}
 use Rattle.rowframes.specs.RowFrames.{row-frames, same-bound}

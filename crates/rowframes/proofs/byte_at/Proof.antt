@@ -1,4 +1,4 @@
--- `byte_at` meets its contract: a byte is below 256. Assumes nothing.
+-- `byte_at` meets its contract: a byte is below 256.
 use borrow.Author.Needs.{needs}
 use mathlib.Core.Path.{refl}
 use native.Mathlib.Omega.{arith}

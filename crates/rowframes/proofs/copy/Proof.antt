@@ -1,4 +1,4 @@
--- `copy` meets its contract: what is left are the bytes from the next on. Assumes nothing.
+-- `copy` meets its contract: what is left are the bytes from the next on.
 use borrow.Author.Needs.{needs}
 use mathlib.Core.Path.{_≡_, refl, sym, ap, _∙_, subst}
 use mathlib.Core.List.{List, [], _∷_}

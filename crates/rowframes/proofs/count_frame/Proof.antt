@@ -1,4 +1,4 @@
--- `count_frame` meets its contract. Assumes nothing.
+-- `count_frame` meets its contract.
 use borrow.Author.Needs.{needs}
 use mathlib.Core.Path.{ap, ap₂, _∙_}
 use Prim.Native.Nat.{ℕ}

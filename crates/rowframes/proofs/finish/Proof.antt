@@ -1,4 +1,4 @@
--- `finish` meets its contract. Assumes nothing.
+-- `finish` meets its contract.
 use borrow.Author.Needs.{needs}
 use mathlib.Core.Path.{_∙_}
 use native.Mathlib.Omega.{arith}

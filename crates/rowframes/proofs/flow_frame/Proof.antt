@@ -1,4 +1,4 @@
--- `flow_frame` meets its contract. Assumes nothing.
+-- `flow_frame` meets its contract.
 use borrow.Author.Needs.{needs}
 use Rattle.framestate.specs.FrameState.{flowNumbers}
 use Rattle.rowframes.specs.RowFrames.{row-frames, same-pair}

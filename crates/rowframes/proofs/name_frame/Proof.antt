@@ -1,4 +1,4 @@
--- `name_frame` meets its contract: a refused name changes nothing, another is kept as the last one. Assumes nothing.
+-- `name_frame` meets its contract: a refused name changes nothing, another is kept as the last one.
 use borrow.Author.Needs.{needs}
 use mathlib.Core.Path.{_≡_, ap, _∙_}
 use mathlib.Core.List.{List}

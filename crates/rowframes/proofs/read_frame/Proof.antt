@@ -1,4 +1,4 @@
--- `read_frame` meets its contract. Assumes nothing.
+-- `read_frame` meets its contract.
 use borrow.Author.Needs.{needs}
 use Rattle.framestate.specs.FrameState.{readNumbers}
 use Rattle.rowframes.specs.RowFrames.{row-frames, same-pair}

@@ -1,4 +1,4 @@
--- `record_frame` meets its contract: the parents are the numbers of the body from its fourth byte on. Assumes nothing.
+-- `record_frame` meets its contract: the parents are the numbers of the body from its fourth byte on.
 use borrow.Author.Needs.{needs}
 use mathlib.Core.Path.{_≡_, ap, _∙_}
 use mathlib.Core.List.{List}

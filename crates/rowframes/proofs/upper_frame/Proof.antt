@@ -1,4 +1,4 @@
--- `upper_frame` meets its contract. Assumes nothing.
+-- `upper_frame` meets its contract.
 use borrow.Author.Needs.{needs}
 use Rattle.framestate.specs.FrameState.{upperNumbers}
 use Rattle.rowframes.specs.RowFrames.{row-frames, same-pair}

@@ -1,4 +1,4 @@
--- `variable_frame` meets its contract. Assumes nothing.
+-- `variable_frame` meets its contract.
 use borrow.Author.Needs.{needs}
 use Rattle.framestate.specs.FrameState.{variableNumbers}
 use Rattle.rowframes.specs.RowFrames.{row-frames, same-variable}

@@ -1,4 +1,4 @@
--- `write_frame` meets its contract. Assumes nothing.
+-- `write_frame` meets its contract.
 use borrow.Author.Needs.{needs}
 use Rattle.framestate.specs.FrameState.{writeNumbers}
 use Rattle.rowframes.specs.RowFrames.{row-frames, same-pair}

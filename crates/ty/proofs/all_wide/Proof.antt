@@ -1,4 +1,4 @@
--- `all_wide` meets its contract. The invariant: the answer is that of the digits left. Assumes nothing.
+-- `all_wide` meets its contract. The invariant: the answer is that of the digits left.
 use borrow.Author.Needs.{needs}
 use mathlib.Core.Path.{_≡_, sym, ap, _∙_}
 use Prim.Native.Nat.{_+_, _-_, _/_, _^_, _≤_}

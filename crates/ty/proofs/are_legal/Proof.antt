@@ -1,4 +1,4 @@
--- `are_legal` meets its contract. Invariant: what is left to test says what the whole says. Assumes nothing.
+-- `are_legal` meets its contract. Invariant: what is left to test says what the whole says.
 use borrow.Author.Needs.{needs}
 use mathlib.Core.Path.{_≡_, sym, _∙_}
 use mathlib.Core.Bool.{true, false}

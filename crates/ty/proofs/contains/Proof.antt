@@ -1,4 +1,4 @@
--- `contains` meets its contract. The invariant: the digits passed do not have d. Assumes nothing.
+-- `contains` meets its contract. The invariant: the digits passed do not have d.
 use borrow.Author.Needs.{needs}
 use borrow.Author.Tests.{eq-eqb, ne-eqb}
 use mathlib.Core.Path.{_≡_, refl, sym, ap, _∙_}

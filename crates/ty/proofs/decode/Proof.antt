@@ -1,4 +1,4 @@
--- `decode` meets its contract: a type where the word is legal. Assumes nothing.
+-- `decode` meets its contract: a type where the word is legal.
 use borrow.Author.Needs.{needs}
 use mathlib.Core.Path.{sym, _∙_}
 use Rattle.ty.specs.Answers.{decode-good, decode-bad}

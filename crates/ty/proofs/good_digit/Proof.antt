@@ -1,4 +1,4 @@
--- `good_digit` meets its contract, by where the digit stands. Assumes nothing.
+-- `good_digit` meets its contract, by where the digit stands.
 use borrow.Author.Needs.{needs}
 use mathlib.Core.Path.{_≡_, ap, _∙_}
 use mathlib.Core.Bool.{Bool, not}

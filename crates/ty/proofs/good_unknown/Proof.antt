@@ -1,4 +1,4 @@
--- `good_unknown` meets its contract. The invariant: the answer is that of the digits left. Assumes nothing.
+-- `good_unknown` meets its contract. The invariant: the answer is that of the digits left.
 use borrow.Author.Needs.{needs}
 use mathlib.Core.Path.{_≡_, refl, sym, ap, _∙_}
 use mathlib.Core.Bool.{Bool, _&&_}

@@ -1,4 +1,4 @@
--- `is_legal` meets its contract, by the tag. Assumes nothing.
+-- `is_legal` meets its contract, by the tag.
 use borrow.Author.Needs.{needs}
 use mathlib.Core.Path.{sym, _∙_}
 use Rattle.ty.specs.Steps.{check-primitive, check-object, check-unknown, check-none}

@@ -1,4 +1,4 @@
--- `list_mask` meets its contract. The invariant: the set so far, with the digits left, is the whole. Assumes nothing.
+-- `list_mask` meets its contract. The invariant: the set so far, with the digits left, is the whole.
 use borrow.Author.Needs.{needs}
 use mathlib.Core.Path.{_≡_, sym, ap, _∙_}
 use Prim.Native.Nat.{ℕ, _+_, _-_, _*_, _/_, _%_, _^_, _≤_}

@@ -1,4 +1,4 @@
--- `single_hint` meets its contract, by the length and the one category. Assumes nothing.
+-- `single_hint` meets its contract, by the length and the one category.
 use borrow.Author.Needs.{needs}
 use mathlib.Core.Path.{_≡_, sym, ap}
 use Rattle.ty.specs.Answers.{maybeWord}

@@ -1,4 +1,4 @@
--- `wide_category` meets its contract. Assumes nothing.
+-- `wide_category` meets its contract.
 use borrow.Author.Tests.{eq-eqb, ne-eqb}
 use Rattle.ty.specs.Types.{wideCategory}
 use borrow.Author.Tests.{eq-eqb, ne-eqb}

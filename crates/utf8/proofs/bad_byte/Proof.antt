@@ -1,4 +1,4 @@
--- `bad_byte` meets its contract, test by test. Assumes nothing.
+-- `bad_byte` meets its contract, test by test.
 use borrow.Author.Tests.{lt-ltb, le-ltb}
 use native.Mathlib.Omega.{arith}
 use Rattle.utf8.specs.Seams.{stray}

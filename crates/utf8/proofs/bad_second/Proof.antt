@@ -1,4 +1,4 @@
--- `bad_second` meets its contract, test by test. Assumes nothing.
+-- `bad_second` meets its contract, test by test.
 use borrow.Author.Tests.{eq-eqb, ne-eqb, lt-ltb, le-ltb}
 use native.Mathlib.Omega.{arith}
 use Rattle.utf8.specs.Seams.{misfit}

@@ -1,5 +1,5 @@
 -- `by_sequences` meets its contract. The loop's invariant: what was passed and the valid prefix from i on make up the valid prefix from the start.
--- The measure is what is left. Assumes nothing.
+-- The measure is what is left.
 use borrow.Author.Needs.{needs}
 use mathlib.Core.Path.{_≡_, refl, sym, _∙_}
 use Prim.Native.Nat.{_+_, _-_, _≤_}

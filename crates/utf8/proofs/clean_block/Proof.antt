@@ -1,4 +1,4 @@
--- `clean_block` meets its contract: after k bytes, `bad` is the number of their faults. Assumes nothing.
+-- `clean_block` meets its contract: after k bytes, `bad` is the number of their faults.
 use borrow.Author.Needs.{needs}
 use mathlib.Core.Path.{_≡_, refl, ap, _∙_}
 use Prim.Native.Nat.{ℕ, _+_, _-_, _≤_}

@@ -1,4 +1,4 @@
--- `clean_blocks` meets its contract: each block goes on from what is clean, and the last one begins within it. Assumes nothing.
+-- `clean_blocks` meets its contract: each block goes on from what is clean, and the last one begins within it.
 use borrow.Author.Needs.{needs}
 use borrow.Author.Tests.{eqb-true}
 use mathlib.Core.Path.{sym, _∙_}

@@ -1,4 +1,4 @@
--- `clean_ends` meets its contract: two numbers that add up to 0 are 0, and the tests of the last two bytes are as stated. Assumes nothing.
+-- `clean_ends` meets its contract: two numbers that add up to 0 are 0, and the tests of the last two bytes are as stated.
 use borrow.Author.Needs.{needs}
 use borrow.Author.Tests.{ltb-true, le-ltb}
 use mathlib.Core.Path.{sym, _∙_}

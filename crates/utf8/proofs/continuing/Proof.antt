@@ -1,4 +1,4 @@
--- `continuing` meets its contract, test by test. Assumes nothing.
+-- `continuing` meets its contract, test by test.
 use borrow.Author.Tests.{lt-ltb, le-ltb}
 use native.Mathlib.Omega.{arith}
 use Rattle.utf8.specs.Seams.{continues}

@@ -1,4 +1,4 @@
--- `differ` meets its contract, test by test. Assumes nothing.
+-- `differ` meets its contract, test by test.
 use borrow.Author.Tests.{eq-eqb, ne-eqb}
 use Rattle.utf8.specs.Seams.{unlike}
 use Rattle.utf8.proofs.differ.Statement.{statement}

@@ -1,4 +1,4 @@
--- `faults_of` meets its contract: the sum of the three tests, each at most 1. Assumes nothing.
+-- `faults_of` meets its contract: the sum of the three tests, each at most 1.
 use borrow.Author.Needs.{needs}
 use mathlib.Core.Path.{ap₂, _∙_}
 use native.Mathlib.Omega.{arith}

@@ -1,4 +1,4 @@
--- `has_to` meets its contract, test by test. Assumes nothing.
+-- `has_to` meets its contract, test by test.
 use borrow.Author.Tests.{le-leb, lt-leb}
 use native.Mathlib.Omega.{arith}
 use Rattle.utf8.specs.Seams.{due}

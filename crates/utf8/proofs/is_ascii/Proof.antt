@@ -1,4 +1,4 @@
--- `is_ascii` meets its contract: the bytes passed are all below 80 where `plain` says so, and the rest is tested from i on. Assumes nothing.
+-- `is_ascii` meets its contract: the bytes passed are all below 80 where `plain` says so, and the rest is tested from i on.
 use borrow.Author.Needs.{needs}
 use mathlib.Core.Path.{_≡_, refl, sym, ap, ap₂, _∙_}
 use mathlib.Core.Bool.{Bool, _&&_, and-true, and-false}

@@ -1,4 +1,4 @@
--- `is_clean` meets its contract: a part without a fault is well-formed. Assumes nothing.
+-- `is_clean` meets its contract: a part without a fault is well-formed.
 use borrow.Author.Needs.{needs}
 use mathlib.Core.Bool.{false≢true}
 use native.Mathlib.Omega.{arith}

@@ -1,4 +1,4 @@
--- `is_well_formed` meets its contract: the part is well-formed where its valid prefix ends at `to`. Assumes nothing.
+-- `is_well_formed` meets its contract: the part is well-formed where its valid prefix ends at `to`.
 use Rattle.utf8.proofs.Part.{whole-part}
 use borrow.Author.Needs.{needs}
 use Rattle.utf8.proofs.is_well_formed.Statement.{statement}

@@ -1,4 +1,4 @@
--- `longer` meets its contract: each arm is a row of the table (counted from 0), and no row begins with any other byte. Assumes nothing.
+-- `longer` meets its contract: each arm is a row of the table (counted from 0), and no row begins with any other byte.
 use mathlib.Core.Path.{refl, sym}
 use native.Mathlib.Omega.{arith}
 use Rattle.utf8.specs.Utf8.{table}

@@ -1,4 +1,4 @@
--- `one` meets its contract: the test of the byte at i is the row's, and past the end no row matches. Assumes nothing.
+-- `one` meets its contract: the test of the byte at i is the row's, and past the end no row matches.
 use borrow.Author.Needs.{needs}
 use borrow.Author.Tests.{le-leb, lt-leb}
 use mathlib.Core.Path.{sym, _∙_}

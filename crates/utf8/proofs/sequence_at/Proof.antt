@@ -1,4 +1,4 @@
--- `sequence_at` meets its contract: a byte below 80 is a whole sequence, and `longer` does the rest. Assumes nothing.
+-- `sequence_at` meets its contract: a byte below 80 is a whole sequence, and `longer` does the rest.
 use borrow.Author.Needs.{needs}
 use mathlib.Core.Path.{sym, ap, _∙_}
 use Rattle.utf8.specs.Utf8.{sequence}

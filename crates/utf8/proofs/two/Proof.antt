@@ -1,4 +1,4 @@
--- `two` meets its contract: a row is matched where its first range and, one byte on, its rest are. Assumes nothing.
+-- `two` meets its contract: a row is matched where its first range and, one byte on, its rest are.
 use borrow.Author.Needs.{needs}
 use mathlib.Core.Path.{sym, _∙_}
 use mathlib.Core.List.{[], _∷_}

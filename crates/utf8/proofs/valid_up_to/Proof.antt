@@ -1,4 +1,4 @@
--- `valid_up_to` meets its contract: a part that is ASCII or clean is well-formed, and of any other the sequences tell. Assumes nothing.
+-- `valid_up_to` meets its contract: a part that is ASCII or clean is well-formed, and of any other the sequences tell.
 use borrow.Author.Needs.{needs}
 use mathlib.Core.Path.{sym, ap, _∙_}
 use mathlib.Core.List.{List}

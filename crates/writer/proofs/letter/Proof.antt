@@ -1,4 +1,4 @@
--- `letter` meets its contract: the table is the one of the definition. Assumes nothing.
+-- `letter` meets its contract: the table is the one of the definition.
 use borrow.Author.Needs.{needs}
 use mathlib.Core.Path.{refl}
 use Rattle.text.specs.Text.{ascii}

@@ -1,4 +1,4 @@
--- `put_base` meets its contract: a letter, a class by its name, or `?`. Assumes nothing.
+-- `put_base` meets its contract: a letter, a class by its name, or `?`.
 use borrow.Author.Needs.{needs}
 use mathlib.Core.Path.{sym, ap, _∙_}
 use Prim.Native.Nat.{ℕ}

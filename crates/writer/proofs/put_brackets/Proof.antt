@@ -1,4 +1,4 @@
--- `put_brackets` meets its contract. Invariant: what is left to store gives what the whole gives. Assumes nothing.
+-- `put_brackets` meets its contract. Invariant: what is left to store gives what the whole gives.
 use borrow.Author.Needs.{needs}
 use mathlib.Core.Path.{_≡_, refl, sym, _∙_}
 use Prim.Native.Nat.{ℕ, _≤_, _+_, _-_}

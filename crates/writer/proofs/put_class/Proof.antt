@@ -1,4 +1,4 @@
--- `put_class` meets its contract. Assumes nothing.
+-- `put_class` meets its contract.
 use borrow.Author.Needs.{needs}
 use native.Mathlib.Omega.{arith}
 use lib.ListN.{take, drop, length-set, length-drop}

@@ -1,4 +1,4 @@
--- `put_method` meets its contract: '(', the parameters, ')', the result. Assumes nothing.
+-- `put_method` meets its contract: '(', the parameters, ')', the result.
 use native.Mathlib.Omega.{arith}
 use lib.ListN.{length-set}
 use Rattle.writer.specs.Print.{printWords}

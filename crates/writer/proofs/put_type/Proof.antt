@@ -1,4 +1,4 @@
--- `put_type` meets its contract: the dimensions, then the base. Assumes nothing.
+-- `put_type` meets its contract: the dimensions, then the base.
 use borrow.Author.Needs.{needs}
 use Prim.Native.Nat.{ℕ}
 use native.Mathlib.Omega.{arith}

@@ -1,4 +1,4 @@
--- `type_length` meets its contract. Assumes nothing.
+-- `type_length` meets its contract.
 use borrow.Author.Needs.{needs}
 use native.Mathlib.Omega.{arith}
 use lib.ListN.{length}

@@ -1,4 +1,4 @@
--- `types_length` meets its contract. Invariant: the sum so far and what is left make the whole. Assumes nothing.
+-- `types_length` meets its contract. Invariant: the sum so far and what is left make the whole.
 use borrow.Author.Needs.{needs}
 use mathlib.Core.Path.{_≡_}
 use Prim.Native.Nat.{_≤_, _+_, _-_, _*_}

@@ -1,4 +1,4 @@
--- `write_checked_method` meets its contract: a case for each refusal, and one for none. Assumes nothing.
+-- `write_checked_method` meets its contract: a case for each refusal, and one for none.
 use borrow.Author.Needs.{needs}
 use mathlib.Core.Path.{sym, ap, ap₂, _∙_}
 use Prim.Native.Nat.{ℕ}

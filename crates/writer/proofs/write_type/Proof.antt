@@ -1,4 +1,4 @@
--- `write_type` meets its contract: the names' refusal first. Assumes nothing.
+-- `write_type` meets its contract: the names' refusal first.
 use borrow.Author.Needs.{needs}
 use mathlib.Core.Path.{sym, _∙_}
 use lib.ListN.{length}

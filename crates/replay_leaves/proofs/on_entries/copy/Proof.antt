@@ -1,4 +1,4 @@
--- `copy` is safe and ends. Assumes nothing.
+-- `copy` is safe and ends.
 use borrow.Author.Needs.{needs}
 use mathlib.Core.Path.{_≡_}
 use Prim.Native.Nat.{_-_, _≤_}

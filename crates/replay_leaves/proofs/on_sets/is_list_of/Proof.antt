@@ -1,4 +1,4 @@
--- `is_list_of` is safe and ends. Assumes nothing.
+-- `is_list_of` is safe and ends.
 use borrow.Author.Needs.{needs}
 use Prim.Native.Nat.{_-_, _≤_}
 use lib.ListN.{length}

@@ -1,4 +1,4 @@
--- `set_of` is safe and ends. Assumes nothing.
+-- `set_of` is safe and ends.
 use borrow.Author.Needs.{needs}
 use Prim.Native.Nat.{_-_, _≤_}
 use lib.ListN.{length}

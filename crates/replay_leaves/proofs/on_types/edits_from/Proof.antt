@@ -1,4 +1,4 @@
--- `edits_from` is safe and ends: a digit's place is below 64. Assumes nothing.
+-- `edits_from` is safe and ends: a digit's place is below 64.
 use borrow.Author.Needs.{needs}
 use Prim.Native.Nat.{_-_, _≤_}
 use Rattle.replay_leaves.proofs.on_types.edits_from.Statement.{statement}

@@ -1,4 +1,4 @@
--- `order_of_words` is safe: words that `decode` takes are legal. Assumes nothing.
+-- `order_of_words` is safe: words that `decode` takes are legal.
 use borrow.Author.Needs.{needs}
 use mathlib.Core.Path.{sym, _∙_}
 use Rattle.ty.specs.Answers.{good-type}

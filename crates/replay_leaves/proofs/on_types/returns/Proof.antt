@@ -1,4 +1,4 @@
--- `returns` is safe: the rank of a legal word is in range. Assumes nothing.
+-- `returns` is safe: the rank of a legal word is in range.
 use borrow.Author.Needs.{needs}
 use native.Mathlib.Omega.{arith}
 use Rattle.keys.specs.Parts.{rank-fits}

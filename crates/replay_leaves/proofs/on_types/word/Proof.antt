@@ -1,4 +1,4 @@
--- `word` is safe: a word that `decode` takes is legal. Assumes nothing.
+-- `word` is safe: a word that `decode` takes is legal.
 use borrow.Author.Needs.{needs}
 use mathlib.Core.Path.{sym, _∙_}
 use Rattle.ty.specs.Answers.{good-type}

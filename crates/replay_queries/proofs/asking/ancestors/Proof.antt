@@ -1,4 +1,4 @@
--- `ancestors` is safe: the lists of the table lie inside its numbers. Assumes nothing.
+-- `ancestors` is safe: the lists of the table lie inside its numbers.
 use borrow.Author.Needs.{needs}
 use native.Mathlib.Omega.{arith}
 use Rattle.replay_queries.proofs.asking.ancestors.Statement.{statement}

@@ -1,4 +1,4 @@
--- `ask` is safe: the lists of the table lie inside its numbers. Assumes nothing.
+-- `ask` is safe: the lists of the table lie inside its numbers.
 use borrow.Author.Needs.{needs}
 use native.Mathlib.Omega.{arith}
 use Rattle.replay_queries.proofs.asking.ask.Statement.{statement}

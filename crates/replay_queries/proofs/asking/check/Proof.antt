@@ -1,4 +1,4 @@
--- `check` is safe: the lists of the table lie inside its numbers. Assumes nothing.
+-- `check` is safe: the lists of the table lie inside its numbers.
 use borrow.Author.Needs.{needs}
 use native.Mathlib.Omega.{arith}
 use Rattle.replay_queries.proofs.asking.check.Statement.{statement}

@@ -1,4 +1,4 @@
--- `table_of` meets its contract: each list was found inside the numbers. Assumes nothing.
+-- `table_of` meets its contract: each list was found inside the numbers.
 use borrow.Author.Needs.{needs}
 use Rattle.replay_queries.proofs.cutting.table_of.Statement.{statement}
 use Rattle.replay_queries.proofs.cutting.table_of.Tie as tie

@@ -1,4 +1,4 @@
--- `are_said` is safe and ends: an answer for each number after the refusal. Assumes nothing.
+-- `are_said` is safe and ends: an answer for each number after the refusal.
 use borrow.Author.Needs.{needs}
 use mathlib.Core.Path.{_≡_}
 use Prim.Native.Nat.{_-_, _^_, _≤_, _<_}

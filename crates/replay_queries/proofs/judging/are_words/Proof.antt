@@ -1,4 +1,4 @@
--- `are_words` is safe and ends. Assumes nothing.
+-- `are_words` is safe and ends.
 use borrow.Author.Needs.{needs}
 use Prim.Native.Nat.{_-_, _≤_}
 use lib.ListN.{length}

@@ -1,4 +1,4 @@
--- `cut_bounds` is safe: the bounds lie inside the numbers. Assumes nothing.
+-- `cut_bounds` is safe: the bounds lie inside the numbers.
 use borrow.Author.Needs.{needs}
 use native.Mathlib.Omega.{arith}
 use Rattle.replay_solves.proofs.calling.cut_bounds.Statement.{statement}

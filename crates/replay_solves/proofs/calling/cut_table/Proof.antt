@@ -1,4 +1,4 @@
--- `cut_table` is safe: the lists of the table lie inside its numbers. Assumes nothing.
+-- `cut_table` is safe: the lists of the table lie inside its numbers.
 use borrow.Author.Needs.{needs}
 use native.Mathlib.Omega.{arith}
 use Rattle.replay_solves.proofs.calling.cut_table.Statement.{statement}

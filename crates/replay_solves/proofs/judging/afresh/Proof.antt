@@ -1,4 +1,4 @@
--- `afresh` is safe: the arrays are as long as what is lent of them. Assumes nothing.
+-- `afresh` is safe: the arrays are as long as what is lent of them.
 use borrow.Author.Needs.{needs}
 use Rattle.replay_solves.proofs.judging.afresh.Statement.{statement}
 use Rattle.replay_solves.proofs.judging.afresh.Tie as tie

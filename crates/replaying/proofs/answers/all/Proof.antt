@@ -1,4 +1,4 @@
--- `all` meets its contract: the verdict says what the comparison says. Assumes nothing.
+-- `all` meets its contract: the verdict says what the comparison says.
 use Rattle.replaying.proofs.Steps.{judges-if}
 use borrow.Author.Needs.{needs}
 use Rattle.replaying.proofs.answers.all.Statement.{statement}

@@ -1,4 +1,4 @@
--- `is_same` meets its contract: the slices are of one length, and alike below i. Assumes nothing.
+-- `is_same` meets its contract: the slices are of one length, and alike below i.
 use borrow.Author.Needs.{needs}
 use mathlib.Core.List.{List}
 use mathlib.Core.Path.{_≡_, ap}

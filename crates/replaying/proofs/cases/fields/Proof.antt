@@ -1,4 +1,4 @@
--- `fields` is safe and ends: a word ends inside the line. Assumes nothing.
+-- `fields` is safe and ends: a word ends inside the line.
 use borrow.Author.Needs.{needs}
 use mathlib.Core.Path.{_≡_}
 use Prim.Native.Nat.{_+_, _-_, _^_, _<_}

@@ -1,4 +1,4 @@
--- `hex_number` is safe and ends. Assumes nothing.
+-- `hex_number` is safe and ends.
 use borrow.Author.Needs.{needs}
 use Prim.Native.Nat.{_-_, _≤_}
 use lib.ListN.{length}

@@ -1,4 +1,4 @@
--- `place` is safe and ends: a name ends inside the names. Assumes nothing.
+-- `place` is safe and ends: a name ends inside the names.
 use borrow.Author.Needs.{needs}
 use Prim.Native.Nat.{_+_, _-_, _^_, _≤_, _<_}
 use lib.ListN.{length}

@@ -1,4 +1,4 @@
--- `put_bytes` is safe and ends: two digits are taken where two are left. Assumes nothing.
+-- `put_bytes` is safe and ends: two digits are taken where two are left.
 use borrow.Author.Needs.{needs}
 use mathlib.Core.Path.{_≡_}
 use Prim.Native.Nat.{_-_, _^_, _≤_, _<_}

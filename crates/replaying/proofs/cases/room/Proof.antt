@@ -1,4 +1,4 @@
--- `room` meets its contract, by the law of a list that repeats one number: the list itself is not written out. Assumes nothing.
+-- `room` meets its contract, by the law of a list that repeats one number: the list itself is not written out.
 use mathlib.Core.Path.{refl, sym}
 use Prim.Native.Nat.{ℕ}
 use lib.ListN.{length-replicate}

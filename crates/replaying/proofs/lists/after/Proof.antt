@@ -1,4 +1,4 @@
--- `after` meets its contract: the list that was found begins where the other ends. Assumes nothing.
+-- `after` meets its contract: the list that was found begins where the other ends.
 use borrow.Author.Needs.{needs}
 use mathlib.Core.Path.{refl}
 use Prim.Native.Nat.{_<_}

@@ -1,4 +1,4 @@
--- `end` meets its contract: the members end inside, or there is no whole list. Assumes nothing.
+-- `end` meets its contract: the members end inside, or there is no whole list.
 use borrow.Author.Needs.{needs}
 use mathlib.Core.Path.{refl}
 use native.Mathlib.Omega.{arith}

@@ -1,4 +1,4 @@
--- `end_before` meets its contract: the end is tested against the length. Assumes nothing.
+-- `end_before` meets its contract: the end is tested against the length.
 use borrow.Author.Needs.{needs}
 use mathlib.Core.Path.{refl}
 use native.Mathlib.Omega.{arith}

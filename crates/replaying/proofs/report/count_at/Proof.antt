@@ -1,4 +1,4 @@
--- `count_at` meets its contract: past the end stands 0. Assumes nothing.
+-- `count_at` meets its contract: past the end stands 0.
 use borrow.Author.Needs.{needs}
 use mathlib.Core.Path.{sym}
 use native.Mathlib.Omega.{arith}

@@ -1,4 +1,4 @@
--- `names_in` meets its contract: what is left are the names from the next byte on. Assumes nothing.
+-- `names_in` meets its contract: what is left are the names from the next byte on.
 use borrow.Author.Needs.{needs}
 use mathlib.Core.Path.{_≡_, sym, _∙_}
 use Prim.Native.Nat.{ℕ, _+_, _-_, _≤_}

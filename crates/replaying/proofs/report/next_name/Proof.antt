@@ -1,4 +1,4 @@
--- `next_name` meets its contract. Assumes nothing.
+-- `next_name` meets its contract.
 use borrow.Author.Needs.{needs}
 use mathlib.Core.Path.{sym, ap}
 use mathlib.Core.Bool.{Bool, cond}

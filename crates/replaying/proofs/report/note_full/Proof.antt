@@ -1,4 +1,4 @@
--- `note_full` meets its contract. Assumes nothing.
+-- `note_full` meets its contract.
 use mathlib.Core.Bool.{Bool, cond}
 use mathlib.Core.List.{List}
 use mathlib.Core.Path.{sym, ap, _∙_}

@@ -1,4 +1,4 @@
--- `one_more` meets its contract: past the end nothing is written. Assumes nothing.
+-- `one_more` meets its contract: past the end nothing is written.
 use native.Mathlib.Omega.{arith}
 use Rattle.replaying.proofs.Steps.{more-at, more-out}
 use borrow.Author.Needs.{needs}

@@ -1,4 +1,4 @@
--- `put` meets its contract: nothing where there may be no room, else the lines of the names and the two after them. Assumes nothing.
+-- `put` meets its contract: nothing where there may be no room, else the lines of the names and the two after them.
 use borrow.Author.Needs.{needs}
 use mathlib.Core.List.{[]}
 use native.Mathlib.Omega.{arith}

@@ -1,4 +1,4 @@
--- `put_counts` meets its contract: two numbers and the end of the line. Assumes nothing.
+-- `put_counts` meets its contract: two numbers and the end of the line.
 use borrow.Author.Needs.{needs}
 use native.Mathlib.Omega.{arith}
 use Rattle.replaying.specs.ReportLaws.{counts-put}

@@ -1,4 +1,4 @@
--- `put_field` meets its contract: a number has at most 20 digits. Assumes nothing.
+-- `put_field` meets its contract: a number has at most 20 digits.
 use borrow.Author.Needs.{needs}
 use native.Mathlib.Omega.{arith}
 use Rattle.lineout.specs.Laws.{decimal-short}

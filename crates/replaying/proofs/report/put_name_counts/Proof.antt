@@ -1,4 +1,4 @@
--- `put_name_counts` meets its contract: the counts are those at two indices. Assumes nothing.
+-- `put_name_counts` meets its contract: the counts are those at two indices.
 use borrow.Author.Needs.{needs}
 use mathlib.Core.Path.{ap₂}
 use Prim.Native.Nat.{ℕ}

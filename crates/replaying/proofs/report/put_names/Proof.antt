@@ -1,4 +1,4 @@
--- `put_names` meets its contract: what is left are the names from the next byte on. Assumes nothing.
+-- `put_names` meets its contract: what is left are the names from the next byte on.
 use borrow.Author.Needs.{needs}
 use mathlib.Core.Path.{_≡_, refl, _∙_, subst}
 use mathlib.Core.List.{List}

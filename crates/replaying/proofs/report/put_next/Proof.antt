@@ -1,4 +1,4 @@
--- `put_next` meets its contract: a blank ends the name. Assumes nothing.
+-- `put_next` meets its contract: a blank ends the name.
 use borrow.Author.Needs.{needs}
 use mathlib.Core.List.{[], _∷_}
 use native.Mathlib.Omega.{arith}

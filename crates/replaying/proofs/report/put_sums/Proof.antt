@@ -1,4 +1,4 @@
--- `put_sums` meets its contract: the four numbers are the counts of the last two lines. Assumes nothing.
+-- `put_sums` meets its contract: the four numbers are the counts of the last two lines.
 use borrow.Author.Needs.{needs}
 use mathlib.Core.Path.{ap}
 use mathlib.Core.List.{List, [], _∷_}

@@ -1,4 +1,4 @@
--- `record` meets its contract: a test for each kind of line. Assumes nothing.
+-- `record` meets its contract: a test for each kind of line.
 use mathlib.Core.Path.{_∙_}
 use Rattle.replaying.proofs.Steps.{counted-comment, counted-past, counted-in}
 use borrow.Author.Needs.{needs}

@@ -1,4 +1,4 @@
--- `sum` meets its contract: what is added so far is the sum of the first k. Assumes nothing.
+-- `sum` meets its contract: what is added so far is the sum of the first k.
 use borrow.Author.Needs.{needs}
 use mathlib.Core.Path.{_≡_, refl, ap, _∙_}
 use Prim.Native.Nat.{ℕ, _+_, _-_, _*_, _%_, _^_, _≤_}

@@ -1,4 +1,4 @@
--- `tally` meets its contract, a way for each verdict. Assumes nothing.
+-- `tally` meets its contract, a way for each verdict.
 use mathlib.Core.List.{List}
 use mathlib.Core.Path.{sym, ap, _∙_}
 use Prim.Native.Nat.{ℕ, _+_, _*_}

@@ -1,4 +1,4 @@
--- `part_end` meets its contract: the index stays inside, and b does not stand before it. Assumes nothing.
+-- `part_end` meets its contract: the index stays inside, and b does not stand before it.
 use borrow.Author.Needs.{needs}
 use Prim.Native.Nat.{_+_, _-_, _≤_}
 use native.Mathlib.Omega.{arith}

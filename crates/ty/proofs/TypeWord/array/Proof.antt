@@ -1,4 +1,4 @@
--- `TypeWord::array` meets its contract. Assumes nothing.
+-- `TypeWord::array` meets its contract.
 use borrow.Author.Needs.{needs}
 use borrow.Author.Tests.{lt-ltb, le-ltb}
 use Rattle.ty.specs.Answers.{arrayWord}

@@ -1,4 +1,4 @@
--- `TypeWord::categories` meets its contract, by dimensions and tag. Assumes nothing.
+-- `TypeWord::categories` meets its contract, by dimensions and tag.
 use borrow.Author.Needs.{needs}
 use mathlib.Core.Path.{_∙_}
 use native.Mathlib.Omega.{arith}

@@ -1,4 +1,4 @@
--- `TypeWord::concrete_hint` meets its contract. Assumes nothing.
+-- `TypeWord::concrete_hint` meets its contract.
 use borrow.Author.Needs.{needs}
 use mathlib.Core.Path.{_≡_, sym, ap, _∙_}
 use Prim.Native.Nat.{ℕ}

@@ -1,4 +1,4 @@
--- `TypeWord::element` meets its contract. Assumes nothing.
+-- `TypeWord::element` meets its contract.
 use borrow.Author.Tests.{le-leb, lt-leb}
 use Rattle.ty.specs.Answers.{elementWord}
 use Rattle.ty.proofs.TypeWord.element.Statement.{statement}

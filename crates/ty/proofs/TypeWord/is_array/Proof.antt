@@ -1,4 +1,4 @@
--- `TypeWord::is_array` meets its contract. Assumes nothing.
+-- `TypeWord::is_array` meets its contract.
 use Rattle.ty.specs.Steps.{array-test}
 use Rattle.ty.proofs.TypeWord.is_array.Statement.{statement}
 use Rattle.ty.proofs.TypeWord.is_array.Tie as tie

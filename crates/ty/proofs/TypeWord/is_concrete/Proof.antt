@@ -1,4 +1,4 @@
--- `TypeWord::is_concrete` meets its contract, by the tag. Assumes nothing.
+-- `TypeWord::is_concrete` meets its contract, by the tag.
 use Rattle.ty.specs.Steps.{concrete-object-category, concrete-other, concrete-tag}
 use Rattle.ty.proofs.TypeWord.is_concrete.Statement.{statement}
 use Rattle.ty.proofs.TypeWord.is_concrete.Tie as tie

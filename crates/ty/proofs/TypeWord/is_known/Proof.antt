@@ -1,4 +1,4 @@
--- `TypeWord::is_known` meets its contract: with a dimension and without. Assumes nothing.
+-- `TypeWord::is_known` meets its contract: with a dimension and without.
 use Rattle.ty.specs.Steps.{known-array, known-flat}
 use Rattle.ty.proofs.TypeWord.is_known.Statement.{statement}
 use Rattle.ty.proofs.TypeWord.is_known.Tie as tie

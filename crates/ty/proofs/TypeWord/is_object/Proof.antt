@@ -1,4 +1,4 @@
--- `TypeWord::is_object` meets its contract: with a dimension and without. Assumes nothing.
+-- `TypeWord::is_object` meets its contract: with a dimension and without.
 use Rattle.ty.specs.Steps.{object-array, object-flat}
 use Rattle.ty.proofs.TypeWord.is_object.Statement.{statement}
 use Rattle.ty.proofs.TypeWord.is_object.Tie as tie

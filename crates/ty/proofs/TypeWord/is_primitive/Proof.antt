@@ -1,4 +1,4 @@
--- `TypeWord::is_primitive` meets its contract: with a dimension and without. Assumes nothing.
+-- `TypeWord::is_primitive` meets its contract: with a dimension and without.
 use Rattle.ty.specs.Steps.{primitive-array, primitive-flat}
 use Rattle.ty.proofs.TypeWord.is_primitive.Statement.{statement}
 use Rattle.ty.proofs.TypeWord.is_primitive.Tie as tie

@@ -1,4 +1,4 @@
--- `TypeWord::is_reference` meets its contract: with a dimension and without. Assumes nothing.
+-- `TypeWord::is_reference` meets its contract: with a dimension and without.
 use Rattle.ty.specs.Steps.{reference-array, reference-flat}
 use Rattle.ty.proofs.TypeWord.is_reference.Statement.{statement}
 use Rattle.ty.proofs.TypeWord.is_reference.Tie as tie

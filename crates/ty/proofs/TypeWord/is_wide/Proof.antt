@@ -1,4 +1,4 @@
--- `TypeWord::is_wide` meets its contract, by dimensions and tag. Assumes nothing.
+-- `TypeWord::is_wide` meets its contract, by dimensions and tag.
 use borrow.Author.Needs.{needs}
 use mathlib.Core.Path.{_∙_}
 use Rattle.ty.specs.Steps.{wide-array, wide-primitive, wide-object, wide-unknown}
