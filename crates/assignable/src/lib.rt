@@ -56,7 +56,7 @@ fn array_parent(t: Tables, class: u64) -> bool
 }
 
 // What is not known of the classes counts as assignable.
-fn not_no(r: Relation) -> bool
+pub fn not_no(r: Relation) -> bool
     ensures { λ b. ⌜ b ≡ notNo r ⌝ }
 {
     match r {

@@ -1,6 +1,7 @@
 // What lattice.rs asks of a candidate type and the bounds on a value: whether a producer's type can stand for another, whether what
 // was observed accepts it, whether it is assignable to every upper bound, and which upper bound is the most specific.
 use assignable::is_assignable;
+use assignable::not_no;
 use assignable::unknown_accepts;
 use order::Order;
 use sets::Set;
@@ -9,7 +10,6 @@ use tables::Tables;
 use ty::MaybeType;
 use ty::TAG;
 use ty::TypeWord;
-use view::Relation;
 ghost use mathlib.Core.Path.{_≡_};
 ghost use mathlib.Core.Bool.{true, false, cond, _&&_};
 ghost use mathlib.Core.List.{map};
@@ -20,7 +20,7 @@ ghost use Rattle.prepared.specs.Prepared.{Prepared};
 ghost use Rattle.ty.specs.Types.{isReference, concreteHint};
 ghost use Rattle.ty.specs.Words.{Legal, tagOf, typeOf};
 ghost use Rattle.ty.specs.Answers.{maybeWord};
-ghost use Rattle.lattice.specs.Lattice.{notNo, producerBoundCompatible, sameRegisterCategory, observedAccepts, anyAccepts, domainAccepts, assignableToAll, lesser, candidate, mostSpecificUpper};
+ghost use Rattle.lattice.specs.Lattice.{producerBoundCompatible, sameRegisterCategory, observedAccepts, anyAccepts, domainAccepts, assignableToAll, lesser, candidate, mostSpecificUpper};
 ghost use Rattle.lattice.specs.World.{worldOf};
 ghost use Rattle.candidates.specs.Maybe.{AllLegal, LegalMaybe, maybeType};
 ghost use Rattle.candidates.specs.Groups.{headOf, ClassAt, Stands, Grouped, Adds, Takes, BestOf};
@@ -154,18 +154,7 @@ fn stands_for_all(pairs: &[u64], marks: &[u64], t: Tables, class: u64, s: Set) -
     if first == NAMES {
         return true;
     }
-    is_open(prepared::relation_of(pairs, marks, t, class, first))
-}
-
-// What is not known of the classes counts as assignable.
-fn is_open(r: Relation) -> bool
-    ensures { λ b. ⌜ b ≡ notNo r ⌝ }
-{
-    match r {
-        Relation::Yes => true,
-        Relation::No => false,
-        Relation::Unknown => true,
-    }
+    not_no(prepared::relation_of(pairs, marks, t, class, first))
 }
 
 // Upper bounds as the classes of one head meet them, that is, of one number of dimensions: those with the same head as a set of classes,

@@ -17,6 +17,8 @@ use Rattle.hierarchy.proofs.subtype_relation.Reads as subtype-relation-
 use Rattle.hierarchy.proofs.subtype_relation.Kinds as subtype-relation-kinds
 use Rattle.hierarchy.proofs.cast.Reads as cast-reads
 use Rattle.hierarchy.proofs.cast.Kinds as cast-kinds
+use Rattle.hierarchy.proofs.recorded.Reads as recorded-reads
+use Rattle.hierarchy.proofs.recorded.Kinds as recorded-kinds
 use Rattle.hierarchy.proofs.reaches.Reads as reaches-reads
 use Rattle.hierarchy.proofs.reaches.Kinds as reaches-kinds
 
@@ -51,3 +53,7 @@ cast-one κs a r₁ r₂ x₁ x₂ p q = p ∙ sym q
 pub reaches-one : (κs : Lfts 2) (a : Dens κs reaches-kinds.ps) (r₁ r₂ : resT reaches-kinds.r κs .Denot) (x₁ x₂ : AtExit (endedOf 2 reaches-kinds.ps reaches-kinds.r) κs)
     → reaches-reads.Post κs a r₁ x₁ → reaches-reads.Post κs a r₂ x₂ → r₁ ≡ r₂
 reaches-one κs a r₁ r₂ x₁ x₂ p q = p ∙ sym q
+
+pub recorded-one : (κs : Lfts 1) (a : Dens κs recorded-kinds.ps) (r₁ r₂ : resT recorded-kinds.r κs .Denot) (x₁ x₂ : AtExit (endedOf 1 recorded-kinds.ps recorded-kinds.r) κs)
+    → recorded-reads.Post κs a r₁ x₁ → recorded-reads.Post κs a r₂ x₂ → r₁ ≡ r₂
+recorded-one κs a r₁ r₂ x₁ x₂ p q = λ i. record { words = (p ∙ sym q) i }

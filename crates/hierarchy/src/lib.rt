@@ -165,7 +165,7 @@ fn is_marked(marks: &[u64], k: u64, c: u64) -> bool
 }
 
 // The classes that are recorded.
-fn recorded(marks: &[u64]) -> Set
+pub fn recorded(marks: &[u64]) -> Set
     requires { ⌜ length (now marks) ≡ marksRoom ⌝ }
     ensures { λ r. ⌜ r .words ≡ mark (now (marks .entry)) 0 ⌝ }
 {

@@ -4,6 +4,7 @@ use ancestry::fill;
 use ancestry::is_in;
 use ancestry::row_of;
 use ancestry::spread;
+use hierarchy::recorded;
 use sets::Set;
 use tables::NAMES;
 use tables::PAIRS;
@@ -16,7 +17,7 @@ ghost use lib.ListN.{length, replicate};
 ghost use lib.Seq.{paste};
 ghost use Rattle.sets.specs.Sets.{member};
 ghost use Rattle.view.specs.View.{reached, reach, relation};
-ghost use Rattle.tables.specs.Table.{namesRoom, pairsRoom, marksRoom, mark, viewOf};
+ghost use Rattle.tables.specs.Table.{namesRoom, pairsRoom, viewOf};
 ghost use Rattle.prepared.specs.Prepared.{tableRoom, hasRow, Prepared, Laid};
 
 // The length of a slice with keys and rows.
@@ -58,18 +59,6 @@ pub fn reaches(pairs: &[u64], marks: &[u64], t: Tables, x: u64, y: u64) -> bool
         return is_in(&pairs[4096..20480], x, y);
     }
     hierarchy::reaches(pairs, marks, t, x, y)
-}
-
-// The classes that are recorded.
-fn recorded(marks: &[u64]) -> Set
-    requires { ⌜ length (now marks) ≡ marksRoom ⌝ }
-    ensures { λ r. ⌜ r .words ≡ mark (now (marks .entry)) 0 ⌝ }
-{
-    let mut words = [0u64; 16];
-    for i in 0..16 {
-        words[i] = marks[i];
-    }
-    Set { words: words }
 }
 
 // How a class with a row stands to another.

@@ -19,6 +19,7 @@ use Rattle.sets.specs.Sets.{member}
 use Rattle.sets.specs.Laws.{member-past, member-empty}
 use Rattle.sorted.specs.Sorted.{Above, Sorted, runOf}
 use Rattle.sorted.specs.Laws.{above-sorted, put-sorted, elem-put, same-members}
+use Rattle.sorted.specs.Parts.{part-sorted}
 use Rattle.sorted.specs.Places.{run-only}
 use Rattle.order.specs.declared.Order.{Order}
 use Rattle.order.specs.declared.Order.the-variants.{Less, Equal, Greater}
@@ -140,21 +141,6 @@ unfolding setOf elem
 elem-set z [] = refl
 elem-set z (x ∷ xs) = elem-put x z (setOf xs) ∙ ap (λ (b : Bool). eqb x z || b) (elem-set z xs)
 
-above-take : (b n : ℕ) (l : List ℕ) → Above b l → Above b (take n l)
-above-take b zero l a = tt
-above-take b (suc n) [] a = tt
-above-take b (suc n) (y ∷ l) a = (a .0, above-take y n l (a .1))
-
-sorted-take : (n : ℕ) (l : List ℕ) → Sorted l → Sorted (take n l)
-sorted-take zero l a = tt
-sorted-take (suc n) [] a = tt
-sorted-take (suc n) (y ∷ l) a = above-take y n l a
-
-sorted-drop : (n : ℕ) (l : List ℕ) → Sorted l → Sorted (drop n l)
-sorted-drop zero l a = a
-sorted-drop (suc n) [] a = tt
-sorted-drop (suc n) (y ∷ l) a = sorted-drop n l (above-sorted y l a)
-
 above-lower : (x y : ℕ) (l : List ℕ) → x < y → Above y l → Above x l
 above-lower x y [] h a = tt
 above-lower x y (z ∷ l) h a = (let k = a .0 in omega arith, a .1)
@@ -185,7 +171,7 @@ module _ (names c : ℕ) where
   pub parents-sorted : (l : List ℕ) → Sorted l → Sorted (keyParents names l c)
   unfolding keyParents
   parents-sorted l g =
-      in-sorted (take (past - first) (drop first l)) (sorted-take (past - first) (drop first l) (sorted-drop first l g))
+      in-sorted (take (past - first) (drop first l)) (part-sorted first past l g)
       (λ i h.
       let b = length-take (past - first) (drop first l) in
       let d = length-drop first l in

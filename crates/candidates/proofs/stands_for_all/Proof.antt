@@ -56,8 +56,8 @@ returns-2 c =
 relation-of-requires : tie.Need-relation-of-requires
 relation-of-requires c κs = search needs
 
-is-open-requires : tie.Need-is-open-requires
-is-open-requires c κs = search needs
+not-no-requires : tie.Need-not-no-requires
+not-no-requires c κs = search needs
 
 returns-3 : tie.Need-returns-3
 returns-3 c =
@@ -70,8 +70,8 @@ returns-3 c =
     (array-length 16 (a .s .words) _ (s .good .1 .1 .1 .1 .0 .1 .1 .0))
     (left .without2 .ensures ∙ ap (λ (x : List ℕ). remove x (a .t .object)) (left .before .without .ensures))
     (d .difference .result .words) (d .difference .ensures ∙ ap (λ (x : List ℕ). subtract (left .without2 .result .words) x) (d .before .reached-from .ensures))
-    (e .before .lowest2 .result) (e .before .lowest2 .ensures) (e .if2 .left) (c .is-open .result)
-    (c .is-open .ensures ∙ ap notNo (c .before .relation-of .ensures))
+    (e .before .lowest2 .result) (e .before .lowest2 .ensures) (e .if2 .left) (c .not-no .result)
+    (c .not-no .ensures ∙ ap notNo (c .before .relation-of .ensures))
 
 pub stands-for-all-spec : {M : Type 1} → statement M
 stands-for-all-spec =
@@ -86,5 +86,5 @@ stands-for-all-spec =
     lowest-requires-2
     returns-2
     relation-of-requires
-    is-open-requires
+    not-no-requires
     returns-3)
