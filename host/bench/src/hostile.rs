@@ -48,20 +48,14 @@ struct Hostile {
 pub fn costs(effort: Effort) -> Vec<Cost> {
     let reach = Reach::of(effort);
     let mut all = quick(reach);
-    all.extend(uppers_of(reach, reach.names / 8));
-    all.extend(uppers_of(reach, reach.names / 4));
-    all.push(gaining(reach.names / 16, reach.rungs / 4));
-    all.push(gaining(reach.names / 8, reach.rungs / 4));
-    all.into_iter().map(timed).collect()
-}
-
-/// The worst that was found: uppers of half the names and of all, and a component that gains uppers. The time of one turn grows
-/// with the third power of the uppers. A component of 900 that gains 75 more would still be within the limits.
-pub fn worst(effort: Effort) -> Vec<Cost> {
-    let reach = Reach::of(effort);
-    let mut all = vec![gaining(reach.names / 4, reach.rungs / 2)];
-    all.extend(uppers_of(reach, reach.names / 2));
-    all.extend(uppers_of(reach, reach.names));
+    for names in [reach.names / 8, reach.names / 4, reach.names] {
+        all.extend(uppers_of(reach, names));
+    }
+    for (uppers, rungs) in [(8, 4), (4, 2)] {
+        all.push(gaining(reach.names / uppers, reach.rungs / rungs));
+    }
+    all.extend([climbing(reach, true), climbing(reach, false)]);
+    all.push(crowded(reach));
     all.into_iter().map(timed).collect()
 }
 
@@ -252,6 +246,61 @@ fn far_apart(reach: Reach, name: &str, table: ClassTable, is_joined: bool) -> Ho
     }
 }
 
+/// A chain of classes, and beside each of them one with the same parent: the join of all the latter climbs the chain one step with
+/// each. It is asked for again each round, since one that reads itself sends an upper bound up. The chain's numbers rise with it or
+/// fall.
+fn climbing(reach: Reach, is_lowest_first: bool) -> Hostile {
+    let steps = (reach.names / 2).saturating_sub(2).max(2);
+    let name = |step: u64| match is_lowest_first {
+        true => format!("z/{step:04}"),
+        false => format!("z/{:04}", steps - step),
+    };
+    let above = |step: u64| match step < steps {
+        true => name(step + 1),
+        false => "java/lang/Object".to_string(),
+    };
+    let mut builder = ClassTableBuilder::new();
+    builder.add("a", [name(0).as_str()]);
+    for step in 0..=steps {
+        builder.add(&name(step), [above(step).as_str()]);
+    }
+    for step in 0..steps {
+        builder.add(&format!("b/{step:04}"), [above(step).as_str()]);
+    }
+    // a, those beside the chain, Object
+    let beside = (0..=steps).map(|number| (0, LOWER, class(number)));
+    let deep = array(reach.dimensions, class(steps + 1));
+    let bounds: Bounds = beside.chain([(2, EXACT, deep)]).collect();
+    let order = if is_lowest_first { "rise" } else { "fall" };
+    Hostile {
+        what: format!(
+            "{} lower bounds whose join climbs, again and again; numbers {order}",
+            steps + 1
+        ),
+        table: builder.build().expect("a sound table"),
+        columns: problem(3, &bounds, [&[(0, 1)], &[(0, 2)], &[(2, 2)], &[]]),
+    }
+}
+
+/// One component with every class as a lower and an upper bound, and all variables.
+fn crowded(reach: Reach) -> Hostile {
+    let kinds = [LOWER, UPPER].into_iter();
+    let bounds: Bounds = kinds
+        .flat_map(|kind| (0..reach.names).map(move |number| (0, kind, class(number))))
+        .collect();
+    let mut columns = problem(1, &bounds, [&[], &[], &[], &[]]);
+    columns.variables = vec![0; 4 * reach.components as usize];
+    Hostile {
+        what: format!(
+            "{} variables of one component with {} bounds",
+            columns.variables.len(),
+            bounds.len()
+        ),
+        table: chain(reach.names),
+        columns,
+    }
+}
+
 #[cfg(test)]
 mod tests {
     use super::*;
@@ -259,8 +308,7 @@ mod tests {
     /// None is refused: they run to their ends.
     #[test]
     fn none_is_refused() {
-        let all = costs(Effort::LEAST).into_iter();
-        for (what, _) in all.chain(worst(Effort::LEAST)) {
+        for (what, _) in costs(Effort::LEAST) {
             assert!(!what.contains("refused"), "{what}");
         }
     }

@@ -2,8 +2,7 @@
 //!
 //!     cargo run --release --offline -p bench                     a table in Markdown
 //!     cargo run --release --offline -p bench -- classes          a part of it: descriptors, classes, types, solves, small,
-//!                                                                 shares, hostile; and by name alone solve-growths,
-//!                                                                 and worst, which takes minutes
+//!                                                                 shares, hostile; and by name alone solve-growths
 //!     cargo run --release --offline -p bench -- report           docs/PERFORMANCE.md, with plots beside it
 //!
 //! A report is refused where its figures would say nothing: in a build for tests, and under an emulator; `--force` after
