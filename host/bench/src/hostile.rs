@@ -259,18 +259,18 @@ fn climbing(reach: Reach, is_lowest_first: bool) -> Hostile {
         true => name(step + 1),
         false => "java/lang/Object".to_string(),
     };
+    let chain = (0..=steps).map(|step| (name(step), above(step)));
+    let beside = (0..steps).map(|step| (format!("b/{step:04}"), above(step)));
+    let first = ("a".to_string(), name(0));
+    let classes: Vec<(String, String)> = chain.chain(beside).chain([first]).collect();
     let mut builder = ClassTableBuilder::new();
-    builder.add("a", [name(0).as_str()]);
-    for step in 0..=steps {
-        builder.add(&name(step), [above(step).as_str()]);
+    for (class, parent) in &classes {
+        builder.add(class, [parent.as_str()]);
     }
-    for step in 0..steps {
-        builder.add(&format!("b/{step:04}"), [above(step).as_str()]);
-    }
-    // a, those beside the chain, Object
-    let beside = (0..=steps).map(|number| (0, LOWER, class(number)));
+    // By number: a, those beside the chain, Object.
+    let incoming = (0..=steps).map(|number| (0, LOWER, class(number)));
     let deep = array(reach.dimensions, class(steps + 1));
-    let bounds: Bounds = beside.chain([(2, EXACT, deep)]).collect();
+    let bounds: Bounds = incoming.chain([(2, EXACT, deep)]).collect();
     let order = if is_lowest_first { "rise" } else { "fall" };
     Hostile {
         what: format!(
