@@ -29,15 +29,15 @@
  *     bp_write_type             1
  *     bp_write_method           1
  *     bp_lookup                 1
- *     bp_check_table           34
+ *     bp_check_table          162
  *     bp_relation             163
  *     bp_distance             163
  *     bp_ancestors            163
- *     bp_supertype            173
+ *     bp_supertype            166
  *     bp_cast                 163
- *     bp_join                 226
+ *     bp_join                 219
  *     bp_assignable           163
- *     bp_solve                585
+ *     bp_solve                578
  * stack: end
  *
  * A type is handed over as a word of 64 bits, see BP_PRIMITIVE, BP_CLASS and BP_ARRAY.
