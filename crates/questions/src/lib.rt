@@ -334,6 +334,7 @@ fn ask_over(
     }
 }
 
+// In a slice of any words.
 fn ask_table(
     names: &[u8],
     name_at: &[u64],
@@ -346,10 +347,11 @@ fn ask_table(
     q: Question,
     a: u64,
     b: u64,
+    pairs: &mut [u64],
 ) -> Answer
+    requires { ⌜ length (now pairs) ≡ pairsRoom ⌝ }
     ensures { λ r. ⌜ r ≡ tableAnswer (given (now (names .entry)) (now («name_at» .entry)) (now («name_len» .entry)) (now («rec_flags» .entry)) (now («rec_class» .entry)) (now («rec_at» .entry)) (now («rec_len» .entry)) (now (parents .entry))) q a b ⌝ }
 {
-    let mut pairs = [0u64; PAIRS];
     let mut marks = [0u64; MARKS];
     ask_over(
         names,
@@ -363,7 +365,7 @@ fn ask_table(
         q,
         a,
         b,
-        &mut pairs,
+        pairs,
         &mut marks,
     )
 }
@@ -391,8 +393,7 @@ pub fn ask(
             value: 0,
         };
     }
-    clear(work);
-    ask_table(
+    let answer = ask_table(
         names,
         name_at,
         name_len,
@@ -404,7 +405,10 @@ pub fn ask(
         q,
         a,
         b,
-    )
+        &mut work[0..PAIRS],
+    );
+    clear(work);
+    answer
 }
 
 // ---- the ancestors of a class
@@ -469,6 +473,7 @@ fn ancestors_over(
     gather(hierarchy::ancestors(pairs, marks, o.tables, class))
 }
 
+// In a slice of any words.
 fn ancestors_in(
     names: &[u8],
     name_at: &[u64],
@@ -479,10 +484,11 @@ fn ancestors_in(
     rec_len: &[u64],
     parents: &[u64],
     class: u64,
+    pairs: &mut [u64],
 ) -> Ancestors
+    requires { ⌜ length (now pairs) ≡ pairsRoom ⌝ }
     ensures { λ r. ⌜ r ≡ tableAncestors (given (now (names .entry)) (now («name_at» .entry)) (now («name_len» .entry)) (now («rec_flags» .entry)) (now («rec_class» .entry)) (now («rec_at» .entry)) (now («rec_len» .entry)) (now (parents .entry))) class ⌝ }
 {
-    let mut pairs = [0u64; PAIRS];
     let mut marks = [0u64; MARKS];
     ancestors_over(
         names,
@@ -494,7 +500,7 @@ fn ancestors_in(
         rec_len,
         parents,
         class,
-        &mut pairs,
+        pairs,
         &mut marks,
     )
 }
@@ -517,8 +523,7 @@ pub fn ancestors_of(
     if work.len() < ROOM {
         return none_gathered(22);
     }
-    clear(work);
-    ancestors_in(
+    let found = ancestors_in(
         names,
         name_at,
         name_len,
@@ -528,5 +533,8 @@ pub fn ancestors_of(
         rec_len,
         parents,
         class,
-    )
+        &mut work[0..PAIRS],
+    );
+    clear(work);
+    found
 }

@@ -1,5 +1,8 @@
--- `ask` meets its contract: a work that is too short, or the answer over a work that was cleared.
+-- `ask` meets its contract: a work that is too short, or the answer, and the work cleared behind it.
 use borrow.Author.Needs.{needs}
+use mathlib.Core.Path.{_≡_, sym, ap, _∙_}
+use Prim.Native.Nat.{ℕ}
+use lib.ListN.{length, replicate}
 use Rattle.columns.specs.Given.{Given, given}
 use Rattle.questions.specs.Laws.{asked-short, asked-long}
 use Rattle.questions.proofs.ask.Statement.{statement}
@@ -11,20 +14,31 @@ returns c =
     let g : Given = given (a .names .now) (a .name-at .now) (a .name-len .now) (a .rec-flags .now) (a .rec-class .now) (a .rec-at .now) (a .rec-len .now) (a .parents .now) in
     asked-short g (a .q) (a .a) (a .b) (a .work .now) (c .if1 .taken)
 
-clear-requires : tie.Need-clear-requires
-clear-requires c κs = search needs
+sub-ask-table : tie.Need-sub-ask-table
+sub-ask-table c = search needs
+
+part-ask-table-start : tie.Need-part-ask-table-start
+part-ask-table-start c = search needs
+
+part-ask-table-end : tie.Need-part-ask-table-end
+part-ask-table-end c = search needs
 
 ask-table-requires : tie.Need-ask-table-requires
 ask-table-requires c κs = search needs
+
+clear-requires : tie.Need-clear-requires
+clear-requires c κs = search needs
 
 same-length : tie.Need-same-length
 same-length c = search needs
 
 returns-2 : tie.Need-returns-2
 returns-2 c =
-    let a = c .before .before .before .before .before .before .before .before .before .before .before .before .before .before .before .args in
+    let a = c .before .before .before .before .before .before .before .before .before .before .before .before .before .before .before .before .before .before .args in
     let g : Given = given (a .names .now) (a .name-at .now) (a .name-len .now) (a .rec-flags .now) (a .rec-class .now) (a .rec-at .now) (a .rec-len .now) (a .parents .now) in
-    asked-long g (a .q) (a .a) (a .b) (a .work .now) (c .before .before .before .before .before .if1 .left) _ (c .before .before .before .clear .ensures) (c .ask-table .result) (c .ask-table .ensures)
+    let d = c .before .before .clear in
+    let e : length (d .last .0) ≡ length (a .work .now) = search needs in
+    asked-long g (a .q) (a .a) (a .b) (a .work .now) (c .before .before .before .before .before .before .before .before .if1 .left) _ (d .ensures ∙ ap (λ (n : ℕ). replicate n 0) (sym (d .kept .0) ∙ e)) (c .before .before .before .before .before .before .ask-table .result) (c .before .before .before .before .before .before .ask-table .ensures)
 
 pub ask-spec : {M : Type 1} → statement M
-ask-spec = tie.close (tie.spec returns clear-requires ask-table-requires same-length returns-2)
+ask-spec = tie.close (tie.spec returns sub-ask-table part-ask-table-start part-ask-table-end ask-table-requires clear-requires same-length returns-2)
