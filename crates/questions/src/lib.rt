@@ -1,5 +1,5 @@
-// Questions over slices: the class table is built from its columns in local arrays, the two numbers are checked over its names, and the
-// question is put to the crate that answers it. The work that a caller lends holds nothing in between and is zero afterwards.
+// Questions over slices: the class table is built from its columns, its pairs in the work that a caller lends; the two numbers are checked
+// over its names, and the question is put to the crate that answers it. The work may come with any words, and is zero afterwards.
 use clearing::clear;
 use rows::Outcome;
 use sets::Set;
@@ -286,7 +286,7 @@ fn value_of(pairs: &[u64], marks: &[u64], t: Tables, q: Question, a: u64, b: u64
     }
 }
 
-// In two slices without entries.
+// In two slices, of which the marks are empty.
 fn ask_over(
     names: &[u8],
     name_at: &[u64],
@@ -334,42 +334,6 @@ fn ask_over(
     }
 }
 
-// In a slice of any words.
-fn ask_table(
-    names: &[u8],
-    name_at: &[u64],
-    name_len: &[u64],
-    rec_flags: &[u64],
-    rec_class: &[u64],
-    rec_at: &[u64],
-    rec_len: &[u64],
-    parents: &[u64],
-    q: Question,
-    a: u64,
-    b: u64,
-    pairs: &mut [u64],
-) -> Answer
-    requires { ⌜ length (now pairs) ≡ pairsRoom ⌝ }
-    ensures { λ r. ⌜ r ≡ tableAnswer (given (now (names .entry)) (now («name_at» .entry)) (now («name_len» .entry)) (now («rec_flags» .entry)) (now («rec_class» .entry)) (now («rec_at» .entry)) (now («rec_len» .entry)) (now (parents .entry))) q a b ⌝ }
-{
-    let mut marks = [0u64; MARKS];
-    ask_over(
-        names,
-        name_at,
-        name_len,
-        rec_flags,
-        rec_class,
-        rec_at,
-        rec_len,
-        parents,
-        q,
-        a,
-        b,
-        pairs,
-        &mut marks,
-    )
-}
-
 // The answer to a question about two classes, or two types.
 pub fn ask(
     names: &[u8],
@@ -393,7 +357,8 @@ pub fn ask(
             value: 0,
         };
     }
-    let answer = ask_table(
+    let mut marks = [0u64; MARKS];
+    let answer = ask_over(
         names,
         name_at,
         name_len,
@@ -406,6 +371,7 @@ pub fn ask(
         a,
         b,
         &mut work[0..PAIRS],
+        &mut marks,
     );
     clear(work);
     answer
@@ -435,7 +401,7 @@ fn none_gathered(code: u64) -> Ancestors
     }
 }
 
-// In two slices without entries.
+// In two slices, of which the marks are empty.
 fn ancestors_over(
     names: &[u8],
     name_at: &[u64],
@@ -473,38 +439,6 @@ fn ancestors_over(
     gather(hierarchy::ancestors(pairs, marks, o.tables, class))
 }
 
-// In a slice of any words.
-fn ancestors_in(
-    names: &[u8],
-    name_at: &[u64],
-    name_len: &[u64],
-    rec_flags: &[u64],
-    rec_class: &[u64],
-    rec_at: &[u64],
-    rec_len: &[u64],
-    parents: &[u64],
-    class: u64,
-    pairs: &mut [u64],
-) -> Ancestors
-    requires { ⌜ length (now pairs) ≡ pairsRoom ⌝ }
-    ensures { λ r. ⌜ r ≡ tableAncestors (given (now (names .entry)) (now («name_at» .entry)) (now («name_len» .entry)) (now («rec_flags» .entry)) (now («rec_class» .entry)) (now («rec_at» .entry)) (now («rec_len» .entry)) (now (parents .entry))) class ⌝ }
-{
-    let mut marks = [0u64; MARKS];
-    ancestors_over(
-        names,
-        name_at,
-        name_len,
-        rec_flags,
-        rec_class,
-        rec_at,
-        rec_len,
-        parents,
-        class,
-        pairs,
-        &mut marks,
-    )
-}
-
 // The ancestors of a class.
 pub fn ancestors_of(
     names: &[u8],
@@ -523,7 +457,8 @@ pub fn ancestors_of(
     if work.len() < ROOM {
         return none_gathered(22);
     }
-    let found = ancestors_in(
+    let mut marks = [0u64; MARKS];
+    let found = ancestors_over(
         names,
         name_at,
         name_len,
@@ -534,6 +469,7 @@ pub fn ancestors_of(
         parents,
         class,
         &mut work[0..PAIRS],
+        &mut marks,
     );
     clear(work);
     found

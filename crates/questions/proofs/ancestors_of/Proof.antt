@@ -17,17 +17,20 @@ returns c =
     let g : Given = given (a .names .now) (a .name-at .now) (a .name-len .now) (a .rec-flags .now) (a .rec-class .now) (a .rec-at .now) (a .rec-len .now) (a .parents .now) in
     gathers-short g (a .class) (a .work .now) (c .before .if1 .taken) (c .none-gathered .result) (c .none-gathered .ensures)
 
-sub-ancestors-in : tie.Need-sub-ancestors-in
-sub-ancestors-in c = search needs
+sub-ancestors-over : tie.Need-sub-ancestors-over
+sub-ancestors-over c = search needs
 
-part-ancestors-in-start : tie.Need-part-ancestors-in-start
-part-ancestors-in-start c = search needs
+part-ancestors-over-start : tie.Need-part-ancestors-over-start
+part-ancestors-over-start c = search needs
 
-part-ancestors-in-end : tie.Need-part-ancestors-in-end
-part-ancestors-in-end c = search needs
+part-ancestors-over-end : tie.Need-part-ancestors-over-end
+part-ancestors-over-end c = search needs
 
-ancestors-in-requires : tie.Need-ancestors-in-requires
-ancestors-in-requires c κs = search needs
+slice-aggregate-ancestors-over : tie.Need-slice-aggregate-ancestors-over
+slice-aggregate-ancestors-over c = search needs
+
+ancestors-over-requires : tie.Need-ancestors-over-requires
+ancestors-over-requires c κs = search needs
 
 clear-requires : tie.Need-clear-requires
 clear-requires c κs = search needs
@@ -37,11 +40,11 @@ same-length c = search needs
 
 returns-2 : tie.Need-returns-2
 returns-2 c =
-    let a = c .before .before .before .before .before .before .before .before .before .before .before .before .before .before .before .before .before .before .args in
+    let a = c .before .before .before .before .before .before .before .before .before .before .before .before .before .before .before .before .before .before .before .before .args in
     let g : Given = given (a .names .now) (a .name-at .now) (a .name-len .now) (a .rec-flags .now) (a .rec-class .now) (a .rec-at .now) (a .rec-len .now) (a .parents .now) in
     let d = c .before .before .clear in
     let e : length (d .last .0) ≡ length (a .work .now) = search needs in
-    gathers-long g (a .class) (a .work .now) (c .before .before .before .before .before .before .before .before .if1 .left) _ (d .ensures ∙ ap (λ (n : ℕ). replicate n 0) (sym (d .kept .0) ∙ e)) (c .before .before .before .before .before .before .ancestors-in .result) (c .before .before .before .before .before .before .ancestors-in .ensures)
+    gathers-long g (a .class) (a .work .now) (c .before .before .before .before .before .before .before .before .before .before .if1 .left) _ (d .ensures ∙ ap (λ (n : ℕ). replicate n 0) (sym (d .kept .0) ∙ e)) (c .before .before .before .before .before .before .before .ancestors-over .result) (c .before .before .before .before .before .before .before .ancestors-over .ensures)
 
 pub ancestors-of-spec : {M : Type 1} → statement M
 ancestors-of-spec =
@@ -49,10 +52,11 @@ ancestors-of-spec =
     (tie.spec
     none-gathered-requires
     returns
-    sub-ancestors-in
-    part-ancestors-in-start
-    part-ancestors-in-end
-    ancestors-in-requires
+    sub-ancestors-over
+    part-ancestors-over-start
+    part-ancestors-over-end
+    slice-aggregate-ancestors-over
+    ancestors-over-requires
     clear-requires
     same-length
     returns-2)

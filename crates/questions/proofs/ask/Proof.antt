@@ -14,17 +14,20 @@ returns c =
     let g : Given = given (a .names .now) (a .name-at .now) (a .name-len .now) (a .rec-flags .now) (a .rec-class .now) (a .rec-at .now) (a .rec-len .now) (a .parents .now) in
     asked-short g (a .q) (a .a) (a .b) (a .work .now) (c .if1 .taken)
 
-sub-ask-table : tie.Need-sub-ask-table
-sub-ask-table c = search needs
+sub-ask-over : tie.Need-sub-ask-over
+sub-ask-over c = search needs
 
-part-ask-table-start : tie.Need-part-ask-table-start
-part-ask-table-start c = search needs
+part-ask-over-start : tie.Need-part-ask-over-start
+part-ask-over-start c = search needs
 
-part-ask-table-end : tie.Need-part-ask-table-end
-part-ask-table-end c = search needs
+part-ask-over-end : tie.Need-part-ask-over-end
+part-ask-over-end c = search needs
 
-ask-table-requires : tie.Need-ask-table-requires
-ask-table-requires c κs = search needs
+slice-aggregate-ask-over : tie.Need-slice-aggregate-ask-over
+slice-aggregate-ask-over c = search needs
+
+ask-over-requires : tie.Need-ask-over-requires
+ask-over-requires c κs = search needs
 
 clear-requires : tie.Need-clear-requires
 clear-requires c κs = search needs
@@ -34,11 +37,11 @@ same-length c = search needs
 
 returns-2 : tie.Need-returns-2
 returns-2 c =
-    let a = c .before .before .before .before .before .before .before .before .before .before .before .before .before .before .before .before .before .before .args in
+    let a = c .before .before .before .before .before .before .before .before .before .before .before .before .before .before .before .before .before .before .before .before .args in
     let g : Given = given (a .names .now) (a .name-at .now) (a .name-len .now) (a .rec-flags .now) (a .rec-class .now) (a .rec-at .now) (a .rec-len .now) (a .parents .now) in
     let d = c .before .before .clear in
     let e : length (d .last .0) ≡ length (a .work .now) = search needs in
-    asked-long g (a .q) (a .a) (a .b) (a .work .now) (c .before .before .before .before .before .before .before .before .if1 .left) _ (d .ensures ∙ ap (λ (n : ℕ). replicate n 0) (sym (d .kept .0) ∙ e)) (c .before .before .before .before .before .before .ask-table .result) (c .before .before .before .before .before .before .ask-table .ensures)
+    asked-long g (a .q) (a .a) (a .b) (a .work .now) (c .before .before .before .before .before .before .before .before .before .before .if1 .left) _ (d .ensures ∙ ap (λ (n : ℕ). replicate n 0) (sym (d .kept .0) ∙ e)) (c .before .before .before .before .before .before .before .ask-over .result) (c .before .before .before .before .before .before .before .ask-over .ensures)
 
 pub ask-spec : {M : Type 1} → statement M
-ask-spec = tie.close (tie.spec returns sub-ask-table part-ask-table-start part-ask-table-end ask-table-requires clear-requires same-length returns-2)
+ask-spec = tie.close (tie.spec returns sub-ask-over part-ask-over-start part-ask-over-end slice-aggregate-ask-over ask-over-requires clear-requires same-length returns-2)
