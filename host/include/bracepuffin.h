@@ -30,13 +30,13 @@
  *     bp_write_method           1
  *     bp_lookup                 1
  *     bp_check_table          162
- *     bp_relation             163
- *     bp_distance             163
- *     bp_ancestors            163
- *     bp_supertype            166
- *     bp_cast                 163
- *     bp_join                 219
- *     bp_assignable           163
+ *     bp_relation             131
+ *     bp_distance             131
+ *     bp_ancestors            131
+ *     bp_supertype            134
+ *     bp_cast                 131
+ *     bp_join                 187
+ *     bp_assignable           131
  *     bp_solve                578
  * stack: end
  *
