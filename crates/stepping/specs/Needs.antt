@@ -14,6 +14,10 @@ use Rattle.solveframe.specs.Parts.{part, problemRoom}
 use Rattle.stepping.specs.Stepping.{Stands, Headed}
 use Rattle.stepping.specs.Asks.{Passed, head-says, sized-1, sized-2, sized-two, sized-5, sized-pair, name-asks, record-asks, variable-asks, bound-asks, flow-asks, upper-asks, read-asks, write-asks}
 
+-- two numbers that are written out: a subtraction compares them at once
+pub below : {a b : ℕ} → a - b ≡ 0 → a ≤ b
+below {a} {b} e = omega arith
+
 -- a place up to which the rows are there
 pub inside : (e : ℕ) (rows : List ℕ) → length rows ≡ problemRoom → e ≤ problemRoom → e ≤ length rows
 inside e rows l h = subst (λ (k : ℕ). e ≤ k) (sym l) h

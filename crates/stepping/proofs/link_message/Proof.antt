@@ -1,19 +1,19 @@
 -- `link_message` meets its contract: the frame of a flow, an upper flow, a read or a write is the step of its message.
 use borrow.Rule.Slice.PartMut.{same-len-mid}
-use lib.Dec.{lit≤}
-use Rattle.stepping.specs.Needs.{inside, is-9, flow-needs, upper-needs, read-needs, write-needs}
+use mathlib.Core.Path.{refl}
+use Rattle.stepping.specs.Needs.{below, inside, is-9, flow-needs, upper-needs, read-needs, write-needs}
 use Rattle.stepping.specs.Kinds.{flow-step, upper-step, read-step, write-step}
 use Rattle.stepping.proofs.link_message.Statement.{statement}
 use Rattle.stepping.proofs.link_message.Tie as tie
 
 sub-flow-frame : tie.Need-sub-flow-frame
-sub-flow-frame c = lit≤ tt
+sub-flow-frame c = below refl
 
 part-flow-frame-start : tie.Need-part-flow-frame-start
-part-flow-frame-start c = lit≤ tt
+part-flow-frame-start c = below refl
 
 part-flow-frame-end : tie.Need-part-flow-frame-end
-part-flow-frame-end c = inside _ (c .before .before .before .before .before .before .args .rows .now) (c .before .before .before .before .before .before .pre .0 .all-rows) (lit≤ tt)
+part-flow-frame-end c = inside _ (c .before .before .before .before .before .before .args .rows .now) (c .before .before .before .before .before .before .pre .0 .all-rows) (below refl)
 
 flow-frame-requires : tie.Need-flow-frame-requires
 flow-frame-requires c κs = flow-needs (c .before .before .before .before .before .before .before .args .kind) (c .before .before .before .before .before .before .before .args .body .now) (c .before .before .before .before .before .before .before .args .last .now) (c .before .before .before .before .before .before .before .args .pairs .now) (c .before .before .before .before .before .before .before .args .marks .now) (c .before .before .before .before .before .before .before .args .rows .now) (c .before .before .before .before .before .before .before .args .n) (c .before .before .before .before .before .before .before .pre .0) (c .before .before .before .before .before .before .before .pre .1) (c .before .if1 .taken)
@@ -25,13 +25,13 @@ returns : tie.Need-returns
 returns c = flow-step (c .before .before .before .before .before .before .before .before .before .before .args .kind) (c .before .before .before .before .before .before .before .before .before .before .args .body .now) (c .before .before .before .before .before .before .before .before .before .before .args .last .now) (c .before .before .before .before .before .before .before .before .before .before .args .pairs .now) (c .before .before .before .before .before .before .before .before .before .before .args .marks .now) (c .before .before .before .before .before .before .before .before .before .before .args .rows .now) (c .before .before .before .before .before .before .before .before .before .before .args .n) (c .before .before .before .before .before .before .before .before .before .before .pre .0) _ _ (c .before .before .before .before .if1 .taken) (c .before .before .flow-frame .ensures) (c .before .before .flow-frame .kept .1 .0)
 
 sub-upper-frame : tie.Need-sub-upper-frame
-sub-upper-frame c = lit≤ tt
+sub-upper-frame c = below refl
 
 part-upper-frame-start : tie.Need-part-upper-frame-start
-part-upper-frame-start c = lit≤ tt
+part-upper-frame-start c = below refl
 
 part-upper-frame-end : tie.Need-part-upper-frame-end
-part-upper-frame-end c = inside _ (c .before .before .before .before .before .before .before .args .rows .now) (c .before .before .before .before .before .before .before .pre .0 .all-rows) (lit≤ tt)
+part-upper-frame-end c = inside _ (c .before .before .before .before .before .before .before .args .rows .now) (c .before .before .before .before .before .before .before .pre .0 .all-rows) (below refl)
 
 upper-frame-requires : tie.Need-upper-frame-requires
 upper-frame-requires c κs = upper-needs (c .before .before .before .before .before .before .before .before .args .kind) (c .before .before .before .before .before .before .before .before .args .body .now) (c .before .before .before .before .before .before .before .before .args .last .now) (c .before .before .before .before .before .before .before .before .args .pairs .now) (c .before .before .before .before .before .before .before .before .args .marks .now) (c .before .before .before .before .before .before .before .before .args .rows .now) (c .before .before .before .before .before .before .before .before .args .n) (c .before .before .before .before .before .before .before .before .pre .0) (c .before .before .before .before .before .before .before .before .pre .1) (c .before .if2 .taken)
@@ -43,13 +43,13 @@ returns-2 : tie.Need-returns-2
 returns-2 c = upper-step (c .before .before .before .before .before .before .before .before .before .before .before .args .kind) (c .before .before .before .before .before .before .before .before .before .before .before .args .body .now) (c .before .before .before .before .before .before .before .before .before .before .before .args .last .now) (c .before .before .before .before .before .before .before .before .before .before .before .args .pairs .now) (c .before .before .before .before .before .before .before .before .before .before .before .args .marks .now) (c .before .before .before .before .before .before .before .before .before .before .before .args .rows .now) (c .before .before .before .before .before .before .before .before .before .before .before .args .n) (c .before .before .before .before .before .before .before .before .before .before .before .pre .0) _ _ (c .before .before .before .before .if2 .taken) (c .before .before .upper-frame .ensures) (c .before .before .upper-frame .kept .1 .0)
 
 sub-read-frame : tie.Need-sub-read-frame
-sub-read-frame c = lit≤ tt
+sub-read-frame c = below refl
 
 part-read-frame-start : tie.Need-part-read-frame-start
-part-read-frame-start c = lit≤ tt
+part-read-frame-start c = below refl
 
 part-read-frame-end : tie.Need-part-read-frame-end
-part-read-frame-end c = inside _ (c .before .before .before .before .before .before .before .before .args .rows .now) (c .before .before .before .before .before .before .before .before .pre .0 .all-rows) (lit≤ tt)
+part-read-frame-end c = inside _ (c .before .before .before .before .before .before .before .before .args .rows .now) (c .before .before .before .before .before .before .before .before .pre .0 .all-rows) (below refl)
 
 read-frame-requires : tie.Need-read-frame-requires
 read-frame-requires c κs = read-needs (c .before .before .before .before .before .before .before .before .before .args .kind) (c .before .before .before .before .before .before .before .before .before .args .body .now) (c .before .before .before .before .before .before .before .before .before .args .last .now) (c .before .before .before .before .before .before .before .before .before .args .pairs .now) (c .before .before .before .before .before .before .before .before .before .args .marks .now) (c .before .before .before .before .before .before .before .before .before .args .rows .now) (c .before .before .before .before .before .before .before .before .before .args .n) (c .before .before .before .before .before .before .before .before .before .pre .0) (c .before .before .before .before .before .before .before .before .before .pre .1) (c .before .if3 .taken)
@@ -61,13 +61,13 @@ returns-3 : tie.Need-returns-3
 returns-3 c = read-step (c .before .before .before .before .before .before .before .before .before .before .before .before .args .kind) (c .before .before .before .before .before .before .before .before .before .before .before .before .args .body .now) (c .before .before .before .before .before .before .before .before .before .before .before .before .args .last .now) (c .before .before .before .before .before .before .before .before .before .before .before .before .args .pairs .now) (c .before .before .before .before .before .before .before .before .before .before .before .before .args .marks .now) (c .before .before .before .before .before .before .before .before .before .before .before .before .args .rows .now) (c .before .before .before .before .before .before .before .before .before .before .before .before .args .n) (c .before .before .before .before .before .before .before .before .before .before .before .before .pre .0) _ _ (c .before .before .before .before .if3 .taken) (c .before .before .read-frame .ensures) (c .before .before .read-frame .kept .1 .0)
 
 sub-write-frame : tie.Need-sub-write-frame
-sub-write-frame c = lit≤ tt
+sub-write-frame c = below refl
 
 part-write-frame-start : tie.Need-part-write-frame-start
-part-write-frame-start c = lit≤ tt
+part-write-frame-start c = below refl
 
 part-write-frame-end : tie.Need-part-write-frame-end
-part-write-frame-end c = inside _ (c .before .before .before .before .before .before .before .before .args .rows .now) (c .before .before .before .before .before .before .before .before .pre .0 .all-rows) (lit≤ tt)
+part-write-frame-end c = inside _ (c .before .before .before .before .before .before .before .before .args .rows .now) (c .before .before .before .before .before .before .before .before .pre .0 .all-rows) (below refl)
 
 write-frame-requires : tie.Need-write-frame-requires
 write-frame-requires c κs = write-needs (c .before .before .before .before .before .before .before .before .before .args .kind) (c .before .before .before .before .before .before .before .before .before .args .body .now) (c .before .before .before .before .before .before .before .before .before .args .last .now) (c .before .before .before .before .before .before .before .before .before .args .pairs .now) (c .before .before .before .before .before .before .before .before .before .args .marks .now) (c .before .before .before .before .before .before .before .before .before .args .rows .now) (c .before .before .before .before .before .before .before .before .before .args .n) (c .before .before .before .before .before .before .before .before .before .pre .0) (c .before .before .before .before .before .before .before .before .before .pre .1) (is-9 (c .before .before .before .before .before .before .before .before .before .args .kind) (c .before .before .before .before .before .before .before .before .before .pre .2) (c .before .before .before .before .before .before .before .before .before .pre .3) (c .before .before .before .if1 .left) (c .before .before .if2 .left) (c .before .if3 .left))
