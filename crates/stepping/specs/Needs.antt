@@ -1,5 +1,5 @@
 -- WHAT THE FRAME OF A KIND ASKS FOR, from a state that lines lead to and a head that is not refused.
-use mathlib.Core.Path.{_≡_, refl, sym, ap, _∙_}
+use mathlib.Core.Path.{_≡_, refl, sym, ap, subst, _∙_}
 use mathlib.Core.Bool.{true}
 use mathlib.Core.List.{List}
 use mathlib.Core.Logic.{_⊎_, inl, inr}
@@ -10,9 +10,17 @@ use Rattle.sorted.specs.Sorted.{Sorted}
 use Rattle.tables.specs.Table.{namesRoom, pairsRoom, marksRoom}
 use Rattle.frames.specs.Frames.{goodLength}
 use Rattle.framestate.specs.declared.Numbers.{Numbers}
-use Rattle.solveframe.specs.Parts.{part}
+use Rattle.solveframe.specs.Parts.{part, problemRoom}
 use Rattle.stepping.specs.Stepping.{Stands, Headed}
 use Rattle.stepping.specs.Asks.{Passed, head-says, sized-1, sized-2, sized-two, sized-5, sized-pair, name-asks, record-asks, variable-asks, bound-asks, flow-asks, upper-asks, read-asks, write-asks}
+
+-- two numbers that are written out: a subtraction compares them at once
+pub below : {a b : ℕ} → a - b ≡ 0 → a ≤ b
+below {a} {b} e = omega arith
+
+-- a place up to which the rows are there
+pub inside : (e : ℕ) (rows : List ℕ) → length rows ≡ problemRoom → e ≤ problemRoom → e ≤ length rows
+inside e rows l h = subst (λ (k : ℕ). e ≤ k) (sym l) h
 
 -- ---- the last of some kinds, where the others were tested for
 

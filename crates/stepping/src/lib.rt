@@ -141,26 +141,6 @@ fn later_message(
     question_message(kind, body, last, pairs, marks, rows, n)
 }
 
-// A message that its head let through.
-fn message(
-    kind: u64,
-    body: &[u8],
-    last: &mut [u8],
-    pairs: &mut [u64],
-    marks: &mut [u64],
-    rows: &mut [u64],
-    answers: &mut [u64],
-    n: Numbers,
-) -> Framed
-    requires { ⌜ Stands (now last) (now pairs) (now marks) (now rows) n × (length (now answers) ≡ 2048) × Headed kind (now body) n × BytesIn (now body) ⌝ }
-    ensures { λ r. ⌜ Leaves (stepOf kind (now (body .entry)) (storeOf (slicesOf (now (last .entry)) (now (pairs .entry)) (now (marks .entry)) (now (rows .entry))) n)) (slicesOf (now (last .entry)) (now (pairs .entry)) (now (marks .entry)) (now (rows .entry))) (slicesOf (now (last .exit)) (now (pairs .exit)) (now (marks .exit)) (now (rows .exit))) (now (answers .entry)) (now (answers .exit)) r ⌝ }
-{
-    if kind <= 2 {
-        return class_message(kind, body, last, pairs, marks, rows, n);
-    }
-    later_message(kind, body, last, pairs, marks, rows, answers, n)
-}
-
 // A frame of at least one byte: its head, its message.
 fn frame_bytes(
     bytes: &[u8],
@@ -179,7 +159,11 @@ fn frame_bytes(
     if refusal != 0 {
         return refuse(n, refusal);
     }
-    message(kind, &bytes[1..], last, pairs, marks, rows, answers, n)
+    let body = &bytes[1..];
+    if kind <= 2 {
+        return class_message(kind, body, last, pairs, marks, rows, n);
+    }
+    later_message(kind, body, last, pairs, marks, rows, answers, n)
 }
 
 // ONE LINE.

@@ -5,6 +5,8 @@ use mathlib.Core.List.{List, [], map}
 use Prim.Native.Nat.{ℕ, _+_, _-_, _*_, _^_, _≤_, _<_}
 use native.Mathlib.Omega.{arith}
 use lib.ListN.{length, replicate, set, length-replicate, length-set}
+use mir.Syntax.{w64}
+use mir.Val.{Fits}
 use Rattle.tables.specs.declared.Tables.{Tables}
 use Rattle.framestate.specs.declared.Numbers.{Numbers}
 use Rattle.tables.specs.Table.{pairsRoom, marksRoom}
@@ -98,6 +100,10 @@ appended used m line line′ a b c d = omega arith
 
 pub feed-less : (n i e : ℕ) → i < n → i ≤ e → e ≤ n → n + 1 - (e + 1) < n + 1 - i
 feed-less n i e a b c = omega arith
+
+-- the place after a line's end is a number
+pub next-fits : (n e : ℕ) → e ≤ n → n < 2 ^ 63 → Fits w64 (e + 1)
+next-fits n e a b = record { fits = omega arith }
 
 pub feed-more : (n e : ℕ) → e ≤ n → e + 1 ≤ n + 1
 feed-more n e a = omega arith

@@ -1,5 +1,4 @@
 -- `class_message` meets its contract: the frame of a name or of a record is the step of its message.
-use borrow.Author.Needs.{needs}
 use Rattle.stepping.specs.Needs.{is-2, passes, name-needs, record-needs}
 use Rattle.stepping.specs.Kinds.{name-step, record-step}
 use Rattle.stepping.proofs.class_message.Statement.{statement}
@@ -9,7 +8,7 @@ name-frame-requires : tie.Need-name-frame-requires
 name-frame-requires c κs = name-needs (c .before .before .before .before .before .before .before .args .kind) (c .before .before .before .before .before .before .before .args .body .now) (c .before .before .before .before .before .before .before .args .last .now) (c .before .before .before .before .before .before .before .args .pairs .now) (c .before .before .before .before .before .before .before .args .marks .now) (c .before .before .before .before .before .before .before .args .rows .now) (c .before .before .before .before .before .before .before .args .n) (c .before .before .before .before .before .before .before .pre .0) (c .before .before .before .before .before .before .before .pre .1) (c .before .if1 .taken)
 
 same-length : tie.Need-same-length
-same-length c = search needs
+same-length c = c .before .before .name-frame .kept .1 .0
 
 returns : tie.Need-returns
 returns c = name-step (c .before .before .before .before .before .before .before .before .before .before .args .kind) (c .before .before .before .before .before .before .before .before .before .before .args .body .now) (c .before .before .before .before .before .before .before .before .before .before .args .last .now) (c .before .before .before .before .before .before .before .before .before .before .args .pairs .now) (c .before .before .before .before .before .before .before .before .before .before .args .marks .now) (c .before .before .before .before .before .before .before .before .before .before .args .rows .now) (c .before .before .before .before .before .before .before .before .before .before .args .n) (c .before .before .before .before .before .before .before .before .before .before .pre .0) _ _ (c .before .before .before .before .if1 .taken) (c .before .before .name-frame .ensures)
@@ -18,10 +17,10 @@ record-frame-requires : tie.Need-record-frame-requires
 record-frame-requires c κs = record-needs (c .before .before .before .before .before .before .before .before .args .kind) (c .before .before .before .before .before .before .before .before .args .body .now) (c .before .before .before .before .before .before .before .before .args .last .now) (c .before .before .before .before .before .before .before .before .args .pairs .now) (c .before .before .before .before .before .before .before .before .args .marks .now) (c .before .before .before .before .before .before .before .before .args .rows .now) (c .before .before .before .before .before .before .before .before .args .n) (c .before .before .before .before .before .before .before .before .pre .0) (c .before .before .before .before .before .before .before .before .pre .1) (is-2 (c .before .before .before .before .before .before .before .before .args .kind) (passes (c .before .before .before .before .before .before .before .before .args .kind) (c .before .before .before .before .before .before .before .before .args .body .now) (c .before .before .before .before .before .before .before .before .args .last .now) (c .before .before .before .before .before .before .before .before .args .pairs .now) (c .before .before .before .before .before .before .before .before .args .marks .now) (c .before .before .before .before .before .before .before .before .args .rows .now) (c .before .before .before .before .before .before .before .before .args .n) (c .before .before .before .before .before .before .before .before .pre .0) (c .before .before .before .before .before .before .before .before .pre .1) .from) (c .before .before .before .before .before .before .before .before .pre .2) (c .before .before .if1 .left))
 
 same-length-2 : tie.Need-same-length-2
-same-length-2 c = search needs
+same-length-2 c = c .before .before .before .before .record-frame .kept .1 .0
 
 same-length-3 : tie.Need-same-length-3
-same-length-3 c = search needs
+same-length-3 c = c .before .before .before .before .record-frame .kept .1 .1 .0
 
 returns-2 : tie.Need-returns-2
 returns-2 c = record-step (c .before .before .before .before .before .before .before .before .before .before .before .before .before .args .kind) (c .before .before .before .before .before .before .before .before .before .before .before .before .before .args .body .now) (c .before .before .before .before .before .before .before .before .before .before .before .before .before .args .last .now) (c .before .before .before .before .before .before .before .before .before .before .before .before .before .args .pairs .now) (c .before .before .before .before .before .before .before .before .before .before .before .before .before .args .marks .now) (c .before .before .before .before .before .before .before .before .before .before .before .before .before .args .rows .now) (c .before .before .before .before .before .before .before .before .before .before .before .before .before .args .n) (c .before .before .before .before .before .before .before .before .before .before .before .before .before .pre .0) _ _ _ (is-2 (c .before .before .before .before .before .before .before .before .before .before .before .before .before .args .kind) (passes (c .before .before .before .before .before .before .before .before .before .before .before .before .before .args .kind) (c .before .before .before .before .before .before .before .before .before .before .before .before .before .args .body .now) (c .before .before .before .before .before .before .before .before .before .before .before .before .before .args .last .now) (c .before .before .before .before .before .before .before .before .before .before .before .before .before .args .pairs .now) (c .before .before .before .before .before .before .before .before .before .before .before .before .before .args .marks .now) (c .before .before .before .before .before .before .before .before .before .before .before .before .before .args .rows .now) (c .before .before .before .before .before .before .before .before .before .before .before .before .before .args .n) (c .before .before .before .before .before .before .before .before .before .before .before .before .before .pre .0) (c .before .before .before .before .before .before .before .before .before .before .before .before .before .pre .1) .from) (c .before .before .before .before .before .before .before .before .before .before .before .before .before .pre .2) (c .before .before .before .before .before .before .before .if1 .left)) (c .before .before .before .before .record-frame .ensures)

@@ -1,5 +1,5 @@
 -- `piece` meets its contract: a whole line is answered, another waits.
-use borrow.Author.Needs.{needs}
+use Prim.Native.Nat.{zero-le}
 use mathlib.Core.Path.{refl}
 use Rattle.typeline.specs.Held.{holds-same, line-room, none-used, appended}
 use Rattle.typeline.proofs.piece.Statement.{statement}
@@ -9,10 +9,10 @@ append-requires : tie.Need-append-requires
 append-requires c κs = line-room (c .before .before .before .before .before .before .before .before .before .args .s .used) (c .before .before .before .before .before .before .before .before .before .args .line .now) (c .before .before .before .before .before .before .before .before .before .pre .2) (c .before .before .before .before .before .before .before .before .before .pre .1)
 
 sub-whole : tie.Need-sub-whole
-sub-whole c = search needs
+sub-whole c = zero-le
 
 part-whole-start : tie.Need-part-whole-start
-part-whole-start c = search needs
+part-whole-start c = zero-le
 
 part-whole-end : tie.Need-part-whole-end
 part-whole-end c = c .before .before .before .before .append .ensures
@@ -24,22 +24,22 @@ same-length : tie.Need-same-length
 same-length c = c .before .before .before .before .before .before .before .before .before .before .before .before .before .before .before .before .before .before .before .before .before .before .before .before .append .kept .0
 
 same-length-2 : tie.Need-same-length-2
-same-length-2 c = search needs
+same-length-2 c = c .before .before .before .before .before .before .before .before .before .before .before .before .whole .kept .1 .1 .0
 
 same-length-3 : tie.Need-same-length-3
-same-length-3 c = search needs
+same-length-3 c = c .before .before .before .before .before .before .before .before .before .before .before .before .whole .kept .1 .1 .1 .0
 
 same-length-4 : tie.Need-same-length-4
-same-length-4 c = search needs
+same-length-4 c = c .before .before .before .before .before .before .before .before .before .before .before .before .whole .kept .1 .1 .1 .1 .0
 
 same-length-5 : tie.Need-same-length-5
-same-length-5 c = search needs
+same-length-5 c = c .before .before .before .before .before .before .before .before .before .before .before .before .whole .kept .1 .1 .1 .1 .1 .0
 
 same-length-6 : tie.Need-same-length-6
-same-length-6 c = search needs
+same-length-6 c = c .before .before .before .before .before .before .before .before .before .before .before .before .whole .kept .1 .1 .1 .1 .1 .1 .0
 
 same-length-7 : tie.Need-same-length-7
-same-length-7 c = search needs
+same-length-7 c = c .before .before .before .before .before .before .before .before .before .before .before .before .whole .kept .1 .1 .1 .1 .1 .1 .1 .0
 
 returns : tie.Need-returns
 returns c = let w = c .before .before .before .before .before .before .before .before .before .before .before .before .whole .ensures in (w .0, none-used _ (w .1))
