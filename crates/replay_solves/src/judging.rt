@@ -3,19 +3,11 @@ use crate::calling;
 use crate::cutting;
 use crate::cutting::ANSWERS;
 use crate::cutting::BOUNDS;
-use crate::cutting::Bounds;
-use crate::cutting::Links;
-use crate::cutting::MOST;
-use crate::cutting::Room;
-use crate::cutting::Table;
 use crate::cutting::WORK;
 use bracepuffin::BpSolved;
 use replaying::answers;
 use replaying::answers::Verdict;
 use replaying::lists;
-ghost use Prim.Native.Nat.{_≤_};
-ghost use lib.ListN.{length};
-ghost use Rattle.replay_solves.specs.Places.{TableIn, BoundsIn, LinksIn, RoomIn, LentIn};
 
 const PATTERN: u64 = 0xa5a5a5a5a5a5a5a5;
 
@@ -107,93 +99,29 @@ fn judge(
     Verdict::Differs
 }
 
-// The verdict on a solve into slices that are full of the pattern.
-fn into(
-    t: &[u64],
-    store: &[u8],
-    q: &[u64],
-    r: &[u64],
-    c: Table,
-    b: Bounds,
-    l: Links,
-    m: Room,
-    answers: &mut [u64],
-    out_comp: &mut [u64],
-    out_kind: &mut [u64],
-    out_type: &mut [u64],
-    work: &mut [u64],
-) -> Verdict
-    requires { ⌜ TableIn c (length (now store)) (length (now t)) × BoundsIn b (length (now q)) × LinksIn l (length (now q)) × RoomIn m × LentIn (now answers) (now «out_comp») (now «out_kind») (now «out_type») (now work) ⌝ }
-{
-    let s = calling::solve(
-        t,
-        store,
-        q,
-        c,
-        b,
-        l,
-        m,
-        answers,
-        out_comp,
-        out_kind,
-        out_type,
-        work,
-    );
-    if is_work(work, m.work, s.refusal) {
-        return judge(s, r, answers, out_comp, out_kind, out_type);
+// The verdict on a problem over a table: five lengths of lent slices, the problem, and what was recorded.
+pub(crate) fn over(t: &[u64], store: &[u8], q: &[u64], r: &[u64]) -> Verdict {
+    if !cutting::is_table(t, store.len()) || !cutting::is_problem(q) {
+        return Verdict::Unread;
     }
-    Verdict::Differs
-}
-
-// The same in local arrays.
-fn afresh(
-    t: &[u64],
-    store: &[u8],
-    q: &[u64],
-    r: &[u64],
-    c: Table,
-    b: Bounds,
-    l: Links,
-    m: Room,
-) -> Verdict
-    requires { ⌜ TableIn c (length (now store)) (length (now t)) × BoundsIn b (length (now q)) × LinksIn l (length (now q)) × RoomIn m ⌝ }
-{
     let mut answers = [PATTERN; ANSWERS];
     let mut out_comp = [PATTERN; BOUNDS];
     let mut out_kind = [PATTERN; BOUNDS];
     let mut out_type = [PATTERN; BOUNDS];
     let mut work = [PATTERN; WORK];
-    into(
+    let s = calling::solve(
         t,
         store,
         q,
-        r,
-        c,
-        b,
-        l,
-        m,
         &mut answers,
         &mut out_comp,
         &mut out_kind,
         &mut out_type,
         &mut work,
-    )
-}
-
-// The verdict on a problem over a table: five lengths of lent slices, the problem, and what was recorded.
-pub(crate) fn over(t: &[u64], store: &[u8], q: &[u64], r: &[u64]) -> Verdict {
-    if MOST < t.len() || MOST < q.len() {
-        return Verdict::Unread;
+    );
+    let room = cutting::room(q, 4, WORK);
+    if is_work(&work, room, s.refusal) {
+        return judge(s, r, &answers, &out_comp, &out_kind, &out_type);
     }
-    let c = cutting::table_of(t, store.len());
-    let b = cutting::bounds_of(q);
-    let l = cutting::links_of(q, b);
-    let m = cutting::room_of(q);
-    if !cutting::is_table(t, c) {
-        return Verdict::Unread;
-    }
-    if !cutting::is_problem(q, l, m) {
-        return Verdict::Unread;
-    }
-    afresh(t, store, q, r, c, b, l, m)
+    Verdict::Differs
 }
