@@ -1,84 +1,68 @@
-// A table among numbers, and where each of its lists stands: how many working words are lent, the bytes that names are cut from (where they begin
-// and end in the store), and eight lists: name_at, name_len; types; rec_flags, rec_class, rec_at, rec_len; parents. Places go from function to
-// function in a struct: the slices are cut where they are handed to the boundary.
+// A table among numbers, and the lists in it: how many working words are lent, the bytes that names are cut from (where they begin and end in the
+// store), and eight lists: name_at, name_len; types; rec_flags, rec_class, rec_at, rec_len; parents. A list is handed out as the part of the slice
+// that it is.
 use replaying::lists;
 use replaying::lists::Span;
-ghost use Prim.Native.Nat.{_≤_};
 ghost use lib.ListN.{length};
 ghost use Rattle.replaying.specs.Replaying.{Inside};
-ghost use Rattle.replay_queries.specs.Places.{TableIn};
 
-// No table has more numbers.
-pub(crate) const MOST: usize = 2048;
-
-// The bytes of the names in the store, and the lists.
-pub(crate) struct Table {
-    pub(crate) bytes: Span,
-    pub(crate) at: Span,
-    pub(crate) len: Span,
-    pub(crate) types: Span,
-    pub(crate) flags: Span,
-    pub(crate) class: Span,
-    pub(crate) first: Span,
-    pub(crate) count: Span,
-    pub(crate) parents: Span,
+// Where the members of list k of those that begin at `from` stand; both 0 where it is not whole, or one before it.
+fn place(a: &[u64], from: usize, k: usize) -> Span
+    ensures { λ r. ⌜ Inside r (length (now (a .entry))) ⌝ }
+{
+    let mut s = lists::after(
+        a,
+        Span {
+            start: from,
+            end: from,
+        },
+    );
+    let mut i: usize = 0;
+    while i < k {
+        s = lists::after(a, s);
+        i += 1;
+    }
+    s
 }
 
-// The bytes between the second and the third number of a table; none where they do not stand so in the store.
-fn names_of(t: &[u64], store: usize) -> Span
-    ensures { λ r. ⌜ Inside r store ⌝ }
-{
-    if t.len() < 3 {
-        return Span { start: 0, end: 0 };
-    }
-    let start = t[1] as usize;
-    let end = t[2] as usize;
-    if end < start {
-        return Span { start: 0, end: 0 };
-    }
-    if store < end {
-        return Span { start: 0, end: 0 };
-    }
-    Span { start, end }
-}
-
-pub(crate) fn table_of(t: &[u64], store: usize) -> Table
-    requires { ⌜ length (now t) ≤ 2048 ⌝ }
-    ensures { λ r. ⌜ TableIn r store (length (now (t .entry))) ⌝ }
-{
-    let at = lists::after(t, Span { start: 3, end: 3 });
-    let len = lists::after(t, at);
-    let types = lists::after(t, len);
-    let flags = lists::after(t, types);
-    let class = lists::after(t, flags);
-    let first = lists::after(t, class);
-    let count = lists::after(t, first);
-    let parents = lists::after(t, count);
-    Table {
-        bytes: names_of(t, store),
-        at,
-        len,
-        types,
-        flags,
-        class,
-        first,
-        count,
-        parents,
-    }
+// The list itself; no member where it is not whole.
+pub(crate) fn list<'a>(a: &'a [u64], from: usize, k: usize) -> &'a [u64] {
+    let s = place(a, from, k);
+    let start = s.start;
+    let end = s.end;
+    &a[start..end]
 }
 
 // The number at a place, 0 past the end.
-pub(crate) fn number_at(t: &[u64], i: usize) -> u64 {
-    if i < t.len() {
-        return t[i];
+pub(crate) fn number_at(q: &[u64], i: usize) -> u64 {
+    if i < q.len() {
+        return q[i];
     }
     0
 }
 
-// Whether the places are those that the numbers say, up to the last number.
-pub(crate) fn is_table(t: &[u64], c: Table) -> bool {
-    if c.parents.start == 0 || c.parents.end != t.len() {
-        return false;
+// The bytes between the second and the third number of a table; none where they do not stand so in the store.
+pub(crate) fn names<'a>(t: &[u64], store: &'a [u8]) -> &'a [u8] {
+    let start = number_at(t, 1) as usize;
+    let end = number_at(t, 2) as usize;
+    if end < start {
+        return &store[0..0];
     }
-    c.bytes.start == number_at(t, 1) as usize && c.bytes.end == number_at(t, 2) as usize
+    if store.len() < end {
+        return &store[0..0];
+    }
+    &store[start..end]
+}
+
+// Whether list k is whole and ends with the last number.
+fn is_last(a: &[u64], from: usize, k: usize) -> bool {
+    let s = place(a, from, k);
+    s.start != 0 && s.end == a.len()
+}
+
+// Whether the lists and the bytes of a table are those that its numbers say, up to the last number.
+pub(crate) fn is_table(t: &[u64], store: usize) -> bool {
+    let start = number_at(t, 1) as usize;
+    let end = number_at(t, 2) as usize;
+    start <= end && end <= store && is_last(t, 3, 7)
 }

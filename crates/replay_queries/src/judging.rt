@@ -1,15 +1,11 @@
 // What is said over a table of eight columns, beside the answers recorded.
 use crate::asking;
 use crate::cutting;
-use crate::cutting::MOST;
-use crate::cutting::Table;
 use bracepuffin::BpSet;
 use bracepuffin::BpTable;
 use replaying::answers;
 use replaying::answers::Verdict;
 use replaying::lists;
-ghost use lib.ListN.{length};
-ghost use Rattle.replay_queries.specs.Places.{TableIn};
 
 // The question whose answer stands at index i of a line's answers: a pair has four, one after the other, a table is asked for
 // a join.
@@ -23,22 +19,19 @@ fn question(place: usize, i: usize) -> usize {
 }
 
 // The number that x is put beside there.
-fn other(place: usize, types: &[u64], y: u64, i: usize) -> u64 {
+fn other(place: usize, t: &[u64], y: u64, i: usize) -> u64 {
     if place < 2 {
         return y;
     }
-    if i < types.len() {
-        return types[i];
-    }
-    0
+    cutting::number_at(cutting::list(t, 3, 2), i)
 }
 
 // How many answers there are.
-fn count(place: usize, types: &[u64]) -> usize {
+fn count(place: usize, t: &[u64]) -> usize {
     match place {
         0 => 1,
         1 => 4,
-        _ => types.len(),
+        _ => cutting::list(t, 3, 2).len(),
     }
 }
 
@@ -47,19 +40,15 @@ fn are_said(
     place: usize,
     t: &[u64],
     store: &[u8],
-    c: Table,
-    types: &[u64],
     x: u64,
     y: u64,
     r: &[u64],
     work: &mut [u64],
-) -> bool
-    requires { ⌜ TableIn c (length (now store)) (length (now t)) ⌝ }
-{
+) -> bool {
     if r.len() == 0 {
         return false;
     }
-    if r.len() - 1 != count(place, types) {
+    if r.len() - 1 != count(place, t) {
         return false;
     }
     let refusal = r[0];
@@ -67,15 +56,7 @@ fn are_said(
     while next < r.len() {
         let recorded = r[next];
         let i = next - 1;
-        let said = asking::ask(
-            question(place, i),
-            t,
-            store,
-            c,
-            x,
-            other(place, types, y, i),
-            work,
-        );
+        let said = asking::ask(question(place, i), t, store, x, other(place, t, y, i), work);
         if said.refusal != refusal || said.value != recorded {
             return false;
         }
@@ -91,19 +72,12 @@ fn are_words(words: &[u64], list: &[u64]) -> bool {
     }
     let mut i: usize = 0;
     while i < words.len() {
-        if words[i] != word_at(list, i) {
+        if words[i] != cutting::number_at(list, i) {
             return false;
         }
         i += 1;
     }
     true
-}
-
-fn word_at(list: &[u64], i: usize) -> u64 {
-    if i < list.len() {
-        return list[i];
-    }
-    0
 }
 
 // Refusal, count, lowest, and the words.
@@ -126,23 +100,18 @@ fn judge(
     place: usize,
     t: &[u64],
     store: &[u8],
-    c: Table,
     x: u64,
     y: u64,
     r: &[u64],
     work: &mut [u64],
-) -> Verdict
-    requires { ⌜ TableIn c (length (now store)) (length (now t)) ⌝ }
-{
+) -> Verdict {
     if place == 2 {
-        return is_set(asking::ancestors(t, store, c, x, work), r);
+        return is_set(asking::ancestors(t, store, x, work), r);
     }
     if place == 5 {
-        return is_check(asking::check(t, store, c), r);
+        return is_check(asking::check(t, store), r);
     }
-    let start = c.types.start;
-    let end = c.types.end;
-    answers::judged(are_said(place, t, store, c, &t[start..end], x, y, r, work))
+    answers::judged(are_said(place, t, store, x, y, r, work))
 }
 
 // The same with the first entries of these lent.
@@ -150,27 +119,16 @@ fn judge_in(
     place: usize,
     t: &[u64],
     store: &[u8],
-    c: Table,
     x: u64,
     y: u64,
     r: &[u64],
     work: &mut [u64],
-) -> Verdict
-    requires { ⌜ TableIn c (length (now store)) (length (now t)) ⌝ }
-{
+) -> Verdict {
     let room = cutting::number_at(t, 0) as usize;
     if work.len() < room {
         return Verdict::Unread;
     }
-    judge(place, t, store, c, x, y, r, &mut work[0..room])
-}
-
-// The same in a local array.
-fn afresh(place: usize, t: &[u64], store: &[u8], c: Table, x: u64, y: u64, r: &[u64]) -> Verdict
-    requires { ⌜ TableIn c (length (now store)) (length (now t)) ⌝ }
-{
-    let mut work = [0u64; 8200];
-    judge_in(place, t, store, c, x, y, r, &mut work)
+    judge(place, t, store, x, y, r, &mut work[0..room])
 }
 
 // How many arguments the line at a place of the names has: a table and its check `n`, a pair two, each other one; none past
@@ -199,14 +157,11 @@ pub(crate) fn over(place: usize, t: &[u64], store: &[u8], q: &[u64], r: &[u64]) 
     if n == 0 || n != arguments(place, n) {
         return Verdict::Unread;
     }
-    let x = argument(place, q[0]);
-    let y = argument(place, q[n - 1]);
-    if MOST < t.len() {
-        return Verdict::Unread;
-    }
-    let c = cutting::table_of(t, store.len());
-    if cutting::is_table(t, c) {
-        return afresh(place, t, store, c, x, y, r);
+    if cutting::is_table(t, store.len()) {
+        let x = argument(place, q[0]);
+        let y = argument(place, q[n - 1]);
+        let mut work = [0u64; 8200];
+        return judge_in(place, t, store, x, y, r, &mut work);
     }
     Verdict::Unread
 }

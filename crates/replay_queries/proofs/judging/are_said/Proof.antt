@@ -3,15 +3,14 @@ use borrow.Author.Needs.{needs}
 use mathlib.Core.Path.{_≡_}
 use Prim.Native.Nat.{_-_, _^_, _≤_, _<_}
 use lib.ListN.{length}
-use Rattle.replay_queries.specs.Places.{TableIn}
 use Rattle.replay_queries.proofs.judging.are_said.Statement.{statement}
 use Rattle.replay_queries.proofs.judging.are_said.Tie as tie
 
 abbrev Inv-loop : tie.InvT-loop
-Inv-loop place t store c types x y r work₀ refusal next₀ work next = (1 ≤ next) × (next ≤ length r) × (length r < 2 ^ 63) × (length work ≡ length work₀) × TableIn c (length store) (length t)
+Inv-loop place t store x y r work₀ refusal next₀ work next = (1 ≤ next) × (next ≤ length r) × (length r < 2 ^ 63) × (length work ≡ length work₀)
 
 abbrev μ-loop : tie.MeasureT-loop
-μ-loop place t store c types x y r work₀ refusal next₀ work next = length r - next
+μ-loop place t store x y r work₀ refusal next₀ work next = length r - next
 
 returns : tie.Need-returns Inv-loop μ-loop
 returns c = search needs
