@@ -1,5 +1,6 @@
 // The functions that read bytes: descriptors of types and methods, and UTF-8. Bytes are two numbers, the place where they
 // begin in the store and the place where they end.
+use crate::cutting;
 use bracepuffin::BpMethod;
 use bracepuffin::BpType;
 use replaying::answers;
@@ -30,15 +31,12 @@ fn read_type(is_strict: bool, d: &[u8]) -> BpType {
 }
 
 pub(crate) fn of_type(is_strict: bool, store: &[u8], a: &[u64], r: &[u64]) -> Verdict {
-    if a.len() != 2 {
+    let start = cutting::number_at(a, 0);
+    let end = cutting::number_at(a, 1);
+    if a.len() != 2 || !cutting::are_bytes(start, end, store.len()) {
         return Verdict::Unread;
     }
-    let s = a[0] as usize;
-    let e = a[1] as usize;
-    if e < s || store.len() < e {
-        return Verdict::Unread;
-    }
-    is_type(read_type(is_strict, &store[s..e]), r)
+    is_type(read_type(is_strict, cutting::bytes(store, start, end)), r)
 }
 
 // The ten numbers, and then the place of each parameter.
@@ -59,8 +57,8 @@ fn is_method(m: BpMethod, params: &[u64], r: &[u64]) -> Verdict {
         m.name_at,
         m.name_len,
     ];
-    if answers::is_same(&said, &r[0..10]) {
-        return answers::all(&params[0..n], &r[10..]);
+    if answers::is_same(&said, cutting::part(r, 0, 10)) {
+        return answers::all(cutting::part(params, 0, n), cutting::part(r, 10, r.len()));
     }
     Verdict::Differs
 }
@@ -82,16 +80,20 @@ fn method_in(is_strict: bool, d: &[u8], room: usize, params: &mut [u64], r: &[u6
 }
 
 pub(crate) fn of_method(is_strict: bool, store: &[u8], a: &[u64], r: &[u64]) -> Verdict {
+    let start = cutting::number_at(a, 0);
+    let end = cutting::number_at(a, 1);
+    if a.len() != 3 || !cutting::are_bytes(start, end, store.len()) {
+        return Verdict::Unread;
+    }
+    let room = cutting::number_at(a, 2) as usize;
     let mut params = [0u64; ROOM];
-    if a.len() != 3 {
-        return Verdict::Unread;
-    }
-    let s = a[0] as usize;
-    let e = a[1] as usize;
-    if e < s || store.len() < e {
-        return Verdict::Unread;
-    }
-    method_in(is_strict, &store[s..e], a[2] as usize, &mut params, r)
+    method_in(
+        is_strict,
+        cutting::bytes(store, start, end),
+        room,
+        &mut params,
+        r,
+    )
 }
 
 pub(crate) fn utf8(store: &[u8], a: &[u64], r: &[u64]) -> Verdict {
