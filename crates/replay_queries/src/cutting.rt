@@ -41,21 +41,37 @@ pub(crate) fn number_at(q: &[u64], i: usize) -> u64 {
     0
 }
 
-// The bytes between the second and the third number of a table; none where they do not stand so in the store.
-pub(crate) fn names<'a>(t: &[u64], store: &'a [u8]) -> &'a [u8] {
-    let start = number_at(t, 1) as usize;
-    let end = number_at(t, 2) as usize;
+// The bytes between two places of a store; none where they do not stand so in it.
+pub(crate) fn bytes<'a>(store: &'a [u8], start: u64, end: u64) -> &'a [u8] {
+    let s = start as usize;
+    let e = end as usize;
+    if e < s {
+        return &store[0..0];
+    }
+    if store.len() < e {
+        return &store[0..0];
+    }
+    &store[s..e]
+}
+
+// The same of numbers.
+pub(crate) fn part<'a>(a: &'a [u64], start: usize, end: usize) -> &'a [u64] {
     if end < start {
-        return &store[0..0];
+        return &a[0..0];
     }
-    if store.len() < end {
-        return &store[0..0];
+    if a.len() < end {
+        return &a[0..0];
     }
-    &store[start..end]
+    &a[start..end]
+}
+
+// The bytes that the names of a table are cut from.
+pub(crate) fn names<'a>(t: &[u64], store: &'a [u8]) -> &'a [u8] {
+    bytes(store, number_at(t, 1), number_at(t, 2))
 }
 
 // Whether list k is whole and ends with the last number.
-fn is_last(a: &[u64], from: usize, k: usize) -> bool {
+pub(crate) fn is_last(a: &[u64], from: usize, k: usize) -> bool {
     let s = place(a, from, k);
     s.start != 0 && s.end == a.len()
 }

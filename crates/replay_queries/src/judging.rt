@@ -5,7 +5,6 @@ use bracepuffin::BpSet;
 use bracepuffin::BpTable;
 use replaying::answers;
 use replaying::answers::Verdict;
-use replaying::lists;
 
 // The question whose answer stands at index i of a line's answers: a pair has four, one after the other, a table is asked for
 // a join.
@@ -82,12 +81,11 @@ fn are_words(words: &[u64], list: &[u64]) -> bool {
 
 // Refusal, count, lowest, and the words.
 fn is_set(s: BpSet, r: &[u64]) -> Verdict {
-    let e = lists::end_before(r, 3, 0);
-    if e < 4 {
-        return Verdict::Unread;
+    if cutting::is_last(r, 3, 0) {
+        let is_said = answers::is_same(&[s.refusal, s.count, s.lowest], cutting::part(r, 0, 3));
+        return answers::judged(is_said && are_words(&s.words, cutting::list(r, 3, 0)));
     }
-    let is_said = r[0] == s.refusal && r[1] == s.count && r[2] == s.lowest;
-    answers::judged(is_said && are_words(&s.words, &r[4..e]))
+    Verdict::Unread
 }
 
 // Refusal, part and row.

@@ -50,17 +50,33 @@ pub(crate) fn number_at(q: &[u64], i: usize) -> u64 {
     0
 }
 
-// The bytes between the two places at the start of a table; none where they do not stand so in the store.
-pub(crate) fn names<'a>(t: &[u64], store: &'a [u8]) -> &'a [u8] {
-    let start = number_at(t, 0) as usize;
-    let end = number_at(t, 1) as usize;
+// The bytes between two places of a store; none where they do not stand so in it.
+pub(crate) fn bytes<'a>(store: &'a [u8], start: u64, end: u64) -> &'a [u8] {
+    let s = start as usize;
+    let e = end as usize;
+    if e < s {
+        return &store[0..0];
+    }
+    if store.len() < e {
+        return &store[0..0];
+    }
+    &store[s..e]
+}
+
+// The same of numbers.
+pub(crate) fn part<'a>(a: &'a [u64], start: usize, end: usize) -> &'a [u64] {
     if end < start {
-        return &store[0..0];
+        return &a[0..0];
     }
-    if store.len() < end {
-        return &store[0..0];
+    if a.len() < end {
+        return &a[0..0];
     }
-    &store[start..end]
+    &a[start..end]
+}
+
+// The bytes that the names of a table are cut from.
+pub(crate) fn names<'a>(t: &[u64], store: &'a [u8]) -> &'a [u8] {
+    bytes(store, number_at(t, 0), number_at(t, 1))
 }
 
 // A length that can be lent; another is no length of a case, and none is lent.
@@ -74,8 +90,13 @@ pub(crate) fn room(q: &[u64], i: usize, most: usize) -> usize
     n
 }
 
+// Whether it can be lent.
+fn fits(q: &[u64], i: usize, most: usize) -> bool {
+    number_at(q, i) as usize <= most
+}
+
 // Whether list k is whole and ends with the last number.
-fn is_last(a: &[u64], from: usize, k: usize) -> bool {
+pub(crate) fn is_last(a: &[u64], from: usize, k: usize) -> bool {
     let s = place(a, from, k);
     s.start != 0 && s.end == a.len()
 }
@@ -89,11 +110,10 @@ pub(crate) fn is_table(t: &[u64], store: usize) -> bool {
 
 // The same of a problem and what is lent.
 pub(crate) fn is_problem(q: &[u64]) -> bool {
-    if number_at(q, 0) as usize > ANSWERS || number_at(q, 1) as usize > BOUNDS {
-        return false;
-    }
-    if number_at(q, 2) as usize > BOUNDS || number_at(q, 3) as usize > BOUNDS {
-        return false;
-    }
-    number_at(q, 4) as usize <= WORK && is_last(q, 6, 11)
+    fits(q, 0, ANSWERS)
+        && fits(q, 1, BOUNDS)
+        && fits(q, 2, BOUNDS)
+        && fits(q, 3, BOUNDS)
+        && fits(q, 4, WORK)
+        && is_last(q, 6, 11)
 }

@@ -7,7 +7,6 @@ use crate::cutting::WORK;
 use bracepuffin::BpSolved;
 use replaying::answers;
 use replaying::answers::Verdict;
-use replaying::lists;
 
 const PATTERN: u64 = 0xa5a5a5a5a5a5a5a5;
 
@@ -42,30 +41,19 @@ fn work_after(refusal: u64) -> u64 {
     0
 }
 
-// Whether the columns of final bounds hold the three lists of r, and the result says how many rows there are.
-fn are_bounds(
-    bounds: u64,
-    r: &[u64],
-    out_comp: &[u64],
-    out_kind: &[u64],
-    out_type: &[u64],
-) -> Verdict {
-    let a = lists::end(r, 0);
-    if a == 0 {
-        return Verdict::Unread;
-    }
-    let b = lists::end(r, a);
-    if b <= a {
-        return Verdict::Unread;
-    }
-    let c = lists::end_before(r, b, 0);
-    if c <= b {
-        return Verdict::Unread;
-    }
-    let are_first = bounds == r[0] && is_list_then(out_comp, &r[1..a], PATTERN);
-    let are_others = is_list_then(out_kind, &r[a + 1..b], PATTERN)
-        && is_list_then(out_type, &r[b + 1..c], PATTERN);
-    answers::judged(are_first && are_others)
+// Whether the columns of final bounds hold the last three lists of r.
+fn are_columns(r: &[u64], out_comp: &[u64], out_kind: &[u64], out_type: &[u64]) -> bool {
+    is_list_then(out_comp, cutting::list(r, 2, 1), PATTERN)
+        && is_list_then(out_kind, cutting::list(r, 2, 2), PATTERN)
+        && is_list_then(out_type, cutting::list(r, 2, 3), PATTERN)
+}
+
+// Whether a result is that of r: refusal, turns, and how many final bounds there are.
+fn is_result(s: BpSolved, r: &[u64]) -> bool {
+    let bounds = cutting::list(r, 2, 1).len() as u64;
+    cutting::number_at(r, 0) == s.refusal
+        && cutting::number_at(r, 1) == s.turns
+        && bounds == s.bounds
 }
 
 // Whether the working slice, of which the first `room` words were lent, is as a solve with that refusal leaves it.
@@ -73,8 +61,9 @@ fn is_work(work: &[u64], room: usize, refusal: u64) -> bool {
     if work.len() < room {
         return false;
     }
-    is_list_then(&work[0..room], &work[0..0], work_after(refusal))
-        && is_list_then(&work[room..], &work[0..0], PATTERN)
+    let none = cutting::part(work, 0, 0);
+    is_list_then(cutting::part(work, 0, room), none, work_after(refusal))
+        && is_list_then(cutting::part(work, room, work.len()), none, PATTERN)
 }
 
 // The verdict on a result and what the slices hold: refusal, turns, the answers, the final bounds.
@@ -86,17 +75,13 @@ fn judge(
     out_kind: &[u64],
     out_type: &[u64],
 ) -> Verdict {
-    let a = lists::end(r, 2);
-    if a <= 2 {
-        return Verdict::Unread;
+    if cutting::is_last(r, 2, 3) {
+        let are_answers = is_list_then(answers, cutting::list(r, 2, 0), PATTERN);
+        return answers::judged(
+            is_result(s, r) && are_answers && are_columns(r, out_comp, out_kind, out_type),
+        );
     }
-    if r[0] != s.refusal || r[1] != s.turns {
-        return Verdict::Differs;
-    }
-    if is_list_then(answers, &r[3..a], PATTERN) {
-        return are_bounds(s.bounds, &r[a..], out_comp, out_kind, out_type);
-    }
-    Verdict::Differs
+    Verdict::Unread
 }
 
 // The verdict on a problem over a table: five lengths of lent slices, the problem, and what was recorded.
