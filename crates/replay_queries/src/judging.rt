@@ -1,6 +1,7 @@
 // What is said over a table of eight columns, beside the answers recorded.
 use crate::asking;
 use crate::cutting;
+use bracepuffin::BpAnswer;
 use bracepuffin::BpSet;
 use bracepuffin::BpTable;
 use replaying::answers;
@@ -34,6 +35,16 @@ fn count(place: usize, t: &[u64]) -> usize {
     }
 }
 
+// Whether a refusal and so many answers are recorded.
+fn are_recorded(r: &[u64], n: usize) -> bool {
+    r.len() != 0 && r.len() - 1 == n
+}
+
+// Whether what was said is the refusal of all and the answer at a place of r.
+fn is_said(said: BpAnswer, r: &[u64], at: usize) -> bool {
+    said.refusal == cutting::number_at(r, 0) && said.value == cutting::number_at(r, at)
+}
+
 // Whether the answers to a line are those recorded: the refusal of all, then an answer for each.
 fn are_said(
     place: usize,
@@ -44,24 +55,16 @@ fn are_said(
     r: &[u64],
     work: &mut [u64],
 ) -> bool {
-    if r.len() == 0 {
-        return false;
-    }
-    if r.len() - 1 != count(place, t) {
-        return false;
-    }
-    let refusal = r[0];
-    let mut next: usize = 1;
-    while next < r.len() {
-        let recorded = r[next];
-        let i = next - 1;
+    let n = count(place, t);
+    let mut i: usize = 0;
+    while i < n {
         let said = asking::ask(question(place, i), t, store, x, other(place, t, y, i), work);
-        if said.refusal != refusal || said.value != recorded {
+        i += 1;
+        if !is_said(said, r, i) {
             return false;
         }
-        next += 1;
     }
-    true
+    are_recorded(r, n)
 }
 
 // Whether the words of a set are those of a list and then zeros.

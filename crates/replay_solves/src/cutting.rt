@@ -102,18 +102,22 @@ pub(crate) fn is_last(a: &[u64], from: usize, k: usize) -> bool {
 }
 
 // Whether the lists and the bytes of a table are those that its numbers say, up to the last number.
-pub(crate) fn is_table(t: &[u64], store: usize) -> bool {
+fn is_table(t: &[u64], store: usize) -> bool {
     let start = number_at(t, 0) as usize;
     let end = number_at(t, 1) as usize;
     start <= end && end <= store && is_last(t, 2, 6)
 }
 
 // The same of a problem and what is lent.
-pub(crate) fn is_problem(q: &[u64]) -> bool {
+fn is_problem(q: &[u64]) -> bool {
     fits(q, 0, ANSWERS)
         && fits(q, 1, BOUNDS)
         && fits(q, 2, BOUNDS)
         && fits(q, 3, BOUNDS)
         && fits(q, 4, WORK)
         && is_last(q, 6, 11)
+}
+
+pub(crate) fn is_case(t: &[u64], store: usize, q: &[u64]) -> bool {
+    is_table(t, store) && is_problem(q)
 }

@@ -86,7 +86,7 @@ fn judge(
 
 // The verdict on a problem over a table: five lengths of lent slices, the problem, and what was recorded.
 pub(crate) fn over(t: &[u64], store: &[u8], q: &[u64], r: &[u64]) -> Verdict {
-    if !cutting::is_table(t, store.len()) || !cutting::is_problem(q) {
+    if !cutting::is_case(t, store.len(), q) {
         return Verdict::Unread;
     }
     let mut answers = [PATTERN; ANSWERS];
