@@ -8,6 +8,7 @@ mod writing;
 use replaying::answers::Verdict;
 use replaying::cases;
 use replaying::cases::Case;
+use replaying::parts;
 use replaying::report;
 use replaying::text;
 
@@ -32,8 +33,8 @@ fn judge(c: Case, store: &[u8], numbers: &[u64]) -> Verdict {
     call(
         c.place,
         store,
-        cutting::part(numbers, 0, c.split),
-        cutting::part(numbers, c.split, c.count),
+        parts::numbers(numbers, 0, c.split),
+        parts::numbers(numbers, c.split, c.count),
     )
 }
 
@@ -56,7 +57,7 @@ fn each_line(input: &[u8], counts: &mut [u64]) {
 fn print(counts: &[u64]) {
     let mut out = [0u8; report::ROOM];
     let n = report::put(&NAMES, counts, &mut out);
-    io::write_all(libc::STDOUT_FILENO, cutting::bytes(&out, 0, n as u64));
+    io::write_all(libc::STDOUT_FILENO, parts::bytes(&out, 0, n as u64));
 }
 
 fn main() {
@@ -64,6 +65,6 @@ fn main() {
     let mut counts = [0u64; 128];
     let n = io::read_full(libc::STDIN_FILENO, &mut input);
     report::note_full(&mut counts, n == input.len());
-    each_line(cutting::bytes(&input, 0, n as u64), &mut counts);
+    each_line(parts::bytes(&input, 0, n as u64), &mut counts);
     print(&counts);
 }

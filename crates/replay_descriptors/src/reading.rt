@@ -5,6 +5,7 @@ use bracepuffin::BpMethod;
 use bracepuffin::BpType;
 use replaying::answers;
 use replaying::answers::Verdict;
+use replaying::parts;
 
 // The most parameters that a case may have room for.
 const ROOM: usize = 320;
@@ -31,12 +32,12 @@ fn read_type(is_strict: bool, d: &[u8]) -> BpType {
 }
 
 pub(crate) fn of_type(is_strict: bool, store: &[u8], a: &[u64], r: &[u64]) -> Verdict {
-    let start = cutting::number_at(a, 0);
-    let end = cutting::number_at(a, 1);
+    let start = parts::number_at(a, 0);
+    let end = parts::number_at(a, 1);
     if a.len() != 2 || !cutting::are_bytes(start, end, store.len()) {
         return Verdict::Unread;
     }
-    is_type(read_type(is_strict, cutting::bytes(store, start, end)), r)
+    is_type(read_type(is_strict, parts::bytes(store, start, end)), r)
 }
 
 // The ten numbers, and then the place of each parameter.
@@ -57,8 +58,8 @@ fn is_method(m: BpMethod, params: &[u64], r: &[u64]) -> Verdict {
         m.name_at,
         m.name_len,
     ];
-    if answers::is_same(&said, cutting::part(r, 0, 10)) {
-        return answers::all(cutting::part(params, 0, n), cutting::part(r, 10, r.len()));
+    if answers::is_same(&said, parts::numbers(r, 0, 10)) {
+        return answers::all(parts::numbers(params, 0, n), parts::numbers(r, 10, r.len()));
     }
     Verdict::Differs
 }
@@ -80,16 +81,16 @@ fn method_in(is_strict: bool, d: &[u8], room: usize, params: &mut [u64], r: &[u6
 }
 
 pub(crate) fn of_method(is_strict: bool, store: &[u8], a: &[u64], r: &[u64]) -> Verdict {
-    let start = cutting::number_at(a, 0);
-    let end = cutting::number_at(a, 1);
+    let start = parts::number_at(a, 0);
+    let end = parts::number_at(a, 1);
     if a.len() != 3 || !cutting::are_bytes(start, end, store.len()) {
         return Verdict::Unread;
     }
-    let room = cutting::number_at(a, 2) as usize;
+    let room = parts::number_at(a, 2) as usize;
     let mut params = [0u64; ROOM];
     method_in(
         is_strict,
-        cutting::bytes(store, start, end),
+        parts::bytes(store, start, end),
         room,
         &mut params,
         r,

@@ -4,6 +4,7 @@ use crate::cutting;
 use bracepuffin::BpWritten;
 use replaying::answers;
 use replaying::answers::Verdict;
+use replaying::parts;
 use replaying::text;
 
 // The most bytes that a case may have room for.
@@ -11,19 +12,19 @@ const ROOM: usize = 1000;
 
 // Whether the arguments are the bytes of names, the lists up to list k, and two numbers.
 fn are_arguments(a: &[u64], k: usize, store: usize) -> bool {
-    let start = cutting::number_at(a, 0);
-    let end = cutting::number_at(a, 1);
+    let start = parts::number_at(a, 0);
+    let end = parts::number_at(a, 1);
     cutting::are_bytes(start, end, store) && cutting::has_two_after(a, 2, k)
 }
 
 // The bytes that the names are cut from.
 fn names<'a>(store: &'a [u8], a: &[u64]) -> &'a [u8] {
-    cutting::bytes(store, cutting::number_at(a, 0), cutting::number_at(a, 1))
+    parts::bytes(store, parts::number_at(a, 0), parts::number_at(a, 1))
 }
 
 // Whether an answer has a refusal and bytes.
 fn are_answers(r: &[u64], store: usize) -> bool {
-    r.len() == 3 && cutting::are_bytes(cutting::number_at(r, 1), cutting::number_at(r, 2), store)
+    r.len() == 3 && cutting::are_bytes(parts::number_at(r, 1), parts::number_at(r, 2), store)
 }
 
 // The refusal, and the bytes written.
@@ -31,9 +32,9 @@ fn is_written(w: BpWritten, out: &[u8], store: &[u8], r: &[u64]) -> Verdict {
     if !are_answers(r, store.len()) || !cutting::are_bytes(0, w.length, out.len()) {
         return Verdict::Unread;
     }
-    let written = cutting::bytes(out, 0, w.length);
-    let recorded = cutting::bytes(store, cutting::number_at(r, 1), cutting::number_at(r, 2));
-    let is_refusal = cutting::number_at(r, 0) == w.refusal;
+    let written = parts::bytes(out, 0, w.length);
+    let recorded = parts::bytes(store, parts::number_at(r, 1), parts::number_at(r, 2));
+    let is_refusal = parts::number_at(r, 0) == w.refusal;
     answers::judged(is_refusal && text::is_same(recorded, written))
 }
 
@@ -48,8 +49,8 @@ fn type_in(store: &[u8], a: &[u64], out: &mut [u8]) -> BpWritten {
     }
     bracepuffin::bp_write_type(
         names(store, a),
-        cutting::list(a, 2, 0),
-        cutting::list(a, 2, 1),
+        parts::list(a, 2, 0),
+        parts::list(a, 2, 1),
         cutting::last(a, 2),
         &mut out[0..room],
     )
@@ -75,9 +76,9 @@ fn method_in(store: &[u8], a: &[u64], out: &mut [u8]) -> BpWritten {
     }
     bracepuffin::bp_write_method(
         names(store, a),
-        cutting::list(a, 2, 0),
-        cutting::list(a, 2, 1),
-        cutting::list(a, 2, 2),
+        parts::list(a, 2, 0),
+        parts::list(a, 2, 1),
+        parts::list(a, 2, 2),
         cutting::last(a, 2),
         &mut out[0..room],
     )
@@ -101,9 +102,9 @@ pub(crate) fn lookup(store: &[u8], a: &[u64], r: &[u64]) -> Verdict {
     }
     let found = bracepuffin::bp_lookup(
         names(store, a),
-        cutting::list(a, 2, 0),
-        cutting::list(a, 2, 1),
-        cutting::bytes(store, start, end),
+        parts::list(a, 2, 0),
+        parts::list(a, 2, 1),
+        parts::bytes(store, start, end),
     );
     answers::all(&[found.refusal, found.class_no], r)
 }

@@ -1,7 +1,6 @@
 // Replays recorded answers about types, sets and sorted entries: reads cases on standard input, one a line, calls the
 // functions named there, and prints for each how many cases agree, and of how many. The crate `replaying` says what a case
 // looks like; the input's first lines say what each function's arguments and answers are.
-mod cutting;
 mod on_entries;
 mod on_sets;
 mod on_types;
@@ -9,6 +8,7 @@ mod on_types;
 use replaying::answers::Verdict;
 use replaying::cases;
 use replaying::cases::Case;
+use replaying::parts;
 use replaying::report;
 use replaying::text;
 
@@ -34,8 +34,8 @@ fn call(place: usize, a: &[u64], r: &[u64]) -> Verdict {
 fn judge(c: Case, numbers: &[u64]) -> Verdict {
     call(
         c.place,
-        cutting::part(numbers, 0, c.split),
-        cutting::part(numbers, c.split, c.count),
+        parts::numbers(numbers, 0, c.split),
+        parts::numbers(numbers, c.split, c.count),
     )
 }
 
@@ -58,7 +58,7 @@ fn each_line(input: &[u8], counts: &mut [u64]) {
 fn print(counts: &[u64]) {
     let mut out = [0u8; report::ROOM];
     let n = report::put(&NAMES, counts, &mut out);
-    io::write_all(libc::STDOUT_FILENO, cutting::bytes(&out, 0, n as u64));
+    io::write_all(libc::STDOUT_FILENO, parts::bytes(&out, 0, n as u64));
 }
 
 fn main() {
@@ -66,6 +66,6 @@ fn main() {
     let mut counts = [0u64; 128];
     let n = io::read_full(libc::STDIN_FILENO, &mut input);
     report::note_full(&mut counts, n == input.len());
-    each_line(cutting::bytes(&input, 0, n as u64), &mut counts);
+    each_line(parts::bytes(&input, 0, n as u64), &mut counts);
     print(&counts);
 }

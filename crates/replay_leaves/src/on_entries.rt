@@ -1,8 +1,8 @@
 // The functions on sorted entries. Entries among the arguments or the answers are a list.
-use crate::cutting;
 use replaying::answers;
 use replaying::answers::Verdict;
 use replaying::lists;
+use replaying::parts;
 use sorted::Found;
 use sorted::Put;
 ghost use Prim.Native.Nat.{_^_, _<_};
@@ -32,9 +32,9 @@ fn is_left(outcome: u64, n: usize, table: &[u64], r: &[u64]) -> Verdict {
     if r.len() < 2 || table.len() < n {
         return Verdict::Unread;
     }
-    let is_said = answers::is_same(&[outcome, n as u64], cutting::part(r, 0, 2));
-    let entries = cutting::part(table, 0, n);
-    answers::judged(is_said && answers::is_same(entries, cutting::part(r, 2, r.len())))
+    let is_said = answers::is_same(&[outcome, n as u64], parts::numbers(r, 0, 2));
+    let entries = parts::numbers(table, 0, n);
+    answers::judged(is_said && answers::is_same(entries, parts::numbers(r, 2, r.len())))
 }
 
 // What an insertion into a table of n entries came to.
@@ -64,12 +64,12 @@ pub(crate) fn put(a: &[u64], r: &[u64]) -> Verdict {
     if e < 2 || r.len() < 2 {
         return Verdict::Unread;
     }
-    let entries = cutting::part(a, 2, e);
-    let x = cutting::number_at(a, e);
-    if is_found(entries, x, cutting::part(r, 0, 2)) {
-        let room = cutting::number_at(a, 0) as usize;
+    let entries = parts::numbers(a, 2, e);
+    let x = parts::number_at(a, e);
+    if is_found(entries, x, parts::numbers(r, 0, 2)) {
+        let room = parts::number_at(a, 0) as usize;
         let mut table = [0u64; ROOM];
-        return insert_in(entries, room, x, &mut table, cutting::part(r, 2, r.len()));
+        return insert_in(entries, room, x, &mut table, parts::numbers(r, 2, r.len()));
     }
     Verdict::Differs
 }
@@ -79,12 +79,12 @@ pub(crate) fn run(a: &[u64], r: &[u64]) -> Verdict {
     if e == 0 {
         return Verdict::Unread;
     }
-    let entries = cutting::part(a, 1, e);
+    let entries = parts::numbers(a, 1, e);
     let s = sorted::run(
         entries,
         entries.len(),
-        cutting::number_at(a, e),
-        cutting::number_at(a, e + 1),
+        parts::number_at(a, e),
+        parts::number_at(a, e + 1),
     );
     answers::all(&[s.first as u64, s.past as u64], r)
 }

@@ -1,8 +1,8 @@
 // The functions on sets. A set among the arguments or the answers is the list of its members.
-use crate::cutting;
 use replaying::answers;
 use replaying::answers::Verdict;
 use replaying::lists;
+use replaying::parts;
 use sets::Set;
 
 fn set_of(list: &[u64]) -> Set {
@@ -36,7 +36,7 @@ fn past(r: &[u64], at: usize, s: Set) -> usize {
     if e <= at {
         return 0;
     }
-    if is_list_of(s, cutting::part(r, at + 1, e)) {
+    if is_list_of(s, parts::numbers(r, at + 1, e)) {
         return e;
     }
     0
@@ -48,10 +48,10 @@ pub(crate) fn one(a: &[u64], r: &[u64]) -> Verdict {
     if e == 0 || r.len() < 3 {
         return Verdict::Unread;
     }
-    let s = set_of(cutting::part(a, 1, e));
-    let x = cutting::number_at(a, e);
+    let s = set_of(parts::numbers(a, 1, e));
+    let x = parts::number_at(a, e);
     let said = [answers::flag(s.has(x)), s.count(), s.lowest()];
-    if answers::is_same(&said, cutting::part(r, 0, 3)) {
+    if answers::is_same(&said, parts::numbers(r, 0, 3)) {
         return changed(s, x, r);
     }
     Verdict::Differs
@@ -76,8 +76,8 @@ pub(crate) fn two(a: &[u64], r: &[u64]) -> Verdict {
     if f <= e {
         return Verdict::Unread;
     }
-    let x = set_of(cutting::part(a, 1, e));
-    let y = set_of(cutting::part(a, e + 1, f));
+    let x = set_of(parts::numbers(a, 1, e));
+    let y = set_of(parts::numbers(a, e + 1, f));
     both(x, y, r)
 }
 
@@ -94,5 +94,5 @@ fn both(x: Set, y: Set, r: &[u64]) -> Verdict {
     if g == 0 {
         return Verdict::Differs;
     }
-    answers::one(answers::flag(x.same(y)), cutting::part(r, g, r.len()))
+    answers::one(answers::flag(x.same(y)), parts::numbers(r, g, r.len()))
 }

@@ -3,6 +3,7 @@ use crate::cutting;
 use bracepuffin::BpAnswer;
 use bracepuffin::BpSet;
 use bracepuffin::BpTable;
+use replaying::parts;
 
 // The answer to question 0 relation, 1 distance, 2 supertype, 3 cast of two classes; 4 join, 5 assignability of two types.
 fn answer(
@@ -119,13 +120,13 @@ pub(crate) fn ask(
     answer(
         question,
         cutting::names(t, store),
-        cutting::list(t, 3, 0),
-        cutting::list(t, 3, 1),
-        cutting::list(t, 3, 3),
-        cutting::list(t, 3, 4),
-        cutting::list(t, 3, 5),
-        cutting::list(t, 3, 6),
-        cutting::list(t, 3, 7),
+        parts::list(t, 3, 0),
+        parts::list(t, 3, 1),
+        parts::list(t, 3, 3),
+        parts::list(t, 3, 4),
+        parts::list(t, 3, 5),
+        parts::list(t, 3, 6),
+        parts::list(t, 3, 7),
         x,
         y,
         work,
@@ -136,13 +137,13 @@ pub(crate) fn ask(
 pub(crate) fn ancestors(t: &[u64], store: &[u8], x: u64, work: &mut [u64]) -> BpSet {
     bracepuffin::bp_ancestors(
         cutting::names(t, store),
-        cutting::list(t, 3, 0),
-        cutting::list(t, 3, 1),
-        cutting::list(t, 3, 3),
-        cutting::list(t, 3, 4),
-        cutting::list(t, 3, 5),
-        cutting::list(t, 3, 6),
-        cutting::list(t, 3, 7),
+        parts::list(t, 3, 0),
+        parts::list(t, 3, 1),
+        parts::list(t, 3, 3),
+        parts::list(t, 3, 4),
+        parts::list(t, 3, 5),
+        parts::list(t, 3, 6),
+        parts::list(t, 3, 7),
         x,
         work,
     )
@@ -152,12 +153,12 @@ pub(crate) fn ancestors(t: &[u64], store: &[u8], x: u64, work: &mut [u64]) -> Bp
 pub(crate) fn check(t: &[u64], store: &[u8]) -> BpTable {
     bracepuffin::bp_check_table(
         cutting::names(t, store),
-        cutting::list(t, 3, 0),
-        cutting::list(t, 3, 1),
-        cutting::list(t, 3, 3),
-        cutting::list(t, 3, 4),
-        cutting::list(t, 3, 5),
-        cutting::list(t, 3, 6),
-        cutting::list(t, 3, 7),
+        parts::list(t, 3, 0),
+        parts::list(t, 3, 1),
+        parts::list(t, 3, 3),
+        parts::list(t, 3, 4),
+        parts::list(t, 3, 5),
+        parts::list(t, 3, 6),
+        parts::list(t, 3, 7),
     )
 }

@@ -6,6 +6,7 @@ use bracepuffin::BpSet;
 use bracepuffin::BpTable;
 use replaying::answers;
 use replaying::answers::Verdict;
+use replaying::parts;
 
 // The question whose answer stands at index i of a line's answers: a pair has four, one after the other, a table is asked for
 // a join.
@@ -23,7 +24,7 @@ fn other(place: usize, t: &[u64], y: u64, i: usize) -> u64 {
     if place < 2 {
         return y;
     }
-    cutting::number_at(cutting::list(t, 3, 2), i)
+    parts::number_at(parts::list(t, 3, 2), i)
 }
 
 // How many answers there are.
@@ -31,7 +32,7 @@ fn count(place: usize, t: &[u64]) -> usize {
     match place {
         0 => 1,
         1 => 4,
-        _ => cutting::list(t, 3, 2).len(),
+        _ => parts::list(t, 3, 2).len(),
     }
 }
 
@@ -42,7 +43,7 @@ fn are_recorded(r: &[u64], n: usize) -> bool {
 
 // Whether what was said is the refusal of all and the answer at a place of r.
 fn is_said(said: BpAnswer, r: &[u64], at: usize) -> bool {
-    said.refusal == cutting::number_at(r, 0) && said.value == cutting::number_at(r, at)
+    said.refusal == parts::number_at(r, 0) && said.value == parts::number_at(r, at)
 }
 
 // Whether the answers to a line are those recorded: the refusal of all, then an answer for each.
@@ -74,7 +75,7 @@ fn are_words(words: &[u64], list: &[u64]) -> bool {
     }
     let mut i: usize = 0;
     while i < words.len() {
-        if words[i] != cutting::number_at(list, i) {
+        if words[i] != parts::number_at(list, i) {
             return false;
         }
         i += 1;
@@ -84,9 +85,9 @@ fn are_words(words: &[u64], list: &[u64]) -> bool {
 
 // Refusal, count, lowest, and the words.
 fn is_set(s: BpSet, r: &[u64]) -> Verdict {
-    if cutting::is_last(r, 3, 0) {
-        let is_said = answers::is_same(&[s.refusal, s.count, s.lowest], cutting::part(r, 0, 3));
-        return answers::judged(is_said && are_words(&s.words, cutting::list(r, 3, 0)));
+    if parts::is_last(r, 3, 0) {
+        let is_said = answers::is_same(&[s.refusal, s.count, s.lowest], parts::numbers(r, 0, 3));
+        return answers::judged(is_said && are_words(&s.words, parts::list(r, 3, 0)));
     }
     Verdict::Unread
 }
@@ -125,7 +126,7 @@ fn judge_in(
     r: &[u64],
     work: &mut [u64],
 ) -> Verdict {
-    let room = cutting::number_at(t, 0) as usize;
+    let room = parts::number_at(t, 0) as usize;
     if work.len() < room {
         return Verdict::Unread;
     }

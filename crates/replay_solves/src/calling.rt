@@ -1,6 +1,7 @@
 // The one call of the boundary.
 use crate::cutting;
 use bracepuffin::BpSolved;
+use replaying::parts;
 
 // The solve of a problem over a table, into the first entries of these slices.
 pub(crate) fn solve(
@@ -20,26 +21,26 @@ pub(crate) fn solve(
     let work_room = cutting::room(q, 4, work.len());
     bracepuffin::bp_solve(
         cutting::names(t, store),
-        cutting::list(t, 2, 0),
-        cutting::list(t, 2, 1),
-        cutting::list(t, 2, 2),
-        cutting::list(t, 2, 3),
-        cutting::list(t, 2, 4),
-        cutting::list(t, 2, 5),
-        cutting::list(t, 2, 6),
-        cutting::number_at(q, 5),
-        cutting::list(q, 6, 0),
-        cutting::list(q, 6, 1),
-        cutting::list(q, 6, 2),
-        cutting::list(q, 6, 3),
-        cutting::list(q, 6, 4),
-        cutting::list(q, 6, 5),
-        cutting::list(q, 6, 6),
-        cutting::list(q, 6, 7),
-        cutting::list(q, 6, 8),
-        cutting::list(q, 6, 9),
-        cutting::list(q, 6, 10),
-        cutting::list(q, 6, 11),
+        parts::list(t, 2, 0),
+        parts::list(t, 2, 1),
+        parts::list(t, 2, 2),
+        parts::list(t, 2, 3),
+        parts::list(t, 2, 4),
+        parts::list(t, 2, 5),
+        parts::list(t, 2, 6),
+        parts::number_at(q, 5),
+        parts::list(q, 6, 0),
+        parts::list(q, 6, 1),
+        parts::list(q, 6, 2),
+        parts::list(q, 6, 3),
+        parts::list(q, 6, 4),
+        parts::list(q, 6, 5),
+        parts::list(q, 6, 6),
+        parts::list(q, 6, 7),
+        parts::list(q, 6, 8),
+        parts::list(q, 6, 9),
+        parts::list(q, 6, 10),
+        parts::list(q, 6, 11),
         &mut answers[..answers_room],
         &mut out_comp[..components_room],
         &mut out_kind[..kinds_room],

@@ -7,6 +7,7 @@ use crate::cutting::WORK;
 use bracepuffin::BpSolved;
 use replaying::answers;
 use replaying::answers::Verdict;
+use replaying::parts;
 
 const PATTERN: u64 = 0xa5a5a5a5a5a5a5a5;
 
@@ -43,17 +44,15 @@ fn work_after(refusal: u64) -> u64 {
 
 // Whether the columns of final bounds hold the last three lists of r.
 fn are_columns(r: &[u64], out_comp: &[u64], out_kind: &[u64], out_type: &[u64]) -> bool {
-    is_list_then(out_comp, cutting::list(r, 2, 1), PATTERN)
-        && is_list_then(out_kind, cutting::list(r, 2, 2), PATTERN)
-        && is_list_then(out_type, cutting::list(r, 2, 3), PATTERN)
+    is_list_then(out_comp, parts::list(r, 2, 1), PATTERN)
+        && is_list_then(out_kind, parts::list(r, 2, 2), PATTERN)
+        && is_list_then(out_type, parts::list(r, 2, 3), PATTERN)
 }
 
 // Whether a result is that of r: refusal, turns, and how many final bounds there are.
 fn is_result(s: BpSolved, r: &[u64]) -> bool {
-    let bounds = cutting::list(r, 2, 1).len() as u64;
-    cutting::number_at(r, 0) == s.refusal
-        && cutting::number_at(r, 1) == s.turns
-        && bounds == s.bounds
+    let bounds = parts::list(r, 2, 1).len() as u64;
+    parts::number_at(r, 0) == s.refusal && parts::number_at(r, 1) == s.turns && bounds == s.bounds
 }
 
 // Whether the working slice, of which the first `room` words were lent, is as a solve with that refusal leaves it.
@@ -61,9 +60,9 @@ fn is_work(work: &[u64], room: usize, refusal: u64) -> bool {
     if work.len() < room {
         return false;
     }
-    let none = cutting::part(work, 0, 0);
-    is_list_then(cutting::part(work, 0, room), none, work_after(refusal))
-        && is_list_then(cutting::part(work, room, work.len()), none, PATTERN)
+    let none = parts::numbers(work, 0, 0);
+    is_list_then(parts::numbers(work, 0, room), none, work_after(refusal))
+        && is_list_then(parts::numbers(work, room, work.len()), none, PATTERN)
 }
 
 // The verdict on a result and what the slices hold: refusal, turns, the answers, the final bounds.
@@ -75,8 +74,8 @@ fn judge(
     out_kind: &[u64],
     out_type: &[u64],
 ) -> Verdict {
-    if cutting::is_last(r, 2, 3) {
-        let are_answers = is_list_then(answers, cutting::list(r, 2, 0), PATTERN);
+    if parts::is_last(r, 2, 3) {
+        let are_answers = is_list_then(answers, parts::list(r, 2, 0), PATTERN);
         return answers::judged(
             is_result(s, r) && are_answers && are_columns(r, out_comp, out_kind, out_type),
         );

@@ -9,6 +9,7 @@ mod judging;
 use replaying::answers::Verdict;
 use replaying::cases;
 use replaying::cases::Case;
+use replaying::parts;
 use replaying::report;
 use replaying::text;
 
@@ -52,20 +53,20 @@ fn is_table(line: &[u8]) -> bool {
 // The verdict on a case whose numbers are in `numbers`, about the table of the first `held` numbers of `table`.
 fn judge(c: Case, numbers: &[u64], held: usize, table: &[u64], store: &[u8]) -> Verdict {
     judging::over(
-        cutting::part(table, 0, held),
+        parts::numbers(table, 0, held),
         store,
-        cutting::part(numbers, 0, c.split),
-        cutting::part(numbers, c.split, c.count),
+        parts::numbers(numbers, 0, c.split),
+        parts::numbers(numbers, c.split, c.count),
     )
 }
 
 // The verdict on a table, the arguments of a case.
 fn judge_table(c: Case, numbers: &[u64], store: &[u8]) -> Verdict {
     judging::over(
-        cutting::part(numbers, 0, c.split),
+        parts::numbers(numbers, 0, c.split),
         store,
         &NO_PROBLEM,
-        cutting::part(numbers, c.split, c.count),
+        parts::numbers(numbers, c.split, c.count),
     )
 }
 
@@ -119,7 +120,7 @@ fn each_line(input: &[u8], table: &mut [u64], store: &mut [u8], counts: &mut [u6
 fn print(counts: &[u64]) {
     let mut out = [0u8; report::ROOM];
     let n = report::put(&NAMES, counts, &mut out);
-    io::write_all(libc::STDOUT_FILENO, cutting::bytes(&out, 0, n as u64));
+    io::write_all(libc::STDOUT_FILENO, parts::bytes(&out, 0, n as u64));
 }
 
 fn main() {
@@ -130,7 +131,7 @@ fn main() {
     let n = io::read_full(libc::STDIN_FILENO, &mut input);
     report::note_full(&mut counts, n == input.len());
     each_line(
-        cutting::bytes(&input, 0, n as u64),
+        parts::bytes(&input, 0, n as u64),
         &mut table,
         &mut store,
         &mut counts,
