@@ -1,16 +1,16 @@
 // Replays recorded answers about descriptors and names: reads cases on standard input, one a line, calls the functions
 // named there, and prints for each how many cases agree, and of how many. The crate `replaying` says what a case looks
 // like; the input's first lines say what each function's arguments and answers are.
+mod cutting;
 mod reading;
 mod writing;
 
 use replaying::answers::Verdict;
 use replaying::cases;
 use replaying::cases::Case;
+use replaying::parts;
 use replaying::report;
 use replaying::text;
-ghost use Prim.Native.Nat.{_≤_};
-ghost use lib.ListN.{length};
 
 const NAMES: [u8; 61] = *b"d_type d_strict d_method m_strict w_type w_method lookup utf8";
 
@@ -29,12 +29,13 @@ fn call(place: usize, store: &[u8], a: &[u64], r: &[u64]) -> Verdict {
     }
 }
 
-fn judge(c: Case, store: &[u8], numbers: &[u64]) -> Verdict
-    requires { ⌜ (c .split ≤ c .count) × (c .count ≤ length (now numbers)) ⌝ }
-{
-    let split = c.split;
-    let count = c.count;
-    call(c.place, store, &numbers[0..split], &numbers[split..count])
+fn judge(c: Case, store: &[u8], numbers: &[u64]) -> Verdict {
+    call(
+        c.place,
+        store,
+        parts::numbers(numbers, 0, c.split),
+        parts::numbers(numbers, c.split, c.count),
+    )
 }
 
 fn one_line(line: &[u8], counts: &mut [u64]) {
@@ -53,21 +54,17 @@ fn each_line(input: &[u8], counts: &mut [u64]) {
     }
 }
 
-fn run(input: &mut [u8], counts: &mut [u64]) {
-    let n = io::read_full(libc::STDIN_FILENO, input);
-    report::note_full(counts, n == input.len());
-    each_line(&input[..n], counts);
-}
-
-fn print(counts: &[u64], out: &mut [u8]) {
-    let n = report::put(&NAMES, counts, out);
-    io::write_all(libc::STDOUT_FILENO, &out[..n]);
+fn print(counts: &[u64]) {
+    let mut out = [0u8; report::ROOM];
+    let n = report::put(&NAMES, counts, &mut out);
+    io::write_all(libc::STDOUT_FILENO, parts::bytes(&out, 0, n as u64));
 }
 
 fn main() {
     let mut input = cases::room();
     let mut counts = [0u64; 128];
-    let mut out = [0u8; report::ROOM];
-    run(&mut input, &mut counts);
-    print(&counts, &mut out);
+    let n = io::read_full(libc::STDIN_FILENO, &mut input);
+    report::note_full(&mut counts, n == input.len());
+    each_line(parts::bytes(&input, 0, n as u64), &mut counts);
+    print(&counts);
 }

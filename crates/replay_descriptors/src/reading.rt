@@ -1,9 +1,11 @@
 // The functions that read bytes: descriptors of types and methods, and UTF-8. Bytes are two numbers, the place where they
 // begin in the store and the place where they end.
+use crate::cutting;
 use bracepuffin::BpMethod;
 use bracepuffin::BpType;
 use replaying::answers;
 use replaying::answers::Verdict;
+use replaying::parts;
 
 // The most parameters that a case may have room for.
 const ROOM: usize = 320;
@@ -30,15 +32,12 @@ fn read_type(is_strict: bool, d: &[u8]) -> BpType {
 }
 
 pub(crate) fn of_type(is_strict: bool, store: &[u8], a: &[u64], r: &[u64]) -> Verdict {
-    if a.len() != 2 {
+    let start = parts::number_at(a, 0);
+    let end = parts::number_at(a, 1);
+    if a.len() != 2 || !cutting::are_bytes(start, end, store.len()) {
         return Verdict::Unread;
     }
-    let s = a[0] as usize;
-    let e = a[1] as usize;
-    if e < s || store.len() < e {
-        return Verdict::Unread;
-    }
-    is_type(read_type(is_strict, &store[s..e]), r)
+    is_type(read_type(is_strict, parts::bytes(store, start, end)), r)
 }
 
 // The ten numbers, and then the place of each parameter.
@@ -59,8 +58,8 @@ fn is_method(m: BpMethod, params: &[u64], r: &[u64]) -> Verdict {
         m.name_at,
         m.name_len,
     ];
-    if answers::is_same(&said, &r[0..10]) {
-        return answers::all(&params[0..n], &r[10..]);
+    if answers::is_same(&said, parts::numbers(r, 0, 10)) {
+        return answers::all(parts::numbers(params, 0, n), parts::numbers(r, 10, r.len()));
     }
     Verdict::Differs
 }
@@ -82,16 +81,20 @@ fn method_in(is_strict: bool, d: &[u8], room: usize, params: &mut [u64], r: &[u6
 }
 
 pub(crate) fn of_method(is_strict: bool, store: &[u8], a: &[u64], r: &[u64]) -> Verdict {
+    let start = parts::number_at(a, 0);
+    let end = parts::number_at(a, 1);
+    if a.len() != 3 || !cutting::are_bytes(start, end, store.len()) {
+        return Verdict::Unread;
+    }
+    let room = parts::number_at(a, 2) as usize;
     let mut params = [0u64; ROOM];
-    if a.len() != 3 {
-        return Verdict::Unread;
-    }
-    let s = a[0] as usize;
-    let e = a[1] as usize;
-    if e < s || store.len() < e {
-        return Verdict::Unread;
-    }
-    method_in(is_strict, &store[s..e], a[2] as usize, &mut params, r)
+    method_in(
+        is_strict,
+        parts::bytes(store, start, end),
+        room,
+        &mut params,
+        r,
+    )
 }
 
 pub(crate) fn utf8(store: &[u8], a: &[u64], r: &[u64]) -> Verdict {

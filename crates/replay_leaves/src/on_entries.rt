@@ -2,8 +2,10 @@
 use replaying::answers;
 use replaying::answers::Verdict;
 use replaying::lists;
+use replaying::parts;
 use sorted::Found;
 use sorted::Put;
+ghost use Prim.Native.Nat.{_^_, _<_};
 
 // The most entries that a case may have room for.
 const ROOM: usize = 64;
@@ -30,8 +32,20 @@ fn is_left(outcome: u64, n: usize, table: &[u64], r: &[u64]) -> Verdict {
     if r.len() < 2 || table.len() < n {
         return Verdict::Unread;
     }
-    let is_said = answers::is_same(&[outcome, n as u64], &r[0..2]);
-    answers::judged(is_said && answers::is_same(&table[0..n], &r[2..]))
+    let is_said = answers::is_same(&[outcome, n as u64], parts::numbers(r, 0, 2));
+    let entries = parts::numbers(table, 0, n);
+    answers::judged(is_said && answers::is_same(entries, parts::numbers(r, 2, r.len())))
+}
+
+// What an insertion into a table of n entries came to.
+fn is_put(p: Put, n: usize, table: &[u64], r: &[u64]) -> Verdict
+    requires { ⌜ n < 2 ^ 63 ⌝ }
+{
+    match p {
+        Put::Old => is_left(0, n, table, r),
+        Put::New => is_left(1, n + 1, table, r),
+        Put::Full => is_left(2, n, table, r),
+    }
 }
 
 // Inserts x into the first `room` entries of a table.
@@ -40,23 +54,22 @@ fn insert_in(entries: &[u64], room: usize, x: u64, table: &mut [u64], r: &[u64])
     if table.len() < room || room < n {
         return Verdict::Unread;
     }
-    copy(entries, &mut table[0..room]);
+    copy(entries, table);
     let p = sorted::insert(&mut table[0..room], n, x);
-    match p {
-        Put::Old => is_left(0, n, table, r),
-        Put::New => is_left(1, n + 1, table, r),
-        Put::Full => is_left(2, n, table, r),
-    }
+    is_put(p, n, table, r)
 }
 
 pub(crate) fn put(a: &[u64], r: &[u64]) -> Verdict {
-    let mut table = [0u64; ROOM];
     let e = lists::end_before(a, 1, 1);
     if e < 2 || r.len() < 2 {
         return Verdict::Unread;
     }
-    if is_found(&a[2..e], a[e], &r[0..2]) {
-        return insert_in(&a[2..e], a[0] as usize, a[e], &mut table, &r[2..]);
+    let entries = parts::numbers(a, 2, e);
+    let x = parts::number_at(a, e);
+    if is_found(entries, x, parts::numbers(r, 0, 2)) {
+        let room = parts::number_at(a, 0) as usize;
+        let mut table = [0u64; ROOM];
+        return insert_in(entries, room, x, &mut table, parts::numbers(r, 2, r.len()));
     }
     Verdict::Differs
 }
@@ -66,6 +79,12 @@ pub(crate) fn run(a: &[u64], r: &[u64]) -> Verdict {
     if e == 0 {
         return Verdict::Unread;
     }
-    let s = sorted::run(&a[1..e], e - 1, a[e], a[e + 1]);
+    let entries = parts::numbers(a, 1, e);
+    let s = sorted::run(
+        entries,
+        entries.len(),
+        parts::number_at(a, e),
+        parts::number_at(a, e + 1),
+    );
     answers::all(&[s.first as u64, s.past as u64], r)
 }

@@ -2,9 +2,8 @@
 use replaying::answers;
 use replaying::answers::Verdict;
 use replaying::lists;
+use replaying::parts;
 use sets::Set;
-ghost use Prim.Native.Nat.{_≤_};
-ghost use lib.ListN.{length};
 
 fn set_of(list: &[u64]) -> Set {
     let mut s = Set::empty();
@@ -32,14 +31,12 @@ fn is_list_of(s: Set, list: &[u64]) -> bool {
 }
 
 // The end of the list at `at` if it is that of a set, else 0.
-fn past(r: &[u64], at: usize, s: Set) -> usize
-    ensures { λ e. ⌜ e ≤ length (now (r .entry)) ⌝ }
-{
+fn past(r: &[u64], at: usize, s: Set) -> usize {
     let e = lists::end(r, at);
     if e <= at {
         return 0;
     }
-    if is_list_of(s, &r[at + 1..e]) {
+    if is_list_of(s, parts::numbers(r, at + 1, e)) {
         return e;
     }
     0
@@ -51,10 +48,11 @@ pub(crate) fn one(a: &[u64], r: &[u64]) -> Verdict {
     if e == 0 || r.len() < 3 {
         return Verdict::Unread;
     }
-    let s = set_of(&a[1..e]);
-    let said = [answers::flag(s.has(a[e])), s.count(), s.lowest()];
-    if answers::is_same(&said, &r[0..3]) {
-        return changed(s, a[e], r);
+    let s = set_of(parts::numbers(a, 1, e));
+    let x = parts::number_at(a, e);
+    let said = [answers::flag(s.has(x)), s.count(), s.lowest()];
+    if answers::is_same(&said, parts::numbers(r, 0, 3)) {
+        return changed(s, x, r);
     }
     Verdict::Differs
 }
@@ -78,7 +76,9 @@ pub(crate) fn two(a: &[u64], r: &[u64]) -> Verdict {
     if f <= e {
         return Verdict::Unread;
     }
-    both(set_of(&a[1..e]), set_of(&a[e + 1..f]), r)
+    let x = set_of(parts::numbers(a, 1, e));
+    let y = set_of(parts::numbers(a, e + 1, f));
+    both(x, y, r)
 }
 
 fn both(x: Set, y: Set, r: &[u64]) -> Verdict {
@@ -94,5 +94,5 @@ fn both(x: Set, y: Set, r: &[u64]) -> Verdict {
     if g == 0 {
         return Verdict::Differs;
     }
-    answers::one(answers::flag(x.same(y)), &r[g..])
+    answers::one(answers::flag(x.same(y)), parts::numbers(r, g, r.len()))
 }

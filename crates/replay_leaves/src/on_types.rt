@@ -4,6 +4,7 @@ use replaying::answers;
 use replaying::answers::MISSING;
 use replaying::answers::Verdict;
 use replaying::lists;
+use replaying::parts;
 use ty::Arrayed;
 use ty::Decoded;
 use ty::MaybeType;
@@ -51,7 +52,10 @@ pub(crate) fn order(a: &[u64], r: &[u64]) -> Verdict {
     if a.len() != 2 {
         return Verdict::Unread;
     }
-    answers::one(order_of_words(a[0], a[1]), r)
+    answers::one(
+        order_of_words(parts::number_at(a, 0), parts::number_at(a, 1)),
+        r,
+    )
 }
 
 // The order of two places of a list.
@@ -93,7 +97,7 @@ pub(crate) fn pairs(a: &[u64], r: &[u64]) -> Verdict {
     if e == 0 {
         return Verdict::Unread;
     }
-    answers::one(all_as_placed(&a[1..e]), r)
+    answers::one(all_as_placed(parts::numbers(a, 1, e)), r)
 }
 
 fn is_legal(names: u64, w: u64) -> u64 {
@@ -108,7 +112,7 @@ pub(crate) fn legal(a: &[u64], r: &[u64]) -> Verdict {
     if a.len() != 2 {
         return Verdict::Unread;
     }
-    answers::one(is_legal(a[0], a[1]), r)
+    answers::one(is_legal(parts::number_at(a, 0), parts::number_at(a, 1)), r)
 }
 
 // Bit 16 p + d says whether the word is legal after its digit p, counted from digit `from` at the low end, was combined by
@@ -128,11 +132,13 @@ pub(crate) fn edits(a: &[u64], r: &[u64]) -> Verdict {
     if a.len() != 2 {
         return Verdict::Unread;
     }
+    let names = parts::number_at(a, 0);
+    let w = parts::number_at(a, 1);
     let said = [
-        edits_from(a[0], a[1], 0),
-        edits_from(a[0], a[1], 4),
-        edits_from(a[0], a[1], 8),
-        edits_from(a[0], a[1], 12),
+        edits_from(names, w, 0),
+        edits_from(names, w, 4),
+        edits_from(names, w, 8),
+        edits_from(names, w, 12),
     ];
     answers::all(&said, r)
 }
@@ -169,18 +175,19 @@ pub(crate) fn word(a: &[u64], r: &[u64]) -> Verdict {
     if a.len() != 1 {
         return Verdict::Unread;
     }
-    let Decoded::Good(t) = ty::decode(a[0], 1024) else {
+    let Decoded::Good(t) = ty::decode(parts::number_at(a, 0), 1024) else {
         return Verdict::Unread;
     };
     answers::all(&said_of(t), r)
 }
 
 pub(crate) fn hint(a: &[u64], r: &[u64]) -> Verdict {
-    if a.len() != 2 || 1024 <= a[0] {
+    let x = parts::number_at(a, 0);
+    if a.len() != 2 || 1024 <= x {
         return Verdict::Unread;
     }
-    let Decoded::Good(t) = ty::decode(a[1], 1024) else {
+    let Decoded::Good(t) = ty::decode(parts::number_at(a, 1), 1024) else {
         return Verdict::Unread;
     };
-    answers::one(maybe(t.concrete_hint(a[0])), r)
+    answers::one(maybe(t.concrete_hint(x)), r)
 }

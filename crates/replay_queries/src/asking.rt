@@ -1,10 +1,9 @@
-// The questions of the boundary over a table of eight columns, and the places where its slices are cut for them.
-use crate::cutting::Table;
+// The questions of the boundary over a table of eight columns.
+use crate::cutting;
 use bracepuffin::BpAnswer;
 use bracepuffin::BpSet;
 use bracepuffin::BpTable;
-ghost use lib.ListN.{length};
-ghost use Rattle.replay_queries.specs.Places.{TableIn};
+use replaying::parts;
 
 // The answer to question 0 relation, 1 distance, 2 supertype, 3 cast of two classes; 4 join, 5 assignability of two types.
 fn answer(
@@ -114,39 +113,20 @@ pub(crate) fn ask(
     question: usize,
     t: &[u64],
     store: &[u8],
-    c: Table,
     x: u64,
     y: u64,
     work: &mut [u64],
-) -> BpAnswer
-    requires { ⌜ TableIn c (length (now store)) (length (now t)) ⌝ }
-{
-    let bytes_start = c.bytes.start;
-    let bytes_end = c.bytes.end;
-    let at_start = c.at.start;
-    let at_end = c.at.end;
-    let len_start = c.len.start;
-    let len_end = c.len.end;
-    let flags_start = c.flags.start;
-    let flags_end = c.flags.end;
-    let class_start = c.class.start;
-    let class_end = c.class.end;
-    let first_start = c.first.start;
-    let first_end = c.first.end;
-    let count_start = c.count.start;
-    let count_end = c.count.end;
-    let parents_start = c.parents.start;
-    let parents_end = c.parents.end;
+) -> BpAnswer {
     answer(
         question,
-        &store[bytes_start..bytes_end],
-        &t[at_start..at_end],
-        &t[len_start..len_end],
-        &t[flags_start..flags_end],
-        &t[class_start..class_end],
-        &t[first_start..first_end],
-        &t[count_start..count_end],
-        &t[parents_start..parents_end],
+        cutting::names(t, store),
+        parts::list(t, 3, 0),
+        parts::list(t, 3, 1),
+        parts::list(t, 3, 3),
+        parts::list(t, 3, 4),
+        parts::list(t, 3, 5),
+        parts::list(t, 3, 6),
+        parts::list(t, 3, 7),
         x,
         y,
         work,
@@ -154,67 +134,31 @@ pub(crate) fn ask(
 }
 
 // The ancestors of a class.
-pub(crate) fn ancestors(t: &[u64], store: &[u8], c: Table, x: u64, work: &mut [u64]) -> BpSet
-    requires { ⌜ TableIn c (length (now store)) (length (now t)) ⌝ }
-{
-    let bytes_start = c.bytes.start;
-    let bytes_end = c.bytes.end;
-    let at_start = c.at.start;
-    let at_end = c.at.end;
-    let len_start = c.len.start;
-    let len_end = c.len.end;
-    let flags_start = c.flags.start;
-    let flags_end = c.flags.end;
-    let class_start = c.class.start;
-    let class_end = c.class.end;
-    let first_start = c.first.start;
-    let first_end = c.first.end;
-    let count_start = c.count.start;
-    let count_end = c.count.end;
-    let parents_start = c.parents.start;
-    let parents_end = c.parents.end;
+pub(crate) fn ancestors(t: &[u64], store: &[u8], x: u64, work: &mut [u64]) -> BpSet {
     bracepuffin::bp_ancestors(
-        &store[bytes_start..bytes_end],
-        &t[at_start..at_end],
-        &t[len_start..len_end],
-        &t[flags_start..flags_end],
-        &t[class_start..class_end],
-        &t[first_start..first_end],
-        &t[count_start..count_end],
-        &t[parents_start..parents_end],
+        cutting::names(t, store),
+        parts::list(t, 3, 0),
+        parts::list(t, 3, 1),
+        parts::list(t, 3, 3),
+        parts::list(t, 3, 4),
+        parts::list(t, 3, 5),
+        parts::list(t, 3, 6),
+        parts::list(t, 3, 7),
         x,
         work,
     )
 }
 
 // Where the table is refused.
-pub(crate) fn check(t: &[u64], store: &[u8], c: Table) -> BpTable
-    requires { ⌜ TableIn c (length (now store)) (length (now t)) ⌝ }
-{
-    let bytes_start = c.bytes.start;
-    let bytes_end = c.bytes.end;
-    let at_start = c.at.start;
-    let at_end = c.at.end;
-    let len_start = c.len.start;
-    let len_end = c.len.end;
-    let flags_start = c.flags.start;
-    let flags_end = c.flags.end;
-    let class_start = c.class.start;
-    let class_end = c.class.end;
-    let first_start = c.first.start;
-    let first_end = c.first.end;
-    let count_start = c.count.start;
-    let count_end = c.count.end;
-    let parents_start = c.parents.start;
-    let parents_end = c.parents.end;
+pub(crate) fn check(t: &[u64], store: &[u8]) -> BpTable {
     bracepuffin::bp_check_table(
-        &store[bytes_start..bytes_end],
-        &t[at_start..at_end],
-        &t[len_start..len_end],
-        &t[flags_start..flags_end],
-        &t[class_start..class_end],
-        &t[first_start..first_end],
-        &t[count_start..count_end],
-        &t[parents_start..parents_end],
+        cutting::names(t, store),
+        parts::list(t, 3, 0),
+        parts::list(t, 3, 1),
+        parts::list(t, 3, 3),
+        parts::list(t, 3, 4),
+        parts::list(t, 3, 5),
+        parts::list(t, 3, 6),
+        parts::list(t, 3, 7),
     )
 }

@@ -1,15 +1,12 @@
 // What is said over a table of eight columns, beside the answers recorded.
 use crate::asking;
 use crate::cutting;
-use crate::cutting::MOST;
-use crate::cutting::Table;
+use bracepuffin::BpAnswer;
 use bracepuffin::BpSet;
 use bracepuffin::BpTable;
 use replaying::answers;
 use replaying::answers::Verdict;
-use replaying::lists;
-ghost use lib.ListN.{length};
-ghost use Rattle.replay_queries.specs.Places.{TableIn};
+use replaying::parts;
 
 // The question whose answer stands at index i of a line's answers: a pair has four, one after the other, a table is asked for
 // a join.
@@ -23,23 +20,30 @@ fn question(place: usize, i: usize) -> usize {
 }
 
 // The number that x is put beside there.
-fn other(place: usize, types: &[u64], y: u64, i: usize) -> u64 {
+fn other(place: usize, t: &[u64], y: u64, i: usize) -> u64 {
     if place < 2 {
         return y;
     }
-    if i < types.len() {
-        return types[i];
-    }
-    0
+    parts::number_at(parts::list(t, 3, 2), i)
 }
 
 // How many answers there are.
-fn count(place: usize, types: &[u64]) -> usize {
+fn count(place: usize, t: &[u64]) -> usize {
     match place {
         0 => 1,
         1 => 4,
-        _ => types.len(),
+        _ => parts::list(t, 3, 2).len(),
     }
+}
+
+// Whether a refusal and so many answers are recorded.
+fn are_recorded(r: &[u64], n: usize) -> bool {
+    r.len() != 0 && r.len() - 1 == n
+}
+
+// Whether what was said is the refusal of all and the answer at a place of r.
+fn is_said(said: BpAnswer, r: &[u64], at: usize) -> bool {
+    said.refusal == parts::number_at(r, 0) && said.value == parts::number_at(r, at)
 }
 
 // Whether the answers to a line are those recorded: the refusal of all, then an answer for each.
@@ -47,41 +51,21 @@ fn are_said(
     place: usize,
     t: &[u64],
     store: &[u8],
-    c: Table,
-    types: &[u64],
     x: u64,
     y: u64,
     r: &[u64],
     work: &mut [u64],
-) -> bool
-    requires { ⌜ TableIn c (length (now store)) (length (now t)) ⌝ }
-{
-    if r.len() == 0 {
-        return false;
-    }
-    if r.len() - 1 != count(place, types) {
-        return false;
-    }
-    let refusal = r[0];
-    let mut next: usize = 1;
-    while next < r.len() {
-        let recorded = r[next];
-        let i = next - 1;
-        let said = asking::ask(
-            question(place, i),
-            t,
-            store,
-            c,
-            x,
-            other(place, types, y, i),
-            work,
-        );
-        if said.refusal != refusal || said.value != recorded {
+) -> bool {
+    let n = count(place, t);
+    let mut i: usize = 0;
+    while i < n {
+        let said = asking::ask(question(place, i), t, store, x, other(place, t, y, i), work);
+        i += 1;
+        if !is_said(said, r, i) {
             return false;
         }
-        next += 1;
     }
-    true
+    are_recorded(r, n)
 }
 
 // Whether the words of a set are those of a list and then zeros.
@@ -91,7 +75,7 @@ fn are_words(words: &[u64], list: &[u64]) -> bool {
     }
     let mut i: usize = 0;
     while i < words.len() {
-        if words[i] != word_at(list, i) {
+        if words[i] != parts::number_at(list, i) {
             return false;
         }
         i += 1;
@@ -99,21 +83,13 @@ fn are_words(words: &[u64], list: &[u64]) -> bool {
     true
 }
 
-fn word_at(list: &[u64], i: usize) -> u64 {
-    if i < list.len() {
-        return list[i];
-    }
-    0
-}
-
 // Refusal, count, lowest, and the words.
 fn is_set(s: BpSet, r: &[u64]) -> Verdict {
-    let e = lists::end_before(r, 3, 0);
-    if e < 4 {
-        return Verdict::Unread;
+    if parts::is_last(r, 3, 0) {
+        let is_said = answers::is_same(&[s.refusal, s.count, s.lowest], parts::numbers(r, 0, 3));
+        return answers::judged(is_said && are_words(&s.words, parts::list(r, 3, 0)));
     }
-    let is_said = r[0] == s.refusal && r[1] == s.count && r[2] == s.lowest;
-    answers::judged(is_said && are_words(&s.words, &r[4..e]))
+    Verdict::Unread
 }
 
 // Refusal, part and row.
@@ -126,23 +102,18 @@ fn judge(
     place: usize,
     t: &[u64],
     store: &[u8],
-    c: Table,
     x: u64,
     y: u64,
     r: &[u64],
     work: &mut [u64],
-) -> Verdict
-    requires { ⌜ TableIn c (length (now store)) (length (now t)) ⌝ }
-{
+) -> Verdict {
     if place == 2 {
-        return is_set(asking::ancestors(t, store, c, x, work), r);
+        return is_set(asking::ancestors(t, store, x, work), r);
     }
     if place == 5 {
-        return is_check(asking::check(t, store, c), r);
+        return is_check(asking::check(t, store), r);
     }
-    let start = c.types.start;
-    let end = c.types.end;
-    answers::judged(are_said(place, t, store, c, &t[start..end], x, y, r, work))
+    answers::judged(are_said(place, t, store, x, y, r, work))
 }
 
 // The same with the first entries of these lent.
@@ -150,27 +121,16 @@ fn judge_in(
     place: usize,
     t: &[u64],
     store: &[u8],
-    c: Table,
     x: u64,
     y: u64,
     r: &[u64],
     work: &mut [u64],
-) -> Verdict
-    requires { ⌜ TableIn c (length (now store)) (length (now t)) ⌝ }
-{
-    let room = cutting::number_at(t, 0) as usize;
+) -> Verdict {
+    let room = parts::number_at(t, 0) as usize;
     if work.len() < room {
         return Verdict::Unread;
     }
-    judge(place, t, store, c, x, y, r, &mut work[0..room])
-}
-
-// The same in a local array.
-fn afresh(place: usize, t: &[u64], store: &[u8], c: Table, x: u64, y: u64, r: &[u64]) -> Verdict
-    requires { ⌜ TableIn c (length (now store)) (length (now t)) ⌝ }
-{
-    let mut work = [0u64; 8200];
-    judge_in(place, t, store, c, x, y, r, &mut work)
+    judge(place, t, store, x, y, r, &mut work[0..room])
 }
 
 // How many arguments the line at a place of the names has: a table and its check `n`, a pair two, each other one; none past
@@ -199,14 +159,11 @@ pub(crate) fn over(place: usize, t: &[u64], store: &[u8], q: &[u64], r: &[u64]) 
     if n == 0 || n != arguments(place, n) {
         return Verdict::Unread;
     }
-    let x = argument(place, q[0]);
-    let y = argument(place, q[n - 1]);
-    if MOST < t.len() {
-        return Verdict::Unread;
-    }
-    let c = cutting::table_of(t, store.len());
-    if cutting::is_table(t, c) {
-        return afresh(place, t, store, c, x, y, r);
+    if cutting::is_table(t, store.len()) {
+        let x = argument(place, q[0]);
+        let y = argument(place, q[n - 1]);
+        let mut work = [0u64; 8200];
+        return judge_in(place, t, store, x, y, r, &mut work);
     }
     Verdict::Unread
 }

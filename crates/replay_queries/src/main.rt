@@ -10,10 +10,9 @@ mod judging;
 use replaying::answers::Verdict;
 use replaying::cases;
 use replaying::cases::Case;
+use replaying::parts;
 use replaying::report;
 use replaying::text;
-ghost use Prim.Native.Nat.{_≤_};
-ghost use lib.ListN.{length};
 
 const NAMES: [u8; 40] = *b"table pair ancestors join assign t_check";
 
@@ -29,20 +28,13 @@ fn is_table(line: &[u8]) -> bool {
 }
 
 // The verdict on a case whose numbers are in `numbers`, about the table of the first `held` numbers of `table`.
-fn judge(c: Case, numbers: &[u64], held: usize, table: &[u64], store: &[u8]) -> Verdict
-    requires { ⌜ (c .split ≤ c .count) × (c .count ≤ length (now numbers)) ⌝ }
-{
-    let split = c.split;
-    let count = c.count;
-    if table.len() < held {
-        return Verdict::Unread;
-    }
+fn judge(c: Case, numbers: &[u64], held: usize, table: &[u64], store: &[u8]) -> Verdict {
     judging::over(
         c.place,
-        &table[0..held],
+        parts::numbers(table, 0, held),
         store,
-        &numbers[0..split],
-        &numbers[split..count],
+        parts::numbers(numbers, 0, c.split),
+        parts::numbers(numbers, c.split, c.count),
     )
 }
 
@@ -93,15 +85,10 @@ fn each_line(input: &[u8], table: &mut [u64], store: &mut [u8], counts: &mut [u6
     }
 }
 
-fn run(input: &mut [u8], table: &mut [u64], store: &mut [u8], counts: &mut [u64]) {
-    let n = io::read_full(libc::STDIN_FILENO, input);
-    report::note_full(counts, n == input.len());
-    each_line(&input[..n], table, store, counts);
-}
-
-fn print(counts: &[u64], out: &mut [u8]) {
-    let n = report::put(&NAMES, counts, out);
-    io::write_all(libc::STDOUT_FILENO, &out[..n]);
+fn print(counts: &[u64]) {
+    let mut out = [0u8; report::ROOM];
+    let n = report::put(&NAMES, counts, &mut out);
+    io::write_all(libc::STDOUT_FILENO, parts::bytes(&out, 0, n as u64));
 }
 
 fn main() {
@@ -109,7 +96,13 @@ fn main() {
     let mut table = [0u64; 2048];
     let mut store = [0u8; 2048];
     let mut counts = [0u64; 128];
-    let mut out = [0u8; report::ROOM];
-    run(&mut input, &mut table, &mut store, &mut counts);
-    print(&counts, &mut out);
+    let n = io::read_full(libc::STDIN_FILENO, &mut input);
+    report::note_full(&mut counts, n == input.len());
+    each_line(
+        parts::bytes(&input, 0, n as u64),
+        &mut table,
+        &mut store,
+        &mut counts,
+    );
+    print(&counts);
 }

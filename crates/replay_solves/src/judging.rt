@@ -3,19 +3,11 @@ use crate::calling;
 use crate::cutting;
 use crate::cutting::ANSWERS;
 use crate::cutting::BOUNDS;
-use crate::cutting::Bounds;
-use crate::cutting::Links;
-use crate::cutting::MOST;
-use crate::cutting::Room;
-use crate::cutting::Table;
 use crate::cutting::WORK;
 use bracepuffin::BpSolved;
 use replaying::answers;
 use replaying::answers::Verdict;
-use replaying::lists;
-ghost use Prim.Native.Nat.{_≤_};
-ghost use lib.ListN.{length};
-ghost use Rattle.replay_solves.specs.Places.{TableIn, BoundsIn, LinksIn, RoomIn, LentIn};
+use replaying::parts;
 
 const PATTERN: u64 = 0xa5a5a5a5a5a5a5a5;
 
@@ -50,30 +42,17 @@ fn work_after(refusal: u64) -> u64 {
     0
 }
 
-// Whether the columns of final bounds hold the three lists of r, and the result says how many rows there are.
-fn are_bounds(
-    bounds: u64,
-    r: &[u64],
-    out_comp: &[u64],
-    out_kind: &[u64],
-    out_type: &[u64],
-) -> Verdict {
-    let a = lists::end(r, 0);
-    if a == 0 {
-        return Verdict::Unread;
-    }
-    let b = lists::end(r, a);
-    if b <= a {
-        return Verdict::Unread;
-    }
-    let c = lists::end_before(r, b, 0);
-    if c <= b {
-        return Verdict::Unread;
-    }
-    let are_first = bounds == r[0] && is_list_then(out_comp, &r[1..a], PATTERN);
-    let are_others = is_list_then(out_kind, &r[a + 1..b], PATTERN)
-        && is_list_then(out_type, &r[b + 1..c], PATTERN);
-    answers::judged(are_first && are_others)
+// Whether the columns of final bounds hold the last three lists of r.
+fn are_columns(r: &[u64], out_comp: &[u64], out_kind: &[u64], out_type: &[u64]) -> bool {
+    is_list_then(out_comp, parts::list(r, 2, 1), PATTERN)
+        && is_list_then(out_kind, parts::list(r, 2, 2), PATTERN)
+        && is_list_then(out_type, parts::list(r, 2, 3), PATTERN)
+}
+
+// Whether a result is that of r: refusal, turns, and how many final bounds there are.
+fn is_result(s: BpSolved, r: &[u64]) -> bool {
+    let bounds = parts::list(r, 2, 1).len() as u64;
+    parts::number_at(r, 0) == s.refusal && parts::number_at(r, 1) == s.turns && bounds == s.bounds
 }
 
 // Whether the working slice, of which the first `room` words were lent, is as a solve with that refusal leaves it.
@@ -81,8 +60,9 @@ fn is_work(work: &[u64], room: usize, refusal: u64) -> bool {
     if work.len() < room {
         return false;
     }
-    is_list_then(&work[0..room], &work[0..0], work_after(refusal))
-        && is_list_then(&work[room..], &work[0..0], PATTERN)
+    let none = parts::numbers(work, 0, 0);
+    is_list_then(parts::numbers(work, 0, room), none, work_after(refusal))
+        && is_list_then(parts::numbers(work, room, work.len()), none, PATTERN)
 }
 
 // The verdict on a result and what the slices hold: refusal, turns, the answers, the final bounds.
@@ -94,106 +74,38 @@ fn judge(
     out_kind: &[u64],
     out_type: &[u64],
 ) -> Verdict {
-    let a = lists::end(r, 2);
-    if a <= 2 {
+    if parts::is_last(r, 2, 3) {
+        let are_answers = is_list_then(answers, parts::list(r, 2, 0), PATTERN);
+        return answers::judged(
+            is_result(s, r) && are_answers && are_columns(r, out_comp, out_kind, out_type),
+        );
+    }
+    Verdict::Unread
+}
+
+// The verdict on a problem over a table: five lengths of lent slices, the problem, and what was recorded.
+pub(crate) fn over(t: &[u64], store: &[u8], q: &[u64], r: &[u64]) -> Verdict {
+    if !cutting::is_case(t, store.len(), q) {
         return Verdict::Unread;
     }
-    if r[0] != s.refusal || r[1] != s.turns {
-        return Verdict::Differs;
-    }
-    if is_list_then(answers, &r[3..a], PATTERN) {
-        return are_bounds(s.bounds, &r[a..], out_comp, out_kind, out_type);
-    }
-    Verdict::Differs
-}
-
-// The verdict on a solve into slices that are full of the pattern.
-fn into(
-    t: &[u64],
-    store: &[u8],
-    q: &[u64],
-    r: &[u64],
-    c: Table,
-    b: Bounds,
-    l: Links,
-    m: Room,
-    answers: &mut [u64],
-    out_comp: &mut [u64],
-    out_kind: &mut [u64],
-    out_type: &mut [u64],
-    work: &mut [u64],
-) -> Verdict
-    requires { ⌜ TableIn c (length (now store)) (length (now t)) × BoundsIn b (length (now q)) × LinksIn l (length (now q)) × RoomIn m × LentIn (now answers) (now «out_comp») (now «out_kind») (now «out_type») (now work) ⌝ }
-{
-    let s = calling::solve(
-        t,
-        store,
-        q,
-        c,
-        b,
-        l,
-        m,
-        answers,
-        out_comp,
-        out_kind,
-        out_type,
-        work,
-    );
-    if is_work(work, m.work, s.refusal) {
-        return judge(s, r, answers, out_comp, out_kind, out_type);
-    }
-    Verdict::Differs
-}
-
-// The same in local arrays.
-fn afresh(
-    t: &[u64],
-    store: &[u8],
-    q: &[u64],
-    r: &[u64],
-    c: Table,
-    b: Bounds,
-    l: Links,
-    m: Room,
-) -> Verdict
-    requires { ⌜ TableIn c (length (now store)) (length (now t)) × BoundsIn b (length (now q)) × LinksIn l (length (now q)) × RoomIn m ⌝ }
-{
     let mut answers = [PATTERN; ANSWERS];
     let mut out_comp = [PATTERN; BOUNDS];
     let mut out_kind = [PATTERN; BOUNDS];
     let mut out_type = [PATTERN; BOUNDS];
     let mut work = [PATTERN; WORK];
-    into(
+    let s = calling::solve(
         t,
         store,
         q,
-        r,
-        c,
-        b,
-        l,
-        m,
         &mut answers,
         &mut out_comp,
         &mut out_kind,
         &mut out_type,
         &mut work,
-    )
-}
-
-// The verdict on a problem over a table: five lengths of lent slices, the problem, and what was recorded.
-pub(crate) fn over(t: &[u64], store: &[u8], q: &[u64], r: &[u64]) -> Verdict {
-    if MOST < t.len() || MOST < q.len() {
-        return Verdict::Unread;
+    );
+    let room = cutting::room(q, 4, WORK);
+    if is_work(&work, room, s.refusal) {
+        return judge(s, r, &answers, &out_comp, &out_kind, &out_type);
     }
-    let c = cutting::table_of(t, store.len());
-    let b = cutting::bounds_of(q);
-    let l = cutting::links_of(q, b);
-    let m = cutting::room_of(q);
-    if !cutting::is_table(t, c) {
-        return Verdict::Unread;
-    }
-    if !cutting::is_problem(q, l, m) {
-        return Verdict::Unread;
-    }
-    afresh(t, store, q, r, c, b, l, m)
+    Verdict::Differs
 }

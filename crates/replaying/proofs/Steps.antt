@@ -1,16 +1,17 @@
 -- What the loops, the lists and the verdicts go by, stated as the code meets it.
-use mathlib.Core.Bool.{Bool, true, false, cond, true≢false}
-use mathlib.Core.List.{List}
+use mathlib.Core.Bool.{Bool, true, false, cond, not, _&&_, true≢false}
+use mathlib.Core.List.{List, []}
 use mathlib.Core.Logic.{_↔_}
 use mathlib.Core.Path.{_≡_, refl, sym, ap, _∙_}
-use Prim.Native.Nat.{ℕ, _+_, _%_, _^_, _≤_, _<_}
+use Prim.Native.Nat.{ℕ, _+_, _-_, _%_, _^_, _≤_, _<_}
 use native.Mathlib.Decide.{ℕ-discrete}
+use native.Mathlib.Numerals.{add-one}
 use native.Mathlib.Omega.{arith}
 use lib.Dec.{eqb, leb}
 use borrow.Author.Tests.{eq-eqb, ne-eqb, lt-ltb, le-ltb, le-leb, lt-leb}
-use lib.ListN.{length, getD, set}
+use lib.ListN.{length, getD, set, take, drop}
 use lib.Seq.{ext-getD, set-out}
-use Rattle.replaying.specs.Replaying.{endOf, lastEnd, span, afterOf, verdict, Judges, more, tallied, counted}
+use Rattle.replaying.specs.Replaying.{endOf, lastEnd, span, afterOf, partOf, placeOf, listOf, isLast, verdict, Judges, more, tallied, counted}
 use Rattle.replaying.specs.declared.lists.Span.{Span}
 use Rattle.replaying.specs.declared.answers.Verdict.{Verdict}
 use Rattle.replaying.specs.declared.answers.Verdict.the-variants.{Agrees, Differs, Unread}
@@ -124,3 +125,50 @@ counted-past place v counts n l = sym (simp (ne-eqb _ _ n, le-leb _ _ l))
 pub counted-in : (place : ℕ) (v : Verdict) (counts : List ℕ) → (place ≡ 64 → ⊥) → place < 63 → tallied place v counts ≡ counted place v counts
 unfolding counted
 counted-in place v counts n l = sym (simp (ne-eqb _ _ n, lt-leb _ _ l))
+
+-- ---- parts that are handed out
+
+pub part-turned : (a : List ℕ) (start end : ℕ) → end < start → [] ≡ partOf a start end
+unfolding partOf
+part-turned a start end h = ap (λ (b : Bool). cond (b && leb end (length a)) (take (end - start) (drop start a)) []) (sym (lt-leb start end h))
+
+pub part-past : (a : List ℕ) (start end : ℕ) → start ≤ end → length a < end → [] ≡ partOf a start end
+unfolding partOf
+part-past a start end g h =
+    ap (λ (b : Bool). cond (b && false) (take (end - start) (drop start a)) []) (sym (le-leb start end g))
+    ∙ ap (λ (b : Bool). cond (leb start end && b) (take (end - start) (drop start a)) []) (sym (lt-leb end (length a) h))
+
+pub part-there : (a : List ℕ) (start end : ℕ) → start ≤ end → end ≤ length a → take (end - start) (drop start a) ≡ partOf a start end
+unfolding partOf
+part-there a start end g h =
+    ap (λ (b : Bool). cond b (take (end - start) (drop start a)) []) (ap (λ (b : Bool). true && b) (sym (le-leb end (length a) h)))
+    ∙ ap (λ (b : Bool). cond (b && leb end (length a)) (take (end - start) (drop start a)) []) (sym (le-leb start end g))
+
+-- the first list, and the one after list i
+pub place-first : (a : List ℕ) (from : ℕ) (r : Span) → r ≡ afterOf a (span from from) → r ≡ placeOf a from 0
+unfolding placeOf
+place-first a from r e = e
+
+pub place-next : (a : List ℕ) (from i : ℕ) (s r : Span) → s ≡ placeOf a from i → r ≡ afterOf a s → r ≡ placeOf a from (i + 1)
+unfolding placeOf
+place-next a from i s r p e = e ∙ ap (afterOf a) p ∙ ap (placeOf a from) (sym (add-one i))
+
+pub place-done : (a : List ℕ) (from i k : ℕ) (s : Span) → s ≡ placeOf a from i → i ≤ k → k ≤ i → s ≡ placeOf a from k
+place-done a from i k s p h g = p ∙ ap (placeOf a from) (omega arith)
+
+pub list-there : (a : List ℕ) (from k : ℕ) (s : Span) (r : List ℕ) → s ≡ placeOf a from k → r ≡ partOf a (s .start) (s .end) → r ≡ listOf a from k
+unfolding listOf
+list-there a from k s r p e = e ∙ ap (λ (t : Span). partOf a (t .start) (t .end)) p
+
+-- what a test of `is_last` leaves
+pub not-last : (a : List ℕ) (from k : ℕ) (s : Span) → s ≡ placeOf a from k → s .start ≡ 0 → not (eqb (s .start) 0) ≡ isLast a from k
+unfolding isLast
+not-last a from k s p z =
+    ap (λ (b : Bool). not b) (eq-eqb (s .start) 0 z)
+    ∙ ap (λ (b : Bool). not b && eqb (placeOf a from k .end) (length a)) (sym (eq-eqb (placeOf a from k .start) 0 (ap (λ (t : Span). t .start) (sym p) ∙ z)))
+
+pub last-tested : (a : List ℕ) (from k : ℕ) (s : Span) → s ≡ placeOf a from k → (s .start ≡ 0 → ⊥) → eqb (s .end) (length a) ≡ isLast a from k
+unfolding isLast
+last-tested a from k s p n =
+    ap (λ (t : Span). eqb (t .end) (length a)) p
+    ∙ ap (λ (b : Bool). not b && eqb (placeOf a from k .end) (length a)) (sym (ne-eqb (placeOf a from k .start) 0 (λ z. n (ap (λ (t : Span). t .start) p ∙ z))))

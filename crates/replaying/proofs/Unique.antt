@@ -30,6 +30,18 @@ use Rattle.replaying.proofs.lists.end_before.Reads as end-before-reads
 use Rattle.replaying.proofs.lists.end_before.Kinds as end-before-kinds
 use Rattle.replaying.proofs.lists.after.Reads as after-reads
 use Rattle.replaying.proofs.lists.after.Kinds as after-kinds
+use Rattle.replaying.proofs.parts.number_at.Reads as number-at-reads
+use Rattle.replaying.proofs.parts.number_at.Kinds as number-at-kinds
+use Rattle.replaying.proofs.parts.numbers.Reads as numbers-reads
+use Rattle.replaying.proofs.parts.numbers.Kinds as numbers-kinds
+use Rattle.replaying.proofs.parts.bytes.Reads as bytes-reads
+use Rattle.replaying.proofs.parts.bytes.Kinds as bytes-kinds
+use Rattle.replaying.proofs.parts.place.Reads as place-reads
+use Rattle.replaying.proofs.parts.place.Kinds as place-kinds
+use Rattle.replaying.proofs.parts.list.Reads as list-reads
+use Rattle.replaying.proofs.parts.list.Kinds as list-kinds
+use Rattle.replaying.proofs.parts.is_last.Reads as is-last-reads
+use Rattle.replaying.proofs.parts.is_last.Kinds as is-last-kinds
 use Rattle.replaying.proofs.text.part_end.Reads as part-end-reads
 use Rattle.replaying.proofs.text.part_end.Kinds as part-end-kinds
 use Rattle.replaying.proofs.text.is_same.Reads as text-same-reads
@@ -136,3 +148,29 @@ note-full-one κs a r₁ r₂ x₁ x₂ p q = p ∙ sym q
 pub report-put-one : (κs : Lfts 3) (a : Dens κs report-put-kinds.ps) (r₁ r₂ : resT report-put-kinds.r κs .Denot)
     (x₁ x₂ : AtExit (endedOf 3 report-put-kinds.ps report-put-kinds.r) κs) → report-put-reads.Post κs a r₁ x₁ → report-put-reads.Post κs a r₂ x₂ → (r₁ ≡ r₂) × (now (x₁ .1 .1 .0) ≡ now (x₂ .1 .1 .0))
 report-put-one κs a r₁ r₂ x₁ x₂ p q = (p .0 .filled-is ∙ sym (q .0 .filled-is), p .0 .out-is ∙ sym (q .0 .out-is))
+
+-- ---- parts: of what is handed out, what stands there
+
+pub number-at-one : (κs : Lfts 1) (a : Dens κs number-at-kinds.ps) (r₁ r₂ : resT number-at-kinds.r κs .Denot) (x₁ x₂ : AtExit (endedOf 1 number-at-kinds.ps number-at-kinds.r) κs)
+    → number-at-reads.Post κs a r₁ x₁ → number-at-reads.Post κs a r₂ x₂ → r₁ ≡ r₂
+number-at-one κs a r₁ r₂ x₁ x₂ p q = p ∙ sym q
+
+pub numbers-one : (κs : Lfts 1) (a : Dens κs numbers-kinds.ps) (r₁ r₂ : resT numbers-kinds.r κs .Denot) (x₁ x₂ : AtExit (endedOf 1 numbers-kinds.ps numbers-kinds.r) κs)
+    → numbers-reads.Post κs a r₁ x₁ → numbers-reads.Post κs a r₂ x₂ → now r₁ ≡ now r₂
+numbers-one κs a r₁ r₂ x₁ x₂ p q = p ∙ sym q
+
+pub bytes-one : (κs : Lfts 1) (a : Dens κs bytes-kinds.ps) (r₁ r₂ : resT bytes-kinds.r κs .Denot) (x₁ x₂ : AtExit (endedOf 1 bytes-kinds.ps bytes-kinds.r) κs)
+    → bytes-reads.Post κs a r₁ x₁ → bytes-reads.Post κs a r₂ x₂ → now r₁ ≡ now r₂
+bytes-one κs a r₁ r₂ x₁ x₂ p q = p ∙ sym q
+
+pub place-one : (κs : Lfts 1) (a : Dens κs place-kinds.ps) (r₁ r₂ : resT place-kinds.r κs .Denot) (x₁ x₂ : AtExit (endedOf 1 place-kinds.ps place-kinds.r) κs)
+    → place-reads.Post κs a r₁ x₁ → place-reads.Post κs a r₂ x₂ → r₁ ≡ r₂
+place-one κs a r₁ r₂ x₁ x₂ p q = p .0 ∙ sym (q .0)
+
+pub list-one : (κs : Lfts 1) (a : Dens κs list-kinds.ps) (r₁ r₂ : resT list-kinds.r κs .Denot) (x₁ x₂ : AtExit (endedOf 1 list-kinds.ps list-kinds.r) κs)
+    → list-reads.Post κs a r₁ x₁ → list-reads.Post κs a r₂ x₂ → now r₁ ≡ now r₂
+list-one κs a r₁ r₂ x₁ x₂ p q = p ∙ sym q
+
+pub is-last-one : (κs : Lfts 1) (a : Dens κs is-last-kinds.ps) (r₁ r₂ : resT is-last-kinds.r κs .Denot) (x₁ x₂ : AtExit (endedOf 1 is-last-kinds.ps is-last-kinds.r) κs)
+    → is-last-reads.Post κs a r₁ x₁ → is-last-reads.Post κs a r₂ x₂ → r₁ ≡ r₂
+is-last-one κs a r₁ r₂ x₁ x₂ p q = p ∙ sym q

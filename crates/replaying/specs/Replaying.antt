@@ -1,11 +1,11 @@
 -- What the contracts cite: parts of a text, lists among numbers, and what a verdict does to the counts.
-use mathlib.Core.Bool.{Bool, cond}
-use mathlib.Core.List.{List}
+use mathlib.Core.Bool.{Bool, cond, not, _&&_}
+use mathlib.Core.List.{List, []}
 use mathlib.Core.Logic.{_↔_}
 use mathlib.Core.Path.{_≡_}
-use Prim.Native.Nat.{ℕ, _+_, _-_, _*_, _%_, _^_, _≤_, _<_}
+use Prim.Native.Nat.{ℕ, zero, suc, _+_, _-_, _*_, _%_, _^_, _≤_, _<_}
 use lib.Dec.{eqb, ltb, leb}
-use lib.ListN.{length, getD, set}
+use lib.ListN.{length, getD, set, take, drop}
 use Rattle.replaying.specs.declared.lists.Span.{Span}
 use Rattle.replaying.specs.declared.answers.Verdict.{Verdict}
 use Rattle.replaying.specs.declared.answers.Verdict.the-variants.{Agrees, Differs, Unread}
@@ -55,6 +55,22 @@ pub record After (a : List ℕ) (s r : Span) : Type 0 where
   pub ordered : r .start ≤ r .end
   pub inside : r .end ≤ length a
   pub whole : (r .start ≡ 0 → ⊥) → (r .start ≡ s .end + 1) × (r .end ≡ s .end + 1 + getD a (s .end) 0)
+
+-- the members between two places; none where they do not stand so
+unfoldable pub partOf : List ℕ → ℕ → ℕ → List ℕ
+partOf a start end = cond (leb start end && leb end (length a)) (take (end - start) (drop start a)) []
+
+-- where the members of list k of those that begin at a place stand, and the list
+unfoldable pub placeOf : List ℕ → ℕ → ℕ → Span
+placeOf a from zero = afterOf a (span from from)
+placeOf a from (suc k) = afterOf a (placeOf a from k)
+
+unfoldable pub listOf : List ℕ → ℕ → ℕ → List ℕ
+listOf a from k = partOf a (placeOf a from k .start) (placeOf a from k .end)
+
+-- whether it is whole and ends with the last number
+unfoldable pub isLast : List ℕ → ℕ → ℕ → Bool
+isLast a from k = not (eqb (placeOf a from k .start) 0) && eqb (placeOf a from k .end) (length a)
 
 -- the verdict on a comparison
 abbrev pub verdict : Bool → Verdict

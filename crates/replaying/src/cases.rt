@@ -198,27 +198,39 @@ pub fn room() -> [u8; 1048576]
     [0; 1048576]
 }
 
-// The case of a line. Its numbers are in `numbers`, the arguments before the answers.
-pub fn read(names: &[u8], line: &[u8], numbers: &mut [u64], store: &mut [u8]) -> Case
-    ensures { λ r. ⌜ (r .split ≤ r .count) × (r .count ≤ length (now (numbers .entry))) ⌝ }
+// Whether a line is to be no case.
+fn is_comment(line: &[u8]) -> bool {
+    line.len() != 0 && line[0] == b'#'
+}
+
+// What was read as a case of the name at a place, where there is room for so many numbers.
+fn case_of(r: Reading, place: usize, room: usize) -> Case
+    ensures { λ c. ⌜ (c .split ≤ c .count) × (c .count ≤ room) ⌝ }
 {
-    if 0 < line.len() && line[0] == b'#' {
-        return no_case(COMMENT);
-    }
-    let e = text::part_end(line, 0, b' ');
-    let r = fields(line, e + 1, numbers, store);
     if r.split == 0 || r.count < r.split {
         return no_case(UNREAD);
     }
-    if numbers.len() < r.count {
+    if room < r.count {
         return no_case(UNREAD);
     }
     if r.is_good {
         return Case {
-            place: place(names, &line[0..e]),
+            place,
             count: r.count,
             split: r.split,
         };
     }
     no_case(UNREAD)
+}
+
+// The case of a line. Its numbers are in `numbers`, the arguments before the answers.
+pub fn read(names: &[u8], line: &[u8], numbers: &mut [u64], store: &mut [u8]) -> Case
+    ensures { λ r. ⌜ (r .split ≤ r .count) × (r .count ≤ length (now (numbers .entry))) ⌝ }
+{
+    if is_comment(line) {
+        return no_case(COMMENT);
+    }
+    let e = text::part_end(line, 0, b' ');
+    let r = fields(line, e + 1, numbers, store);
+    case_of(r, place(names, &line[0..e]), numbers.len())
 }

@@ -6,5 +6,6 @@
 pub mod answers;
 pub mod cases;
 pub mod lists;
+pub mod parts;
 pub mod report;
 pub mod text;

@@ -8,8 +8,8 @@ use Rattle.replay_leaves.proofs.on_types.word.Tie as tie
 returns : tie.Need-returns
 returns c = search needs
 
-shared-slice-read-decode : tie.Need-shared-slice-read-decode
-shared-slice-read-decode c = search needs
+number-at-requires : tie.Need-number-at-requires
+number-at-requires c κs = search needs
 
 decode-requires : tie.Need-decode-requires
 decode-requires c κs = search needs
@@ -42,7 +42,7 @@ word-spec =
     tie.close
     (tie.spec
     returns
-    shared-slice-read-decode
+    number-at-requires
     decode-requires
     enum-known-t
     enum-told

@@ -1,2 +1,0 @@
--- Where the lists of a table stand.
-pub mod Places

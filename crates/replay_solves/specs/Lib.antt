@@ -1,2 +1,0 @@
--- Where the lists of a line stand.
-pub mod Places
