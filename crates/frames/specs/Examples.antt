@@ -60,7 +60,7 @@ paperOutput =
     []
 
 pub paper : typeline.typeline (textOf paperInput) ≡ textOf paperOutput
-unfolding typeline.typeline sets.bit sets.clear sets.at sets.member sets.insert sets.remove sets.members sets.first sorted.bisect sorted.place sorted.has sorted.runOf sorted.insertSorted sorted.put types.depth types.arrays lists.elem types.isReference types.wideCategory types.element types.isConcrete types.categories types.hintOfList types.concreteHint compare.compareNumbers compare.compareLists types.compare words.unpack words.pack words.listOf words.goodDigits words.goodUnknown words.baseOf words.typeOf words.wordOf words.legalBase words.legalWord utf8.table utf8.within utf8.matches utf8.firstMatch utf8.sequence utf8.scan utf8.validPrefix utf8.wellFormed checks.firstRefusal names.nameChecks names.checkName view.insertAll view.withParents view.grow view.level view.reached view.reach view.steps view.distance view.ancestor view.allRecorded view.complete view.relation view.relationNumber view.castByFacts view.cast view.common view.below view.anyBelow view.lowest view.nearer view.nearest view.numbers view.candidates view.supertype tables.parentsIn tables.parentsOf tables.mark lattice.sameType lattice.hasAll lattice.unknownAccepts lattice.inEither lattice.unknownUnion lattice.primitiveAssignable lattice.elementsAssignable lattice.arrayParent lattice.assignableApart lattice.isAssignable lattice.producerBoundCompatible lattice.sameRegisterCategory lattice.observedAccepts lattice.anyAccepts lattice.domainAccepts lattice.narrow lattice.underDouble lattice.joinPrimitive lattice.inBoth lattice.joinKnown lattice.joinElements lattice.joinArrayClass lattice.joinApart lattice.join lattice.joinFrom lattice.joinAll lattice.assignableToAll lattice.leastHint lattice.mostSpecificUpper worlds.present rows.objectName rows.cloneableName rows.serializableName rows.noted rows.withName rows.noTables rows.nameRow rows.goodFlags rows.allBelow rows.putAll rows.marked rows.recordMarks rows.recordChecks rows.recordRefusal rows.withRecord rows.recordRow frames.askChecks ordered.present ordered.insert ordered.setOf solving.compareBounds solving.typesOf solving.stateOf solving.producedType solving.arrayElement solving.producedArray solving.comparePairs solving.partners solving.toOne solving.toEach solving.arrayRules solving.additions solving.enqueue solving.insertBound solving.insertAll solving.turn solving.run solving.propagate solving.firstFailing solving.domainCause solving.evidenceFits solving.upperCandidate solving.evidenceCast solving.fallbackJoin solving.hintsOf solving.domainHint solving.ways solving.firstAnswer solving.resolveState solving.swapped solving.linksOf solving.tableOf solving.answers solving.solve problems.noProblem problems.withRow problems.rowChecks problems.rowRefusal problems.problemRow frames.emptyStore hex.digit hex.hexBytes hex.badHex frames.badKind frames.goodLength frames.badOrder hex.numberAt hex.numbersIn hex.bytesNumber frames.messageOf frames.messageRefusal frames.frameChecks frames.withMessage frames.answer frames.accepted frames.frameBytes frames.frame typeline.linesOf printed.decimalFrom printed.decimal printed.hexDigits typeline.printAnswers typeline.print typeline.printFrom text.ascii texts.textOf
+unfolding typeline.typeline sets.bit sets.clear sets.at sets.member sets.insert sets.remove sets.members sets.first sorted.bisect sorted.place sorted.has sorted.insertSorted sorted.put types.depth types.arrays lists.elem types.isReference types.wideCategory types.element types.isConcrete types.categories types.hintOfList types.concreteHint compare.compareNumbers compare.compareLists types.compare words.unpack words.pack words.listOf words.goodDigits words.goodUnknown words.baseOf words.typeOf words.wordOf words.legalBase words.legalWord utf8.table utf8.within utf8.matches utf8.firstMatch utf8.sequence utf8.scan utf8.validPrefix utf8.wellFormed checks.firstRefusal names.nameChecks names.checkName view.insertAll view.withParents view.grow view.level view.reached view.reach view.steps view.distance view.ancestor view.allRecorded view.complete view.relation view.relationNumber view.castByFacts view.cast view.common view.below view.anyBelow view.lowest view.nearer view.nearest view.numbers view.candidates view.supertype tables.ownRun tables.parentsIn tables.parentsOf tables.mark lattice.sameType lattice.hasAll lattice.unknownAccepts lattice.inEither lattice.unknownUnion lattice.primitiveAssignable lattice.elementsAssignable lattice.arrayParent lattice.assignableApart lattice.isAssignable lattice.producerBoundCompatible lattice.sameRegisterCategory lattice.observedAccepts lattice.anyAccepts lattice.domainAccepts lattice.narrow lattice.underDouble lattice.joinPrimitive lattice.inBoth lattice.joinKnown lattice.joinElements lattice.joinArrayClass lattice.joinApart lattice.join lattice.joinFrom lattice.joinAll lattice.assignableToAll lattice.leastHint lattice.mostSpecificUpper worlds.present rows.objectName rows.cloneableName rows.serializableName rows.noted rows.withName rows.noTables rows.nameRow rows.goodFlags rows.allBelow rows.putAll rows.marked rows.recordMarks rows.recordChecks rows.recordRefusal rows.withRecord rows.recordRow frames.askChecks ordered.present ordered.insert ordered.setOf solving.compareBounds solving.typesOf solving.stateOf solving.producedType solving.arrayElement solving.producedArray solving.comparePairs solving.partners solving.toOne solving.toEach solving.arrayRules solving.additions solving.enqueue solving.insertBound solving.insertAll solving.turn solving.run solving.propagate solving.firstFailing solving.domainCause solving.evidenceFits solving.upperCandidate solving.evidenceCast solving.fallbackJoin solving.hintsOf solving.domainHint solving.ways solving.firstAnswer solving.resolveState solving.swapped solving.linksOf solving.tableOf solving.answers solving.solve problems.noProblem problems.withRow problems.rowChecks problems.rowRefusal problems.problemRow frames.emptyStore hex.digit hex.hexBytes hex.badHex frames.badKind frames.goodLength frames.badOrder hex.numberAt hex.numbersIn hex.bytesNumber frames.messageOf frames.messageRefusal frames.frameChecks frames.withMessage frames.answer frames.accepted frames.frameBytes frames.frame typeline.linesOf printed.decimalFrom printed.decimal printed.hexDigits typeline.printAnswers typeline.print typeline.printFrom text.ascii texts.textOf
 paper = refl
 
 -- without the record of Object (line 8) the relation is 2
@@ -94,7 +94,7 @@ unrecordedOutput =
     []
 
 pub unrecorded : typeline.typeline (textOf unrecordedInput) ≡ textOf unrecordedOutput
-unfolding typeline.typeline sets.bit sets.clear sets.at sets.member sets.insert sets.remove sets.members sets.first sorted.bisect sorted.place sorted.has sorted.runOf sorted.insertSorted sorted.put types.depth types.arrays lists.elem types.isReference types.wideCategory types.element types.isConcrete types.categories types.hintOfList types.concreteHint compare.compareNumbers compare.compareLists types.compare words.unpack words.pack words.listOf words.goodDigits words.goodUnknown words.baseOf words.typeOf words.wordOf words.legalBase words.legalWord utf8.table utf8.within utf8.matches utf8.firstMatch utf8.sequence utf8.scan utf8.validPrefix utf8.wellFormed checks.firstRefusal names.nameChecks names.checkName view.insertAll view.withParents view.grow view.level view.reached view.reach view.steps view.distance view.ancestor view.allRecorded view.complete view.relation view.relationNumber view.castByFacts view.cast view.common view.below view.anyBelow view.lowest view.nearer view.nearest view.numbers view.candidates view.supertype tables.parentsIn tables.parentsOf tables.mark lattice.sameType lattice.hasAll lattice.unknownAccepts lattice.inEither lattice.unknownUnion lattice.primitiveAssignable lattice.elementsAssignable lattice.arrayParent lattice.assignableApart lattice.isAssignable lattice.producerBoundCompatible lattice.sameRegisterCategory lattice.observedAccepts lattice.anyAccepts lattice.domainAccepts lattice.narrow lattice.underDouble lattice.joinPrimitive lattice.inBoth lattice.joinKnown lattice.joinElements lattice.joinArrayClass lattice.joinApart lattice.join lattice.joinFrom lattice.joinAll lattice.assignableToAll lattice.leastHint lattice.mostSpecificUpper worlds.present rows.objectName rows.cloneableName rows.serializableName rows.noted rows.withName rows.noTables rows.nameRow rows.goodFlags rows.allBelow rows.putAll rows.marked rows.recordMarks rows.recordChecks rows.recordRefusal rows.withRecord rows.recordRow frames.askChecks ordered.present ordered.insert ordered.setOf solving.compareBounds solving.typesOf solving.stateOf solving.producedType solving.arrayElement solving.producedArray solving.comparePairs solving.partners solving.toOne solving.toEach solving.arrayRules solving.additions solving.enqueue solving.insertBound solving.insertAll solving.turn solving.run solving.propagate solving.firstFailing solving.domainCause solving.evidenceFits solving.upperCandidate solving.evidenceCast solving.fallbackJoin solving.hintsOf solving.domainHint solving.ways solving.firstAnswer solving.resolveState solving.swapped solving.linksOf solving.tableOf solving.answers solving.solve problems.noProblem problems.withRow problems.rowChecks problems.rowRefusal problems.problemRow frames.emptyStore hex.digit hex.hexBytes hex.badHex frames.badKind frames.goodLength frames.badOrder hex.numberAt hex.numbersIn hex.bytesNumber frames.messageOf frames.messageRefusal frames.frameChecks frames.withMessage frames.answer frames.accepted frames.frameBytes frames.frame typeline.linesOf printed.decimalFrom printed.decimal printed.hexDigits typeline.printAnswers typeline.print typeline.printFrom text.ascii texts.textOf
+unfolding typeline.typeline sets.bit sets.clear sets.at sets.member sets.insert sets.remove sets.members sets.first sorted.bisect sorted.place sorted.has sorted.insertSorted sorted.put types.depth types.arrays lists.elem types.isReference types.wideCategory types.element types.isConcrete types.categories types.hintOfList types.concreteHint compare.compareNumbers compare.compareLists types.compare words.unpack words.pack words.listOf words.goodDigits words.goodUnknown words.baseOf words.typeOf words.wordOf words.legalBase words.legalWord utf8.table utf8.within utf8.matches utf8.firstMatch utf8.sequence utf8.scan utf8.validPrefix utf8.wellFormed checks.firstRefusal names.nameChecks names.checkName view.insertAll view.withParents view.grow view.level view.reached view.reach view.steps view.distance view.ancestor view.allRecorded view.complete view.relation view.relationNumber view.castByFacts view.cast view.common view.below view.anyBelow view.lowest view.nearer view.nearest view.numbers view.candidates view.supertype tables.ownRun tables.parentsIn tables.parentsOf tables.mark lattice.sameType lattice.hasAll lattice.unknownAccepts lattice.inEither lattice.unknownUnion lattice.primitiveAssignable lattice.elementsAssignable lattice.arrayParent lattice.assignableApart lattice.isAssignable lattice.producerBoundCompatible lattice.sameRegisterCategory lattice.observedAccepts lattice.anyAccepts lattice.domainAccepts lattice.narrow lattice.underDouble lattice.joinPrimitive lattice.inBoth lattice.joinKnown lattice.joinElements lattice.joinArrayClass lattice.joinApart lattice.join lattice.joinFrom lattice.joinAll lattice.assignableToAll lattice.leastHint lattice.mostSpecificUpper worlds.present rows.objectName rows.cloneableName rows.serializableName rows.noted rows.withName rows.noTables rows.nameRow rows.goodFlags rows.allBelow rows.putAll rows.marked rows.recordMarks rows.recordChecks rows.recordRefusal rows.withRecord rows.recordRow frames.askChecks ordered.present ordered.insert ordered.setOf solving.compareBounds solving.typesOf solving.stateOf solving.producedType solving.arrayElement solving.producedArray solving.comparePairs solving.partners solving.toOne solving.toEach solving.arrayRules solving.additions solving.enqueue solving.insertBound solving.insertAll solving.turn solving.run solving.propagate solving.firstFailing solving.domainCause solving.evidenceFits solving.upperCandidate solving.evidenceCast solving.fallbackJoin solving.hintsOf solving.domainHint solving.ways solving.firstAnswer solving.resolveState solving.swapped solving.linksOf solving.tableOf solving.answers solving.solve problems.noProblem problems.withRow problems.rowChecks problems.rowRefusal problems.problemRow frames.emptyStore hex.digit hex.hexBytes hex.badHex frames.badKind frames.goodLength frames.badOrder hex.numberAt hex.numbersIn hex.bytesNumber frames.messageOf frames.messageRefusal frames.frameChecks frames.withMessage frames.answer frames.accepted frames.frameBytes frames.frame typeline.linesOf printed.decimalFrom printed.decimal printed.hexDigits typeline.printAnswers typeline.print typeline.printFrom text.ascii texts.textOf
 unrecorded = refl
 
 -- 5 for a name not above the last, 4 for a lower kind and for 03 again, 8 for a count over 512, 6 for a component; a refused frame is as if it had not come
@@ -130,7 +130,7 @@ orderOutput =
     []
 
 pub order : typeline.typeline (textOf orderInput) ≡ textOf orderOutput
-unfolding typeline.typeline sets.bit sets.clear sets.at sets.member sets.insert sets.remove sets.members sets.first sorted.bisect sorted.place sorted.has sorted.runOf sorted.insertSorted sorted.put types.depth types.arrays lists.elem types.isReference types.wideCategory types.element types.isConcrete types.categories types.hintOfList types.concreteHint compare.compareNumbers compare.compareLists types.compare words.unpack words.pack words.listOf words.goodDigits words.goodUnknown words.baseOf words.typeOf words.wordOf words.legalBase words.legalWord utf8.table utf8.within utf8.matches utf8.firstMatch utf8.sequence utf8.scan utf8.validPrefix utf8.wellFormed checks.firstRefusal names.nameChecks names.checkName view.insertAll view.withParents view.grow view.level view.reached view.reach view.steps view.distance view.ancestor view.allRecorded view.complete view.relation view.relationNumber view.castByFacts view.cast view.common view.below view.anyBelow view.lowest view.nearer view.nearest view.numbers view.candidates view.supertype tables.parentsIn tables.parentsOf tables.mark lattice.sameType lattice.hasAll lattice.unknownAccepts lattice.inEither lattice.unknownUnion lattice.primitiveAssignable lattice.elementsAssignable lattice.arrayParent lattice.assignableApart lattice.isAssignable lattice.producerBoundCompatible lattice.sameRegisterCategory lattice.observedAccepts lattice.anyAccepts lattice.domainAccepts lattice.narrow lattice.underDouble lattice.joinPrimitive lattice.inBoth lattice.joinKnown lattice.joinElements lattice.joinArrayClass lattice.joinApart lattice.join lattice.joinFrom lattice.joinAll lattice.assignableToAll lattice.leastHint lattice.mostSpecificUpper worlds.present rows.objectName rows.cloneableName rows.serializableName rows.noted rows.withName rows.noTables rows.nameRow rows.goodFlags rows.allBelow rows.putAll rows.marked rows.recordMarks rows.recordChecks rows.recordRefusal rows.withRecord rows.recordRow frames.askChecks ordered.present ordered.insert ordered.setOf solving.compareBounds solving.typesOf solving.stateOf solving.producedType solving.arrayElement solving.producedArray solving.comparePairs solving.partners solving.toOne solving.toEach solving.arrayRules solving.additions solving.enqueue solving.insertBound solving.insertAll solving.turn solving.run solving.propagate solving.firstFailing solving.domainCause solving.evidenceFits solving.upperCandidate solving.evidenceCast solving.fallbackJoin solving.hintsOf solving.domainHint solving.ways solving.firstAnswer solving.resolveState solving.swapped solving.linksOf solving.tableOf solving.answers solving.solve problems.noProblem problems.withRow problems.rowChecks problems.rowRefusal problems.problemRow frames.emptyStore hex.digit hex.hexBytes hex.badHex frames.badKind frames.goodLength frames.badOrder hex.numberAt hex.numbersIn hex.bytesNumber frames.messageOf frames.messageRefusal frames.frameChecks frames.withMessage frames.answer frames.accepted frames.frameBytes frames.frame typeline.linesOf printed.decimalFrom printed.decimal printed.hexDigits typeline.printAnswers typeline.print typeline.printFrom text.ascii texts.textOf
+unfolding typeline.typeline sets.bit sets.clear sets.at sets.member sets.insert sets.remove sets.members sets.first sorted.bisect sorted.place sorted.has sorted.insertSorted sorted.put types.depth types.arrays lists.elem types.isReference types.wideCategory types.element types.isConcrete types.categories types.hintOfList types.concreteHint compare.compareNumbers compare.compareLists types.compare words.unpack words.pack words.listOf words.goodDigits words.goodUnknown words.baseOf words.typeOf words.wordOf words.legalBase words.legalWord utf8.table utf8.within utf8.matches utf8.firstMatch utf8.sequence utf8.scan utf8.validPrefix utf8.wellFormed checks.firstRefusal names.nameChecks names.checkName view.insertAll view.withParents view.grow view.level view.reached view.reach view.steps view.distance view.ancestor view.allRecorded view.complete view.relation view.relationNumber view.castByFacts view.cast view.common view.below view.anyBelow view.lowest view.nearer view.nearest view.numbers view.candidates view.supertype tables.ownRun tables.parentsIn tables.parentsOf tables.mark lattice.sameType lattice.hasAll lattice.unknownAccepts lattice.inEither lattice.unknownUnion lattice.primitiveAssignable lattice.elementsAssignable lattice.arrayParent lattice.assignableApart lattice.isAssignable lattice.producerBoundCompatible lattice.sameRegisterCategory lattice.observedAccepts lattice.anyAccepts lattice.domainAccepts lattice.narrow lattice.underDouble lattice.joinPrimitive lattice.inBoth lattice.joinKnown lattice.joinElements lattice.joinArrayClass lattice.joinApart lattice.join lattice.joinFrom lattice.joinAll lattice.assignableToAll lattice.leastHint lattice.mostSpecificUpper worlds.present rows.objectName rows.cloneableName rows.serializableName rows.noted rows.withName rows.noTables rows.nameRow rows.goodFlags rows.allBelow rows.putAll rows.marked rows.recordMarks rows.recordChecks rows.recordRefusal rows.withRecord rows.recordRow frames.askChecks ordered.present ordered.insert ordered.setOf solving.compareBounds solving.typesOf solving.stateOf solving.producedType solving.arrayElement solving.producedArray solving.comparePairs solving.partners solving.toOne solving.toEach solving.arrayRules solving.additions solving.enqueue solving.insertBound solving.insertAll solving.turn solving.run solving.propagate solving.firstFailing solving.domainCause solving.evidenceFits solving.upperCandidate solving.evidenceCast solving.fallbackJoin solving.hintsOf solving.domainHint solving.ways solving.firstAnswer solving.resolveState solving.swapped solving.linksOf solving.tableOf solving.answers solving.solve problems.noProblem problems.withRow problems.rowChecks problems.rowRefusal problems.problemRow frames.emptyStore hex.digit hex.hexBytes hex.badHex frames.badKind frames.goodLength frames.badOrder hex.numberAt hex.numbersIn hex.bytesNumber frames.messageOf frames.messageRefusal frames.frameChecks frames.withMessage frames.answer frames.accepted frames.frameBytes frames.frame typeline.linesOf printed.decimalFrom printed.decimal printed.hexDigits typeline.printAnswers typeline.print typeline.printFrom text.ascii texts.textOf
 order = refl
 
 -- odd, upper case, empty, an unknown kind; 10 for a name, then 5 for one not above the last that was taken, then 9
@@ -159,7 +159,7 @@ linesOutput =
     []
 
 pub lines : typeline.typeline (textOf linesInput) ≡ textOf linesOutput
-unfolding typeline.typeline sets.bit sets.clear sets.at sets.member sets.insert sets.remove sets.members sets.first sorted.bisect sorted.place sorted.has sorted.runOf sorted.insertSorted sorted.put types.depth types.arrays lists.elem types.isReference types.wideCategory types.element types.isConcrete types.categories types.hintOfList types.concreteHint compare.compareNumbers compare.compareLists types.compare words.unpack words.pack words.listOf words.goodDigits words.goodUnknown words.baseOf words.typeOf words.wordOf words.legalBase words.legalWord utf8.table utf8.within utf8.matches utf8.firstMatch utf8.sequence utf8.scan utf8.validPrefix utf8.wellFormed checks.firstRefusal names.nameChecks names.checkName view.insertAll view.withParents view.grow view.level view.reached view.reach view.steps view.distance view.ancestor view.allRecorded view.complete view.relation view.relationNumber view.castByFacts view.cast view.common view.below view.anyBelow view.lowest view.nearer view.nearest view.numbers view.candidates view.supertype tables.parentsIn tables.parentsOf tables.mark lattice.sameType lattice.hasAll lattice.unknownAccepts lattice.inEither lattice.unknownUnion lattice.primitiveAssignable lattice.elementsAssignable lattice.arrayParent lattice.assignableApart lattice.isAssignable lattice.producerBoundCompatible lattice.sameRegisterCategory lattice.observedAccepts lattice.anyAccepts lattice.domainAccepts lattice.narrow lattice.underDouble lattice.joinPrimitive lattice.inBoth lattice.joinKnown lattice.joinElements lattice.joinArrayClass lattice.joinApart lattice.join lattice.joinFrom lattice.joinAll lattice.assignableToAll lattice.leastHint lattice.mostSpecificUpper worlds.present rows.objectName rows.cloneableName rows.serializableName rows.noted rows.withName rows.noTables rows.nameRow rows.goodFlags rows.allBelow rows.putAll rows.marked rows.recordMarks rows.recordChecks rows.recordRefusal rows.withRecord rows.recordRow frames.askChecks ordered.present ordered.insert ordered.setOf solving.compareBounds solving.typesOf solving.stateOf solving.producedType solving.arrayElement solving.producedArray solving.comparePairs solving.partners solving.toOne solving.toEach solving.arrayRules solving.additions solving.enqueue solving.insertBound solving.insertAll solving.turn solving.run solving.propagate solving.firstFailing solving.domainCause solving.evidenceFits solving.upperCandidate solving.evidenceCast solving.fallbackJoin solving.hintsOf solving.domainHint solving.ways solving.firstAnswer solving.resolveState solving.swapped solving.linksOf solving.tableOf solving.answers solving.solve problems.noProblem problems.withRow problems.rowChecks problems.rowRefusal problems.problemRow frames.emptyStore hex.digit hex.hexBytes hex.badHex frames.badKind frames.goodLength frames.badOrder hex.numberAt hex.numbersIn hex.bytesNumber frames.messageOf frames.messageRefusal frames.frameChecks frames.withMessage frames.answer frames.accepted frames.frameBytes frames.frame typeline.linesOf printed.decimalFrom printed.decimal printed.hexDigits typeline.printAnswers typeline.print typeline.printFrom text.ascii texts.textOf
+unfolding typeline.typeline sets.bit sets.clear sets.at sets.member sets.insert sets.remove sets.members sets.first sorted.bisect sorted.place sorted.has sorted.insertSorted sorted.put types.depth types.arrays lists.elem types.isReference types.wideCategory types.element types.isConcrete types.categories types.hintOfList types.concreteHint compare.compareNumbers compare.compareLists types.compare words.unpack words.pack words.listOf words.goodDigits words.goodUnknown words.baseOf words.typeOf words.wordOf words.legalBase words.legalWord utf8.table utf8.within utf8.matches utf8.firstMatch utf8.sequence utf8.scan utf8.validPrefix utf8.wellFormed checks.firstRefusal names.nameChecks names.checkName view.insertAll view.withParents view.grow view.level view.reached view.reach view.steps view.distance view.ancestor view.allRecorded view.complete view.relation view.relationNumber view.castByFacts view.cast view.common view.below view.anyBelow view.lowest view.nearer view.nearest view.numbers view.candidates view.supertype tables.ownRun tables.parentsIn tables.parentsOf tables.mark lattice.sameType lattice.hasAll lattice.unknownAccepts lattice.inEither lattice.unknownUnion lattice.primitiveAssignable lattice.elementsAssignable lattice.arrayParent lattice.assignableApart lattice.isAssignable lattice.producerBoundCompatible lattice.sameRegisterCategory lattice.observedAccepts lattice.anyAccepts lattice.domainAccepts lattice.narrow lattice.underDouble lattice.joinPrimitive lattice.inBoth lattice.joinKnown lattice.joinElements lattice.joinArrayClass lattice.joinApart lattice.join lattice.joinFrom lattice.joinAll lattice.assignableToAll lattice.leastHint lattice.mostSpecificUpper worlds.present rows.objectName rows.cloneableName rows.serializableName rows.noted rows.withName rows.noTables rows.nameRow rows.goodFlags rows.allBelow rows.putAll rows.marked rows.recordMarks rows.recordChecks rows.recordRefusal rows.withRecord rows.recordRow frames.askChecks ordered.present ordered.insert ordered.setOf solving.compareBounds solving.typesOf solving.stateOf solving.producedType solving.arrayElement solving.producedArray solving.comparePairs solving.partners solving.toOne solving.toEach solving.arrayRules solving.additions solving.enqueue solving.insertBound solving.insertAll solving.turn solving.run solving.propagate solving.firstFailing solving.domainCause solving.evidenceFits solving.upperCandidate solving.evidenceCast solving.fallbackJoin solving.hintsOf solving.domainHint solving.ways solving.firstAnswer solving.resolveState solving.swapped solving.linksOf solving.tableOf solving.answers solving.solve problems.noProblem problems.withRow problems.rowChecks problems.rowRefusal problems.problemRow frames.emptyStore hex.digit hex.hexBytes hex.badHex frames.badKind frames.goodLength frames.badOrder hex.numberAt hex.numbersIn hex.bytesNumber frames.messageOf frames.messageRefusal frames.frameChecks frames.withMessage frames.answer frames.accepted frames.frameBytes frames.frame typeline.linesOf printed.decimalFrom printed.decimal printed.hexDigits typeline.printAnswers typeline.print typeline.printFrom text.ascii texts.textOf
 lines = refl
 
 -- 20 from a run leaves the state and the rank: 09 is taken after it, and refused 4 after an answer
@@ -185,5 +185,5 @@ lateOutput =
     []
 
 pub late : typeline.typeline (textOf lateInput) ≡ textOf lateOutput
-unfolding typeline.typeline sets.bit sets.clear sets.at sets.member sets.insert sets.remove sets.members sets.first sorted.bisect sorted.place sorted.has sorted.runOf sorted.insertSorted sorted.put types.depth types.arrays lists.elem types.isReference types.wideCategory types.element types.isConcrete types.categories types.hintOfList types.concreteHint compare.compareNumbers compare.compareLists types.compare words.unpack words.pack words.listOf words.goodDigits words.goodUnknown words.baseOf words.typeOf words.wordOf words.legalBase words.legalWord utf8.table utf8.within utf8.matches utf8.firstMatch utf8.sequence utf8.scan utf8.validPrefix utf8.wellFormed checks.firstRefusal names.nameChecks names.checkName view.insertAll view.withParents view.grow view.level view.reached view.reach view.steps view.distance view.ancestor view.allRecorded view.complete view.relation view.relationNumber view.castByFacts view.cast view.common view.below view.anyBelow view.lowest view.nearer view.nearest view.numbers view.candidates view.supertype tables.parentsIn tables.parentsOf tables.mark lattice.sameType lattice.hasAll lattice.unknownAccepts lattice.inEither lattice.unknownUnion lattice.primitiveAssignable lattice.elementsAssignable lattice.arrayParent lattice.assignableApart lattice.isAssignable lattice.producerBoundCompatible lattice.sameRegisterCategory lattice.observedAccepts lattice.anyAccepts lattice.domainAccepts lattice.narrow lattice.underDouble lattice.joinPrimitive lattice.inBoth lattice.joinKnown lattice.joinElements lattice.joinArrayClass lattice.joinApart lattice.join lattice.joinFrom lattice.joinAll lattice.assignableToAll lattice.leastHint lattice.mostSpecificUpper worlds.present rows.objectName rows.cloneableName rows.serializableName rows.noted rows.withName rows.noTables rows.nameRow rows.goodFlags rows.allBelow rows.putAll rows.marked rows.recordMarks rows.recordChecks rows.recordRefusal rows.withRecord rows.recordRow frames.askChecks ordered.present ordered.insert ordered.setOf solving.compareBounds solving.typesOf solving.stateOf solving.producedType solving.arrayElement solving.producedArray solving.comparePairs solving.partners solving.toOne solving.toEach solving.arrayRules solving.additions solving.enqueue solving.insertBound solving.insertAll solving.turn solving.run solving.propagate solving.firstFailing solving.domainCause solving.evidenceFits solving.upperCandidate solving.evidenceCast solving.fallbackJoin solving.hintsOf solving.domainHint solving.ways solving.firstAnswer solving.resolveState solving.swapped solving.linksOf solving.tableOf solving.answers solving.solve problems.noProblem problems.withRow problems.rowChecks problems.rowRefusal problems.problemRow frames.emptyStore hex.digit hex.hexBytes hex.badHex frames.badKind frames.goodLength frames.badOrder hex.numberAt hex.numbersIn hex.bytesNumber frames.messageOf frames.messageRefusal frames.frameChecks frames.withMessage frames.answer frames.accepted frames.frameBytes frames.frame typeline.linesOf printed.decimalFrom printed.decimal printed.hexDigits typeline.printAnswers typeline.print typeline.printFrom text.ascii texts.textOf
+unfolding typeline.typeline sets.bit sets.clear sets.at sets.member sets.insert sets.remove sets.members sets.first sorted.bisect sorted.place sorted.has sorted.insertSorted sorted.put types.depth types.arrays lists.elem types.isReference types.wideCategory types.element types.isConcrete types.categories types.hintOfList types.concreteHint compare.compareNumbers compare.compareLists types.compare words.unpack words.pack words.listOf words.goodDigits words.goodUnknown words.baseOf words.typeOf words.wordOf words.legalBase words.legalWord utf8.table utf8.within utf8.matches utf8.firstMatch utf8.sequence utf8.scan utf8.validPrefix utf8.wellFormed checks.firstRefusal names.nameChecks names.checkName view.insertAll view.withParents view.grow view.level view.reached view.reach view.steps view.distance view.ancestor view.allRecorded view.complete view.relation view.relationNumber view.castByFacts view.cast view.common view.below view.anyBelow view.lowest view.nearer view.nearest view.numbers view.candidates view.supertype tables.ownRun tables.parentsIn tables.parentsOf tables.mark lattice.sameType lattice.hasAll lattice.unknownAccepts lattice.inEither lattice.unknownUnion lattice.primitiveAssignable lattice.elementsAssignable lattice.arrayParent lattice.assignableApart lattice.isAssignable lattice.producerBoundCompatible lattice.sameRegisterCategory lattice.observedAccepts lattice.anyAccepts lattice.domainAccepts lattice.narrow lattice.underDouble lattice.joinPrimitive lattice.inBoth lattice.joinKnown lattice.joinElements lattice.joinArrayClass lattice.joinApart lattice.join lattice.joinFrom lattice.joinAll lattice.assignableToAll lattice.leastHint lattice.mostSpecificUpper worlds.present rows.objectName rows.cloneableName rows.serializableName rows.noted rows.withName rows.noTables rows.nameRow rows.goodFlags rows.allBelow rows.putAll rows.marked rows.recordMarks rows.recordChecks rows.recordRefusal rows.withRecord rows.recordRow frames.askChecks ordered.present ordered.insert ordered.setOf solving.compareBounds solving.typesOf solving.stateOf solving.producedType solving.arrayElement solving.producedArray solving.comparePairs solving.partners solving.toOne solving.toEach solving.arrayRules solving.additions solving.enqueue solving.insertBound solving.insertAll solving.turn solving.run solving.propagate solving.firstFailing solving.domainCause solving.evidenceFits solving.upperCandidate solving.evidenceCast solving.fallbackJoin solving.hintsOf solving.domainHint solving.ways solving.firstAnswer solving.resolveState solving.swapped solving.linksOf solving.tableOf solving.answers solving.solve problems.noProblem problems.withRow problems.rowChecks problems.rowRefusal problems.problemRow frames.emptyStore hex.digit hex.hexBytes hex.badHex frames.badKind frames.goodLength frames.badOrder hex.numberAt hex.numbersIn hex.bytesNumber frames.messageOf frames.messageRefusal frames.frameChecks frames.withMessage frames.answer frames.accepted frames.frameBytes frames.frame typeline.linesOf printed.decimalFrom printed.decimal printed.hexDigits typeline.printAnswers typeline.print typeline.printFrom text.ascii texts.textOf
 late = refl

@@ -2,34 +2,21 @@
 use mathlib.Core.Path.{_≡_, refl, sym, ap, _∙_}
 use mathlib.Core.Bool.{Bool, true, false, cond}
 use mathlib.Core.List.{List, [], _∷_}
-use Prim.Native.Nat.{ℕ, suc, _+_, _-_, _*_, _%_, _≤_, _<_}
+use Prim.Native.Nat.{ℕ, suc, _+_, _*_, _/_, _%_, _≤_, _<_}
 use native.Mathlib.Decide.{ℕ-discrete}
 use native.Mathlib.Omega.{arith}
 use native.Mathlib.Numerals.{add-one}
 use lib.Dec.{ltb}
-use lib.ListN.{length, take, drop, getD, set, length-take, length-set}
+use lib.ListN.{length, take, drop, getD, set, length-take, length-set, drop-of-length-le}
+use borrow.Author.Tests.{eq-eqb, ne-eqb}
 use lib.Seq.{drop-cons, getD-take, getD-set-same, getD-set-other, ext-getD, length-take-le}
 use Rattle.sets.specs.Sets.{at, insert, remove, members, first}
 use Rattle.sets.specs.Bits.{first-le}
-use Rattle.sorted.specs.Sorted.{runOf}
-use Rattle.sorted.specs.Places.{place-le}
 use Rattle.view.specs.View.{View, insertAll, withParents}
 use Rattle.view.specs.Frontier.{members-pop, members-none}
-use Rattle.tables.specs.Table.{marksRoom, parentsIn, between, mark}
+use Rattle.tables.specs.Table.{marksRoom, parentsIn, ownRun, mark}
 
 -- ---- with_parents: the keys of the run, one by one
-
-between-none : (i past : ℕ) (l : List ℕ) → past ≤ i → between i past l ≡ []
-between-none i past l h = ap (λ (n : ℕ). take n (drop i l)) (let e : past - i ≡ 0 = omega arith in e)
-
-between-step : (i past : ℕ) (l : List ℕ) → i < past → i < length l → between i past l ≡ getD l i 0 ∷ between (i + 1) past l
-between-step i past l h k =
-    ap (λ (n : ℕ). take n (drop i l)) (let e : past - i ≡ suc (past - (i + 1)) = omega arith in e)
-    ∙ ap (take (suc (past - (i + 1)))) (drop-cons l i 0 k ∙ ap (λ (n : ℕ). getD l i 0 ∷ drop n l) (sym (add-one i)))
-
-pub parents-end : (names i past : ℕ) (l s : List ℕ) → past ≤ i → insertAll s (parentsIn names (between i past l)) ≡ s
-unfolding insertAll parentsIn
-parents-end names i past l s h = ap (λ (b : List ℕ). insertAll s (parentsIn names b)) (between-none i past l h)
 
 parents-cons : (names e : ℕ) (s es : List ℕ)
     → insertAll s (parentsIn names (e ∷ es)) ≡ insertAll (cond (ltb (e % 1024) names) (insert s (e % 1024)) s) (parentsIn names es)
@@ -40,18 +27,31 @@ parents-cons names e s es = go (ltb (e % 1024) names)
     go true = refl
     go false = refl
 
-pub parents-step : (names i past n : ℕ) (a s : List ℕ) → i < past → past ≤ length (take n a)
-    → insertAll s (parentsIn names (between i past (take n a)))
-    ≡ insertAll (cond (ltb (getD a i 0 % 1024) names) (insert s (getD a i 0 % 1024)) s) (parentsIn names (between (i + 1) past (take n a)))
-parents-step names i past n a s h k =
-    ap (λ (b : List ℕ). insertAll s (parentsIn names b))
-    (between-step i past (take n a) h (omega arith) ∙ ap (λ (e : ℕ). e ∷ between (i + 1) past (take n a)) (getD-take n a i 0 (let e = length-take n a in omega arith)))
-    ∙ parents-cons names (getD a i 0) s (between (i + 1) past (take n a))
+-- the keys from i on
+module _ (names c n : ℕ) (a s : List ℕ) (i : ℕ) where
+  pub parents-end : length (take n a) ≤ i → insertAll s (parentsIn names (ownRun c (drop i (take n a)))) ≡ s
+  unfolding insertAll parentsIn ownRun
+  parents-end h = rw (drop-of-length-le (take n a) {i = i} h)
 
--- the run ends inside the entries, on any contents
-pub run-past : (c n : ℕ) (a : List ℕ) → (runOf 1024 c (take n a) .past ≤ length a) × (runOf 1024 c (take n a) .past ≤ length (take n a))
-unfolding runOf
-run-past c n a = let h = place-le (c * 1024 + 1024) (take n a) in let e = length-take n a in (omega arith, h)
+  module _ (h : i < length (take n a)) where
+    next : drop i (take n a) ≡ getD a i 0 ∷ drop (i + 1) (take n a)
+    next =
+        drop-cons (take n a) i 0 h
+        ∙ ap (λ (e : ℕ). e ∷ drop (suc i) (take n a)) (getD-take n a i 0 (let e = length-take n a in omega arith))
+        ∙ ap (λ (m : ℕ). getD a i 0 ∷ drop m (take n a)) (sym (add-one i))
+
+    -- one of another class ends the run
+    pub parents-stop : (getD a i 0 / 1024 ≡ c → ⊥) → insertAll s (parentsIn names (ownRun c (drop i (take n a)))) ≡ s
+    unfolding insertAll parentsIn ownRun
+    parents-stop m = rw (next, ne-eqb (getD a i 0 / 1024) c m)
+
+    longer : getD a i 0 / 1024 ≡ c → ownRun c (drop i (take n a)) ≡ getD a i 0 ∷ ownRun c (drop (i + 1) (take n a))
+    unfolding ownRun
+    longer e = rw (next, eq-eqb (getD a i 0 / 1024) c e)
+
+    pub parents-step : getD a i 0 / 1024 ≡ c → insertAll s (parentsIn names (ownRun c (drop i (take n a))))
+        ≡ insertAll (cond (ltb (getD a i 0 % 1024) names) (insert s (getD a i 0 % 1024)) s) (parentsIn names (ownRun c (drop (i + 1) (take n a))))
+    parents-step e = ap (λ (es : List ℕ). insertAll s (parentsIn names es)) (longer e) ∙ parents-cons names (getD a i 0) s (ownRun c (drop (i + 1) (take n a)))
 
 -- ---- recorded: the words, one by one
 

@@ -10,7 +10,7 @@ ghost use lib.Dec.{ltb};
 ghost use lib.ListN.{length};
 ghost use Rattle.sets.specs.Sets.{at, member, members, insert};
 ghost use Rattle.view.specs.View.{insertAll, withParents, reached, reach, ancestors, distance, ancestor, relation, cast, numberOf};
-ghost use Rattle.tables.specs.Table.{marksRoom, mark, viewOf};
+ghost use Rattle.tables.specs.Table.{namesRoom, marksRoom, mark, viewOf};
 ghost use Rattle.hierarchy.specs.Walked.{castMarked, Walked};
 
 // usize::MAX / 4, the distance of an Object that is not reached.
@@ -26,16 +26,20 @@ fn with_class(s: Set, names: u64, p: u64) -> Set
     s
 }
 
-// The set with the parents of c.
+// The set with the parents of c: the keys from its place on, as long as they are of c.
 pub fn with_parents(pairs: &[u64], marks: &[u64], t: Tables, c: u64, s: Set) -> Set
+    requires { ⌜ c < namesRoom ⌝ }
     ensures { λ r. ⌜ r .words ≡ insertAll (s .words) (viewOf (now (pairs .entry)) (now (marks .entry)) t .parents c) ⌝ }
 {
-    let run = sorted::run(pairs, t.pairs, NAMES, c);
-    let past = run.past;
-    let mut i = run.first;
+    let past = sorted::count(pairs, t.pairs);
+    let mut i = sorted::position(pairs, t.pairs, c * NAMES);
     let mut all = s;
     while i < past {
-        all = with_class(all, t.names, pairs[i] % NAMES);
+        let key = pairs[i];
+        if key / NAMES != c {
+            return all;
+        }
+        all = with_class(all, t.names, key % NAMES);
         i += 1;
     }
     all

@@ -17,16 +17,15 @@ use Rattle.order.specs.Lists.{elem}
 use Rattle.order.specs.Truth.{implied-both}
 use Rattle.sets.specs.Sets.{member}
 use Rattle.sets.specs.Laws.{member-past, member-empty}
-use Rattle.sorted.specs.Sorted.{Above, Sorted, runOf}
+use Rattle.sorted.specs.Sorted.{Above, Sorted, place}
 use Rattle.sorted.specs.Laws.{above-sorted, put-sorted, elem-put, same-members}
-use Rattle.sorted.specs.Parts.{part-sorted}
-use Rattle.sorted.specs.Places.{run-only}
+use Rattle.sorted.specs.Parts.{sorted-drop}
 use Rattle.order.specs.declared.Order.{Order}
 use Rattle.order.specs.declared.Order.the-variants.{Less, Equal, Greater}
 use Rattle.names.specs.Names.{nameOf, nameAt, next}
 use Rattle.names.specs.Table.{number-of-name}
 use Rattle.view.specs.View.{numberOf}
-use Rattle.tables.specs.Table.{parentsIn, mark, mark-length, parentsOf as keyParents, parents-below, parents-entry}
+use Rattle.tables.specs.Table.{parentsIn, mark, mark-length, ownRun, keysFrom, own-get, own-sorted, parentsOf as keyParents, parents-below, parents-entry}
 use Rattle.lattice.specs.World.{present, worldWith}
 use Rattle.rows.specs.declared.Outcome.{Outcome}
 use Rattle.rows.specs.Rows.{objectName, cloneableName, serializableName, noTables, State, key, isMarked, Ran}
@@ -170,19 +169,7 @@ module _ (names c : ℕ) where
   -- THE PARENTS OF A CLASS STAND ASCENDING
   pub parents-sorted : (l : List ℕ) → Sorted l → Sorted (keyParents names l c)
   unfolding keyParents
-  parents-sorted l g =
-      in-sorted (take (past - first) (drop first l)) (part-sorted first past l g)
-      (λ i h.
-      let b = length-take (past - first) (drop first l) in
-      let d = length-drop first l in
-      ap (λ (x : ℕ). x / 1024) (getD-take (past - first) (drop first l) i 0 (omega arith) ∙ getD-drop first l i 0)
-      ∙ run-only 1024 c l g (omega arith) (first + i) (omega arith) (omega arith) (omega arith))
-    where
-      first : ℕ
-      first = runOf 1024 c l .first
-
-      past : ℕ
-      past = runOf 1024 c l .past
+  parents-sorted l g = in-sorted (ownRun c (keysFrom c l)) (own-sorted c (keysFrom c l) (sorted-drop (place (c * 1024) l) l g)) (λ i h. let o = own-get c (keysFrom c l) i h in ap (λ (x : ℕ). x / 1024) (o .0) ∙ o .2)
 
 -- a number that is written as all ones where it is missing
 present-number : (o : Option ℕ) → ((i : ℕ) → o ≡ some i → i < 2 ^ 64 - 1) → present (numberOf o) ≡ o
