@@ -88,14 +88,14 @@ fn letter(b: u8) -> u64
     }
 }
 
-// Whether a ';' stands among the sixteen bytes from i on. None ends the loop early, so that the machine tests them at once.
+// Whether a ';' stands among the eight bytes from i on. None ends the loop early, so that the machine tests them at once.
 fn ends_in_block(s: &[u8], i: usize) -> bool
-    requires { ⌜ i + 16 ≤ length (now s) ⌝ }
-    ensures { λ r. ⌜ r ≡ ltb (indexOf (byte ";") (drop i (now (s .entry)))) 16 ⌝ }
+    requires { ⌜ i + 8 ≤ length (now s) ⌝ }
+    ensures { λ r. ⌜ r ≡ ltb (indexOf (byte ";") (drop i (now (s .entry)))) 8 ⌝ }
 {
     let mut found = false;
     let mut k = 0;
-    while k < 16 {
+    while k < 8 {
         if s[i + k] == b';' {
             found = true;
         }
@@ -104,18 +104,18 @@ fn ends_in_block(s: &[u8], i: usize) -> bool
     found
 }
 
-// Passes blocks of sixteen bytes without a ';': the first one is the same from the result on.
+// Passes blocks of eight bytes without a ';': the first one is the same from the result on.
 fn skip_blocks(s: &[u8], from: usize) -> usize
     requires { ⌜ from ≤ length (now s) ⌝ }
     ensures { λ r. ⌜ (r ≤ length (now (s .entry)))
         × (from + indexOf (byte ";") (drop from (now (s .entry))) ≡ r + indexOf (byte ";") (drop r (now (s .entry)))) ⌝ }
 {
     let mut i = from;
-    while 16 <= s.len() - i {
+    while 8 <= s.len() - i {
         if ends_in_block(s, i) {
             return i;
         }
-        i += 16;
+        i += 8;
     }
     i
 }

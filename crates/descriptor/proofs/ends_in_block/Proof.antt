@@ -33,10 +33,10 @@ module _ (s : List ℕ) (i k : ℕ) (h : i + k < length s) where
       go false q = q ∙ sym (le-ltb first (k + 1) (omega (arith, index-past 59 s i k (ltb-false first k q), index-later 59 s (i + k) h n)))
 
 abbrev Inv-loop : tie.InvT-loop
-Inv-loop s i found₀ k₀ found k = (i + 16 ≤ length s) × (k ≤ 16) × (found ≡ ltb (indexOf 59 (drop i s)) k)
+Inv-loop s i found₀ k₀ found k = (i + 8 ≤ length s) × (k ≤ 8) × (found ≡ ltb (indexOf 59 (drop i s)) k)
 
 abbrev μ-loop : tie.MeasureT-loop
-μ-loop s i found₀ k₀ found k = 16 - k
+μ-loop s i found₀ k₀ found k = 8 - k
 
 loop-holds : tie.Need-loop-holds Inv-loop μ-loop
 loop-holds c =
@@ -71,7 +71,7 @@ returns : tie.Need-returns Inv-loop μ-loop
 returns c =
     let a = c .before .before .args in
     let l = c .before .loop in
-    l .inv .2 ∙ ap (ltb (indexOf 59 (drop (a .i) (a .s .now)))) (let e : l .k ≡ 16 = omega arith in e)
+    l .inv .2 ∙ ap (ltb (indexOf 59 (drop (a .i) (a .s .now)))) (let e : l .k ≡ 8 = omega arith in e)
 
 pub ends-in-block-spec : {M : Type 1} → statement M
 ends-in-block-spec =

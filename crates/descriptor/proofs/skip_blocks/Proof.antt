@@ -38,8 +38,8 @@ loop-again : tie.Need-loop-again Inv-loop μ-loop
 loop-again c =
     let s = c .before .before .before .before .before .args .s .now in
     let l = c .before .before .before .loop in
-    let past = ltb-false (indexOf 59 (drop (l .i) s)) 16 (sym (c .before .ends-in-block .ensures) ∙ c .if1 .left) in
-    (omega arith, l .inv .1 ∙ index-past 59 s (l .i) 16 past)
+    let past = ltb-false (indexOf 59 (drop (l .i) s)) 8 (sym (c .before .ends-in-block .ensures) ∙ c .if1 .left) in
+    (omega arith, l .inv .1 ∙ index-past 59 s (l .i) 8 past)
 
 returns-2 : tie.Need-returns-2 Inv-loop μ-loop
 returns-2 c = c .before .loop .inv
