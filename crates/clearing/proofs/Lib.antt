@@ -1,2 +1,3 @@
--- The theorem that each contract allows one outcome.
+-- Lemmas for the proofs of this crate, and the theorem that each contract allows one outcome.
+mod Steps
 pub mod Unique

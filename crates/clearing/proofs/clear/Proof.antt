@@ -1,35 +1,28 @@
--- `clear` meets its contract: the words before i are zero.
+-- `clear` meets its contract: the words before i are zero, sixteen more at each turn, and at last the rest.
 use borrow.Author.Needs.{needs}
-use borrow.Author.Fill.{fill-more}
-use mathlib.Core.Path.{_≡_}
-use mathlib.Core.List.{List, _++_, append-nil}
-use Prim.Native.Nat.{ℕ, _+_, _-_, _≤_, _<_}
+use mathlib.Core.Path.{_≡_, refl, ap, _∙_}
+use mathlib.Core.List.{List, _++_}
+use Prim.Native.Nat.{ℕ, _+_, _-_, _≤_}
 use native.Mathlib.Omega.{arith}
-use lib.ListN.{length, set, drop, replicate, length-set}
-use lib.Seq.{drop-length}
+use lib.ListN.{length, take, drop, replicate}
+use Rattle.clearing.proofs.Steps.{cleared, cleared-more, cleared-rest}
 use Rattle.clearing.proofs.clear.Statement.{statement}
 use Rattle.clearing.proofs.clear.Tie as tie
 
-step : (d d₀ : List ℕ) (i : ℕ) → i < length d₀ → d ≡ replicate i 0 ++ drop i d₀ → set d i 0 ≡ replicate (i + 1) 0 ++ drop (i + 1) d₀
-step d d₀ i l e = rw e (fill-more i 0 d₀ l)
-
-done : (d d₀ : List ℕ) (i : ℕ) → i ≤ length d₀ → length d₀ ≤ i → d ≡ replicate i 0 ++ drop i d₀ → d ≡ replicate (length d₀) 0
-done d d₀ i p q e = let h : i ≡ length d₀ = omega arith in rw (h, drop-length, append-nil) at e
-
 abbrev Inv-loop : tie.InvT-loop
-Inv-loop work₀ i₀ work i = (i ≤ length work₀) × (length work ≡ length work₀) × (work ≡ replicate i 0 ++ drop i work₀)
+Inv-loop work₀ n i₀ work i = (n ≡ length work₀) × (i ≤ n) × (length work ≡ length work₀) × (work ≡ cleared work₀ i)
 
 abbrev μ-loop : tie.MeasureT-loop
-μ-loop work₀ i₀ work i = length work₀ - i
+μ-loop work₀ n i₀ work i = n - i
 
 loop-holds : tie.Need-loop-holds Inv-loop μ-loop
-loop-holds c = search needs
+loop-holds c = (refl, omega arith, refl, refl)
 
-mul-work : tie.Need-mul-work Inv-loop μ-loop
-mul-work c = search needs
+sub-loop : tie.Need-sub-loop Inv-loop μ-loop
+sub-loop c = c .loop .inv .1
 
-slice-write-work : tie.Need-slice-write-work Inv-loop μ-loop
-slice-write-work c = omega arith
+clear-block-requires : tie.Need-clear-block-requires Inv-loop μ-loop
+clear-block-requires c κs = let l = c .before .before .loop in omega (arith, c .before .loop-test .taken, l .inv .1, l .inv .2)
 
 add-i : tie.Need-add-i Inv-loop μ-loop
 add-i c = search needs
@@ -39,18 +32,28 @@ loop-less c = search needs
 
 loop-again : tie.Need-loop-again Inv-loop μ-loop
 loop-again c =
-    let l = c .before .loop in
-    let a = c .before .before .args in
-    (omega arith, simp length-set (l .inv .1), step (l .work) (a .work .now) (l .i) (omega arith) (l .inv .2))
+    let a = c .before .before .before .before .before .before .before .args in
+    let l = c .before .before .before .before .before .loop in
+    let block = c .before .before .clear-block in (
+      refl,
+      omega (arith, c .before .before .before .before .loop-test .taken, l .inv .1),
+      block .kept .0 ∙ l .inv .2,
+      block .ensures ∙ ap (λ (w : List ℕ). take (l .i) w ++ (replicate 16 0 ++ drop (l .i + 16) w)) (l .inv .3) ∙ cleared-more (a .work .now) (l .i) 16,
+    )
+
+put-zeros-requires : tie.Need-put-zeros-requires Inv-loop μ-loop
+put-zeros-requires c κs = let l = c .before .before .loop in (l .inv .1, omega (arith, l .inv .2))
 
 same-length : tie.Need-same-length Inv-loop μ-loop
-same-length c = c .before .loop .inv .1
+same-length c = search needs
 
 returns : tie.Need-returns Inv-loop μ-loop
 returns c =
-    let l = c .before .loop in
-    let a = c .before .before .args in
-    done (l .work) (a .work .now) (l .i) (l .inv .0) (omega arith) (l .inv .2)
+    let a = c .before .before .before .before .before .before .before .args in
+    let l = c .before .before .before .before .before .loop in
+    let n = length (a .work .now) in
+    c .before .before .put-zeros .ensures
+    ∙ ap (λ (w : List ℕ). take (l .i) w ++ (replicate (n - l .i) 0 ++ drop n w)) (l .inv .3) ∙ cleared-rest (a .work .now) (l .i) n (l .inv .1) refl
 
 pub clear-spec : {M : Type 1} → statement M
 clear-spec =
@@ -59,10 +62,11 @@ clear-spec =
     Inv-loop
     μ-loop
     loop-holds
-    mul-work
-    slice-write-work
+    sub-loop
+    clear-block-requires
     add-i
     loop-less
     loop-again
+    put-zeros-requires
     same-length
     returns)
