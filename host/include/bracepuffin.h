@@ -320,7 +320,8 @@ BpFound bp_lookup(BP_NAMES, BP_IN8(key)) BP_NONNULL;
 /*
  * Queries over a class table. They refuse 22; 3, 10, 5, 6, 8 for the table, as above; 6 for a class number asked about;
  * 9. `work` is scratch: what it holds before is without effect, and afterwards every word of it is 0, also where
- * the call is refused. Only 22 leaves it as it came.
+ * the call is refused. Only 22 leaves it as it came. It is read, so that only words that are not 0 are written: under a
+ * tool that watches for memory without a value, such as valgrind, give it one before the first call.
  *
  * An ancestor of a class is the class itself, every class reached from it by the parents that are recorded, and
  * java/lang/Object.
