@@ -6,7 +6,7 @@ use Prim.Native.Nat.{ℕ, zero, suc, _+_, _/_, _%_, _≤_, _<_}
 use native.Mathlib.Omega.{arith}
 use lib.Dec.{eqb, leb, ltb}
 use lib.ListN.{length, getD}
-use borrow.Author.Tests.{ne-eqb, ltb-true, ltb-false, leb-false, eqb-true, not-true, not-false}
+use borrow.Author.Tests.{ne-eqb, lt-ltb, le-ltb, ltb-true, ltb-false, leb-false, eqb-true, not-true, not-false}
 use Rattle.order.specs.Truth.{both}
 use Rattle.order.specs.Lists.{elem}
 use Rattle.order.specs.Laws.{lists-same, lists-equal}
@@ -15,12 +15,12 @@ use Rattle.order.specs.declared.Order.{Order}
 use Rattle.order.specs.declared.Order.the-variants.{Less, Equal, Greater}
 use Rattle.utf8.specs.Utf8.{wellFormed}
 use Rattle.sorted.specs.Sorted.{Sorted}
-use Rattle.checks.specs.Checks.{check, quiet, free, first-is, first-none}
+use Rattle.checks.specs.Checks.{check, firstRefusal, quiet, free, first-is, first-none}
 use Rattle.names.specs.Names.{nameChecks, checkName}
 use Rattle.tables.specs.declared.Tables.{Tables}
 use Rattle.tables.specs.Table.{namesRoom, pairsRoom, marksRoom}
 use Rattle.rows.specs.declared.Outcome.{Outcome}
-use Rattle.rows.specs.Rows.{noTables, noted, State, stateOf, Ran, Fills, goodFlags, allBelow, key, putAll, recordChecks, recordRefusal, withName, nameRow, withRecord, recordRow, Below}
+use Rattle.rows.specs.Rows.{noTables, noted, State, stateOf, Ran, Fills, goodFlags, allBelow, key, putAll, recordChecks, numbersRefusal, recordRefusal, withName, nameRow, withRecord, recordRow, Below}
 use Rattle.rows.specs.Keys.{all-sorted, all-has, all-old, all-below, take-filled}
 use Rattle.rows.specs.Marks.{marks-length}
 
@@ -101,6 +101,38 @@ record-good names keys flags class parents h =
       room = ltb-false pairsRoom (length (putAll class parents keys)) (not-true full (both (not full) true (b .1) .0));
     }
 
+-- THE REFUSAL IS THAT OF THE NUMBERS, else that of the room
+module _ (names : ℕ) (keys : List ℕ) (flags class : ℕ) (parents : List ℕ) where
+  pub numbers-first : (numbersRefusal names flags class parents ≡ 0 → ⊥) → numbersRefusal names flags class parents ≡ recordRefusal names keys flags class parents
+  unfolding numbersRefusal recordRefusal recordChecks firstRefusal
+  numbers-first n = go (ltb 254 (length parents)) (goodFlags flags && (ltb class names && allBelow names parents)) n
+    where
+      go : (l g : Bool) → (cond {A = ℕ} l 3 (cond g 0 6) ≡ 0 → ⊥) → cond {A = ℕ} l 3 (cond g 0 6) ≡ cond l 3 (cond (not g) 6 (cond (ltb pairsRoom (length (putAll class parents keys))) 8 0))
+      go true g k = refl
+      go false true k = absurd (k refl)
+      go false false k = refl
+
+  pub room-last : (o : Bool) → numbersRefusal names flags class parents ≡ 0 → o ≡ ltb pairsRoom (length (putAll class parents keys)) → cond {A = ℕ} o 8 0 ≡ recordRefusal names keys flags class parents
+  unfolding numbersRefusal recordRefusal recordChecks firstRefusal
+  room-last o z e = go (ltb 254 (length parents)) (goodFlags flags && (ltb class names && allBelow names parents)) z
+    where
+      go : (l g : Bool) → cond {A = ℕ} l 3 (cond g 0 6) ≡ 0 → cond {A = ℕ} o 8 0 ≡ cond l 3 (cond (not g) 6 (cond (ltb pairsRoom (length (putAll class parents keys))) 8 0))
+      go true g k = absurd (omega arith)
+      go false true k = rw (← e)
+      go false false k = absurd (omega arith)
+
+-- numbers that are not refused
+pub numbers-good : (names flags class : ℕ) (parents : List ℕ) → numbersRefusal names flags class parents ≡ 0 → (class < names) × Below names parents
+unfolding numbersRefusal
+numbers-good names flags class parents z = go (ltb 254 (length parents)) (goodFlags flags) (ltb class names) refl (allBelow names parents) refl z
+  where
+    go : (l f c : Bool) → ltb class names ≡ c → (p : Bool) → allBelow names parents ≡ p → cond {A = ℕ} l 3 (cond (f && (c && p)) 0 6) ≡ 0 → (class < names) × Below names parents
+    go true f c e p q k = absurd (omega arith)
+    go false true true e true q k = (ltb-true class names e, all-below names parents q)
+    go false true true e false q k = absurd (omega arith)
+    go false true false e p q k = absurd (omega arith)
+    go false false c e p q k = absurd (omega arith)
+
 -- 8 COMES BACK ONLY WHERE MORE THAN 4,096 PAIRS WOULD STAND
 pub record-full : (names : ℕ) (keys : List ℕ) (flags class : ℕ) (parents : List ℕ) → recordRefusal names keys flags class parents ≡ 8
     → pairsRoom < length (putAll class parents keys)
@@ -174,7 +206,7 @@ good-name last name s g = go (checkName last name (s .tables .names) (s .tables 
     go (suc k) e = rw (name-refused last name (s .tables) (suc k) (sym e) (λ z. omega arith)) g
 
 -- a key of the parents of c
-keys-of : (c n : ℕ) (ps : List ℕ) (z : ℕ) → c < n → n ≤ namesRoom → Below n ps → elem z (map (key c) ps) ≡ true → (z / namesRoom < n) × (z % namesRoom < n)
+pub keys-of : (c n : ℕ) (ps : List ℕ) (z : ℕ) → c < n → n ≤ namesRoom → Below n ps → elem z (map (key c) ps) ≡ true → (z / namesRoom < n) × (z % namesRoom < n)
 unfolding elem
 keys-of c n [] z h w b e = absurd (false≢true e)
 keys-of c n (p ∷ ps) z h w b e = go (eqb (key c p) z) refl e (keys-of c n ps z h w (λ i l. b (suc i) (omega arith)))

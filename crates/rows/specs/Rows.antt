@@ -101,6 +101,10 @@ recordMarks flags class marks =
     (marked (eqb (flags / 4) 1) 3 class (marked (eqb (flags / 2 % 2) 1) 2 class (marked true 1 class (marked true 0 class marks))))
     (marked true 0 class marks)
 
+-- what is refused of a record's numbers, whatever keys there are: LENGTH, NUMBER
+unfoldable pub numbersRefusal : ℕ → ℕ → ℕ → List ℕ → ℕ
+numbersRefusal names flags class parents = cond (ltb 254 (length parents)) 3 (cond (goodFlags flags && (ltb class names && allBelow names parents)) 0 6)
+
 -- what is refused of a record, in this order: LENGTH, NUMBER, ROOM
 -- `names`, `keys`: how many names there are, and the keys before it
 unfoldable pub recordChecks : ℕ → List ℕ → ℕ → ℕ → List ℕ → List Check

@@ -1,0 +1,4 @@
+-- What the contracts of this crate cite, and the laws that other crates may cite.
+pub mod Layers
+pub mod Laws
+pub mod Examples
