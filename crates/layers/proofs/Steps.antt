@@ -6,20 +6,27 @@ use Prim.Native.Nat.{ℕ, zero, suc, _+_, _-_, _*_, _≤_, _<_}
 use native.Mathlib.Omega.{arith}
 use native.Mathlib.Numerals.{add-one}
 use lib.Dec.{ltb}
-use lib.ListN.{length, length-take, take, drop, getD, set, drop-of-length-le, length-drop, length-append}
+use borrow.Author.Tests.{le-leb, lt-leb}
+use lib.ListN.{length, length-take, take, drop, getD, set, replicate, drop-of-length-le, length-drop, length-append, take-append-drop}
 use lib.Seq.{length-take-le, take-suc, drop-cons, set-at, getD-drop, take-take, take-all, take-add, drop-at, drop-drop, drop-append-add}
 use Rattle.sets.specs.Sets.{insert}
 use Rattle.sorted.specs.declared.Span.{Span}
 use Rattle.sorted.specs.Sorted.{Sorted, runOf}
 use Rattle.sorted.specs.Places.{run-within}
 use Rattle.tables.specs.declared.Tables.{Tables}
-use Rattle.tables.specs.Table.{namesRoom}
-use Rattle.rows.specs.Rows.{putAll, recordMarks, recordRefusal, withPairs, withRecord, filled, Below}
+use Rattle.tables.specs.Table.{namesRoom, pairsRoom, marksRoom}
+use Rattle.rows.specs.declared.Outcome.{Outcome}
+use Rattle.rows.specs.Rows.{State, stateOf, Ran, Fills, recordRow, recordRan, putAll, recordMarks, recordRefusal, withPairs, withRecord, filled, Below}
 use Rattle.rows.specs.Keys.{all-longer, filled-same, take-filled, length-filled, filled-again}
-use Rattle.rows.specs.Laws.{GoodRecord, record-good}
+use Rattle.rows.specs.Laws.{Sound, GoodRecord, record-good, good-record}
 use Rattle.layers.specs.declared.Layer.{Layer}
+use Rattle.layers.specs.declared.LayerOutcome.{LayerOutcome}
+use Rattle.layers.specs.declared.StackTables.{StackTables}
+use Rattle.layers.specs.declared.StackOutcome.{StackOutcome}
 use Rattle.layers.specs.Layers.{Layered, keysInside, keysWithout, keysLeft, layerKeys, layerRefusal, withLayerRecord, layerRan, layeredOf, Roomy, FillsLayer}
-use Rattle.layers.specs.Laws.{without-run, left-sorted, left-shorter, grown-alike, layer-keys-after, layer-refused, layer-taken}
+use Rattle.layers.specs.Stacks.{Stack, stackRow, stackRan, stackOf, numbersOf, Holds, FillsStack, openedTables}
+use Rattle.layers.specs.StackLaws.{top-layer, upright-sound, row-lowest, row-layer, refusal-lowest, refusal-layer}
+use Rattle.layers.specs.Laws.{inside-none, without-run, left-sorted, left-shorter, grown-alike, layer-keys-after, layer-refused, layer-taken}
 
 -- ---- moving down
 
@@ -204,3 +211,115 @@ module _ (pairs marks : List ℕ) (t : Tables) (layer : Layer) (g : Roomy pairs 
                     ∙ ap (λ (x : List ℕ). filled x pairs) now-keys ∙ ap (λ (x : Layered). filled (x .shown .keys) pairs) (sym r);
                 marks-are = em ∙ ap (λ (x : Layered). x .shown .marks) (sym r);
               }
+
+-- ---- a stack
+
+module _ (pairs marks : List ℕ) (n : StackTables) (g : Holds pairs marks n) where
+  -- a layer above others has room for three below it
+  pub holds-roomy : 1 ≤ n .under → Roomy pairs marks (n .tables) (n .layer)
+  holds-roomy h =
+      let u = g .upright in
+      let t = ap length (top-layer (stackOf pairs marks n) (λ z. omega arith)) in
+      let k = g .layer-counted in
+      let m = length-take (n .tables .pairs) pairs in
+      record {
+        few = u .few;
+        long = g .long;
+        wide = u .wide;
+        within = omega (arith, u .counted, g .long);
+        ordered = u .ordered;
+        own-wide = u .own-wide;
+        counted = g .layer-counted;
+        layer-room = omega (arith, u .top-room);
+        room = omega (arith, u .room, u .low, u .counted);
+      }
+
+  -- the lowest layer is in the front
+  module _ (z : n .under ≡ 0) where
+    sound : Sound (stateOf pairs marks (n .tables))
+    sound = upright-sound (stackOf pairs marks n) z (g .upright)
+
+    pub front-part : take (n .tables .pairs) (take 4096 pairs) ≡ take (n .tables .pairs) pairs
+    front-part =
+        let s = sound in
+        take-take (n .tables .pairs) 4096 pairs (omega (arith, s .counted, s .room))
+
+    pub lowest-ready : (n .tables .names ≤ namesRoom) × (n .tables .pairs ≤ pairsRoom) × (length (take 4096 pairs) ≡ pairsRoom) × (length marks ≡ marksRoom) × Sorted (take (n .tables .pairs) (take 4096 pairs))
+    lowest-ready =
+        let s = sound in
+        (s .few, omega (arith, s .counted, s .room), length-take-le 4096 pairs (omega (arith, g .long)), s .wide, subst Sorted (sym front-part) (s .ordered))
+
+    -- a row of a plain table, in the front of the pairs
+    pub lowest-filled : (flags class : ℕ) (parents part′ marks′ : List ℕ) (o : Outcome)
+        → Fills (recordRan (stateOf (take 4096 pairs) marks (n .tables)) flags class parents) (take 4096 pairs) part′ marks′ o
+        → FillsStack (stackRan (stackOf pairs marks n) flags class parents) pairs (part′ ++ drop 4096 pairs) marks′ (record { refusal = o .refusal; stack = record { tables = o .tables; layer = n .layer; under = 0 } })
+    lowest-filled flags class parents part′ marks′ o f =
+        let s : Stack = stackOf pairs marks n in
+        let front : State = stateOf (take 4096 pairs) marks (n .tables) in
+        let same : front ≡ stateOf pairs marks (n .tables) = ap (λ (k : List ℕ). record { tables = n .tables; keys = k; marks = marks }) front-part in
+        let ran : recordRan front flags class parents ≡ recordRan (stateOf pairs marks (n .tables)) flags class parents = ap (λ (x : State). recordRan x flags class parents) same in
+        let row = row-lowest s flags class parents z in
+        let refusal = refusal-lowest s flags class parents z in
+        let none = (g .upright) .own-none z in
+        let after = good-record (stateOf pairs marks (n .tables)) flags class parents sound in
+        let kept : n .layer .keys ≡ length (layerKeys (stackRow s flags class parents .top)) =
+        g .layer-counted ∙ ap (λ (w : List ℕ). length (keysInside w (take (n .tables .pairs) pairs))) none ∙ ap length (inside-none (take (n .tables .pairs) pairs))
+        ∙ sym (ap (λ (x : Stack). length (layerKeys (x .top))) row ∙ ap (λ (w : List ℕ). length (keysInside w (recordRow (stateOf pairs marks (n .tables)) flags class parents .keys))) none ∙ ap length (inside-none (recordRow (stateOf pairs marks (n .tables)) flags class parents .keys))) in
+        record {
+          outcome-is = λ i. record {
+            refusal = (ap (λ (x : Outcome). x .refusal) (f .outcome-is) ∙ ap (λ (x : Ran). x .refusal) ran ∙ sym refusal) i;
+            stack = record {
+              tables = (ap (λ (x : Outcome). x .tables) (f .outcome-is) ∙ ap (λ (x : Ran). x .state .tables) ran ∙ ap (λ (x : Stack). x .top .shown .tables) (sym row)) i;
+              layer = record { own = record { words = (ap (λ (x : Stack). x .top .own) (sym row)) i }; keys = kept i };
+              under = (ap (λ (x : Stack). x .under) (sym row)) i;
+            };
+          };
+          pairs-are =
+              ap (λ (l : List ℕ). l ++ drop 4096 pairs) (f .pairs-are ∙ ap (λ (x : Ran). filled (x .state .keys) (take 4096 pairs)) ran)
+              ∙ filled-part (recordRow (stateOf pairs marks (n .tables)) flags class parents .keys) pairs (omega (arith, after .room)) (omega (arith, g .long))
+              ∙ ap (λ (x : Stack). filled (x .top .shown .keys) pairs) (sym row);
+          marks-are = f .marks-are ∙ ap (λ (x : Ran). x .state .marks) ran ∙ ap (λ (x : Stack). x .top .shown .marks) (sym row);
+        }
+      where
+        -- entries in the front of a part
+        filled-part : (l a : List ℕ) → length l ≤ 4096 → 4096 ≤ length a → filled l (take 4096 a) ++ drop 4096 a ≡ filled l a
+        filled-part l a h k =
+            append-assoc l (drop (length l) (take 4096 a)) (drop 4096 a)
+            ∙ ap (λ (x : List ℕ). l ++ x) (ap (λ (x : List ℕ). x ++ drop 4096 a) (sym (drop-front a (length l) 4096 h k)) ∙ rest)
+          where
+            rest : take (4096 - length l) (drop (length l) a) ++ drop 4096 a ≡ drop (length l) a
+            rest =
+                ap (λ (m : ℕ). take (4096 - length l) (drop (length l) a) ++ drop m a) (let e : 4096 ≡ length l + (4096 - length l) = omega arith in e)
+                ∙ ap (λ (x : List ℕ). take (4096 - length l) (drop (length l) a) ++ x) (sym (drop-drop (4096 - length l) (length l) a))
+                ∙ take-append-drop (4096 - length l) (drop (length l) a)
+
+  -- a row of a layer
+  pub layer-filled : 1 ≤ n .under → (flags class : ℕ) (parents pairs′ marks′ : List ℕ) (o : LayerOutcome)
+      → FillsLayer (layerRan (layeredOf pairs marks (n .tables) (n .layer)) flags class parents) pairs pairs′ marks′ o
+      → FillsStack (stackRan (stackOf pairs marks n) flags class parents) pairs pairs′ marks′ (record { refusal = o .refusal; stack = record { tables = o .tables; layer = o .layer; under = n .under } })
+  layer-filled h flags class parents pairs′ marks′ o f =
+      let s : Stack = stackOf pairs marks n in
+      let row = row-layer s flags class parents (λ z. omega arith) in
+      let refusal = refusal-layer s flags class parents (λ z. omega arith) in
+      record {
+        outcome-is = λ i. record {
+          refusal = (ap (λ (x : LayerOutcome). x .refusal) (f .outcome-is) ∙ sym refusal) i;
+          stack = record {
+            tables = (ap (λ (x : LayerOutcome). x .tables) (f .outcome-is) ∙ ap (λ (x : Stack). x .top .shown .tables) (sym row)) i;
+            layer = (ap (λ (x : LayerOutcome). x .layer) (f .outcome-is) ∙ ap (λ (x : Stack). numbersOf x .layer) (sym row)) i;
+            under = (ap (λ (x : Stack). x .under) (sym row)) i;
+          };
+        };
+        pairs-are = f .pairs-are ∙ ap (λ (x : Stack). filled (x .top .shown .keys) pairs) (sym row);
+        marks-are = f .marks-are ∙ ap (λ (x : Stack). x .top .shown .marks) (sym row);
+      }
+
+module _ (n : StackTables) where
+  pub opened-fifth : 3 ≤ n .under → record { refusal = 8; stack = n } ≡ openedTables n
+  unfolding openedTables
+  opened-fifth h = rw (le-leb 3 (n .under) h)
+
+  pub opened-next : n .under < 3 → (words : List ℕ) → words ≡ replicate 16 0
+      → _≡_ {A = StackOutcome} (record { refusal = 0; stack = record { tables = n .tables; layer = record { own = record { words = words }; keys = 0 }; under = n .under + 1 } }) (openedTables n)
+  unfolding openedTables
+  opened-next h words e = rw (lt-leb 3 (n .under) h, e)

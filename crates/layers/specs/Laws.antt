@@ -265,6 +265,7 @@ module _ (own : List ℕ) (c : ℕ) (ps l : List ℕ) (g : Sorted l) (b : Below 
 -- `under`: how many layers lie below the topmost
 pub record Stands (under : ℕ) (l : Layered) : Type 0 where
   pub few : l .shown .tables .names ≤ namesRoom
+  pub short : l .shown .tables .bytes ≤ 24576
   pub ordered : Sorted (l .shown .keys)
   pub counted : l .shown .tables .pairs ≡ length (l .shown .keys)
   pub classes : (z : ℕ) → elem z (l .shown .keys) ≡ true → (z / namesRoom < l .shown .tables .names) × (z % namesRoom < l .shown .tables .names)
@@ -280,6 +281,7 @@ stands-first s g =
     let none = ap length (inside-none (s .keys)) in
     record {
       few = g .few;
+      short = g .short;
       ordered = g .ordered;
       counted = g .counted;
       classes = g .classes;
@@ -295,6 +297,7 @@ stands-next under l g =
     let none = ap length (inside-none (l .shown .keys)) in
     record {
       few = g .few;
+      short = g .short;
       ordered = g .ordered;
       counted = g .counted;
       classes = g .classes;
@@ -360,6 +363,7 @@ module _ (under : ℕ) (l : Layered) (g : Stands under l) (flags class : ℕ) (p
       let now = ap length layer-keys-now in
       record {
         few = g .few;
+        short = g .short;
         ordered = all-sorted class parents (keysLeft (l .own) class (l .shown .keys)) (left-sorted (l .own) class (l .shown .keys) (g .ordered));
         counted = refl;
         classes = keys-in;

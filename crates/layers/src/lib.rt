@@ -1,5 +1,6 @@
 // Records of a layer that is over others. The two slices hold what all layers together show, as those of a plain table do; beside them stand the
 // classes that the topmost layer records and how many keys are theirs. The first record of a class takes the keys of the layers below away.
+use rows::add_record;
 use rows::check_numbers;
 use rows::fresh;
 use rows::put_marks;
@@ -17,6 +18,7 @@ ghost use Rattle.sorted.specs.Sorted.{Sorted};
 ghost use Rattle.tables.specs.Table.{namesRoom, pairsRoom};
 ghost use Rattle.rows.specs.Rows.{Below, putAll, recordRefusal, filled, freshIn};
 ghost use Rattle.layers.specs.Layers.{keysInside, keysWithout, keysLeft, layerRan, layeredOf, Roomy, FillsLayer};
+ghost use Rattle.layers.specs.Stacks.{stackRan, stackOf, Holds, FillsStack, openedTables};
 
 // How many keys the layers show together at most.
 pub const SHOWN: usize = 16384;
@@ -32,6 +34,19 @@ pub struct LayerOutcome {
     pub refusal: u64,
     pub tables: Tables,
     pub layer: Layer,
+}
+
+// Of a stack: the numbers of what its layers together show, its topmost layer, and how many layers lie below that.
+pub struct StackTables {
+    pub tables: Tables,
+    pub layer: Layer,
+    pub under: u64,
+}
+
+// What a row comes to: 0 and the stack with it, or its refusal and the stack as it was.
+pub struct StackOutcome {
+    pub refusal: u64,
+    pub stack: StackTables,
 }
 
 // Moves the entries from k up to n to the front.
@@ -155,5 +170,101 @@ pub fn add_layer_record(
         refusal: 0,
         tables: with,
         layer: grown,
+    }
+}
+
+// On the lowest layer, which is a plain table.
+fn add_to_lowest(
+    flags: u64,
+    class: u64,
+    parents: &[u64],
+    pairs: &mut [u64],
+    marks: &mut [u64],
+    s: StackTables,
+) -> StackOutcome
+    requires { ⌜ Holds (now pairs) (now marks) s × (s .under ≡ 0) ⌝ }
+    ensures { λ r. ⌜ FillsStack (stackRan (stackOf (now (pairs .entry)) (now (marks .entry)) s) flags class (now (parents .entry))) (now (pairs .entry)) (now (pairs .exit)) (now (marks .exit)) r ⌝ }
+{
+    let o = add_record(flags, class, parents, &mut pairs[0..PAIRS], marks, s.tables);
+    let with = o.tables;
+    let layer = s.layer;
+    let stack = StackTables {
+        tables: with,
+        layer: layer,
+        under: 0,
+    };
+    StackOutcome {
+        refusal: o.refusal,
+        stack: stack,
+    }
+}
+
+// On a layer above others.
+fn add_to_layer(
+    flags: u64,
+    class: u64,
+    parents: &[u64],
+    pairs: &mut [u64],
+    marks: &mut [u64],
+    s: StackTables,
+) -> StackOutcome
+    requires { ⌜ Holds (now pairs) (now marks) s × (1 ≤ s .under) ⌝ }
+    ensures { λ r. ⌜ FillsStack (stackRan (stackOf (now (pairs .entry)) (now (marks .entry)) s) flags class (now (parents .entry))) (now (pairs .entry)) (now (pairs .exit)) (now (marks .exit)) r ⌝ }
+{
+    let o = add_layer_record(flags, class, parents, pairs, marks, s.tables, s.layer);
+    let with = o.tables;
+    let layer = o.layer;
+    let stack = StackTables {
+        tables: with,
+        layer: layer,
+        under: s.under,
+    };
+    StackOutcome {
+        refusal: o.refusal,
+        stack: stack,
+    }
+}
+
+// A record of a class in the topmost layer: taken whole, or refused with nothing changed.
+pub fn add_to_stack(
+    flags: u64,
+    class: u64,
+    parents: &[u64],
+    pairs: &mut [u64],
+    marks: &mut [u64],
+    s: StackTables,
+) -> StackOutcome
+    requires { ⌜ Holds (now pairs) (now marks) s ⌝ }
+    ensures { λ r. ⌜ FillsStack (stackRan (stackOf (now (pairs .entry)) (now (marks .entry)) s) flags class (now (parents .entry))) (now (pairs .entry)) (now (pairs .exit)) (now (marks .exit)) r ⌝ }
+{
+    if s.under == 0 {
+        return add_to_lowest(flags, class, parents, pairs, marks, s);
+    }
+    add_to_layer(flags, class, parents, pairs, marks, s)
+}
+
+// A layer more, without a record; a fifth is refused.
+pub fn open_layer(s: StackTables) -> StackOutcome
+    ensures { λ r. ⌜ r ≡ openedTables s ⌝ }
+{
+    if 3 <= s.under {
+        return StackOutcome {
+            refusal: 8,
+            stack: s,
+        };
+    }
+    let t = s.tables;
+    let layer = Layer {
+        own: Set::empty(),
+        keys: 0,
+    };
+    let stack = StackTables {
+        tables: t,
+        layer: layer,
+        under: s.under + 1,
+    };
+    StackOutcome {
+        refusal: 0,
+        stack: stack,
     }
 }
