@@ -1,0 +1,1 @@
+-- Lemmas for the proofs of this crate.
