@@ -41,13 +41,13 @@ pub record After (s : State) (rs : List Record) (u : State) : Type 0 where
 
 -- ---- one record
 
-or-assoc : (a b c : Bool) → (a || (b || c)) ≡ ((b || a) || c)
+pub or-assoc : (a b c : Bool) → (a || (b || c)) ≡ ((b || a) || c)
 or-assoc true true c = refl
 or-assoc true false c = refl
 or-assoc false true c = refl
 or-assoc false false c = refl
 
-elem-append : (z : ℕ) (xs ys : List ℕ) → elem z (xs ++ ys) ≡ (elem z xs || elem z ys)
+pub elem-append : (z : ℕ) (xs ys : List ℕ) → elem z (xs ++ ys) ≡ (elem z xs || elem z ys)
 unfolding elem
 elem-append z [] ys = refl
 elem-append z (x ∷ xs) ys = go (eqb x z) (elem-append z xs ys)
@@ -69,7 +69,7 @@ elem-below n p (x ∷ xs) b h = go (eqb x p) refl h (elem-below n p xs (below-re
     go false e q ih = ih q
 
 -- the keys of a record's parents
-keys-of : (d c p : ℕ) (ps : List ℕ) → p < 1024 → Below 1024 ps → elem (key c p) (map (key d) ps) ≡ (eqb d c && elem p ps)
+pub keys-of : (d c p : ℕ) (ps : List ℕ) → p < 1024 → Below 1024 ps → elem (key c p) (map (key d) ps) ≡ (eqb d c && elem p ps)
 unfolding elem
 keys-of d c p [] h b = go (eqb d c)
   where
@@ -88,7 +88,7 @@ keys-of d c p (q ∷ ps) h b = go (ℕ-discrete d c) (ℕ-discrete q p) (keys-of
     go (no n) f ih = rw (ne-eqb (key d q) (key c p) (λ z. n (let k = small in omega arith)), ne-eqb d c n) (ih ∙ ap (λ (t : Bool). t && elem p ps) (ne-eqb d c n))
 
 module _ (flags class : ℕ) (marks : List ℕ) (h : class < 1024) (w : length marks ≡ 64) (c : ℕ) (l : c < 1024) where
-  recorded-step : isMarked 0 c (recordMarks flags class marks) ≡ (eqb class c || isMarked 0 c marks)
+  pub recorded-step : isMarked 0 c (recordMarks flags class marks) ≡ (eqb class c || isMarked 0 c marks)
   recorded-step = go (ℕ-discrete class c)
     where
       go : Dec (class ≡ c) → isMarked 0 c (recordMarks flags class marks) ≡ (eqb class c || isMarked 0 c marks)
@@ -96,7 +96,7 @@ module _ (flags class : ℕ) (marks : List ℕ) (h : class < 1024) (w : length m
       go (no n) = rw (ne-eqb class c n) (others-stay flags class marks 0 c h l (λ z. n (sym z)))
 
   -- a fact by its set, from the declared record's law
-  fact-step : (k : ℕ) (f : ℕ → Bool) → 1 ≤ k → (flags % 2 ≡ 1 → isMarked k class (recordMarks flags class marks) ≡ f flags)
+  pub fact-step : (k : ℕ) (f : ℕ → Bool) → 1 ≤ k → (flags % 2 ≡ 1 → isMarked k class (recordMarks flags class marks) ≡ f flags)
       → isMarked k c (recordMarks flags class marks) ≡ factFrom f (declares c flags class) (isMarked k c marks)
   fact-step k f b law = go (ℕ-discrete class c) (ℕ-discrete (flags % 2) 1)
     where
@@ -105,7 +105,7 @@ module _ (flags class : ℕ) (marks : List ℕ) (h : class < 1024) (w : length m
       go (yes e) (no n) = rw (← e, eq-eqb class class refl, ne-eqb (flags % 2) 1 n) (undeclared-keeps flags class marks n k class b h)
       go (no n) d = rw (ne-eqb class c n) (others-stay flags class marks k c h l (λ z. n (sym z)))
 
-fact-later : (f : ℕ → Bool) (o d : Option ℕ) (b : Bool) → factFrom f o (factFrom f d b) ≡ factFrom f (later o d) b
+pub fact-later : (f : ℕ → Bool) (o d : Option ℕ) (b : Bool) → factFrom f o (factFrom f d b) ≡ factFrom f (later o d) b
 fact-later f none d b = refl
 fact-later f (some flags) d b = refl
 
