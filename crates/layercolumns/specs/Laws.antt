@@ -1,23 +1,28 @@
 -- Laws of rows that may open layers: what is left to do after each, and that slices keep what they come to.
 use mathlib.Core.Path.{_≡_, refl, sym, ap, ap₂, _∙_, subst}
 use mathlib.Core.Bool.{Bool, true, false, cond, _&&_}
-use mathlib.Core.List.{List, [], _∷_}
-use Prim.Native.Nat.{ℕ, _+_, _≤_, _<_}
+use mathlib.Core.List.{List, [], _∷_, _++_}
+use Prim.Native.Nat.{ℕ, suc, _+_, _≤_, _<_}
 use native.Mathlib.Numerals.{add-one}
 use native.Mathlib.Omega.{arith}
 use lib.Dec.{eqb}
-use lib.ListN.{length, take, drop, getD, drop-of-length-le}
-use lib.Seq.{drop-cons}
+use lib.ListN.{length, take, drop, getD, drop-of-length-le, length-append, length-drop}
+use lib.Seq.{drop-cons, length-take-le, take-append-le}
 use borrow.Author.Tests.{eq-eqb, ne-eqb}
-use Rattle.rows.specs.Rows.{filled, stateOf}
-use Rattle.rows.specs.Keys.{filled-same}
-use Rattle.columns.specs.Columns.{inside}
+use Rattle.tables.specs.declared.Tables.{Tables}
+use Rattle.rows.specs.declared.Outcome.{Outcome}
+use Rattle.rows.specs.Rows.{State, stateOf, Ran, Fills, recordRan}
+use Rattle.rows.specs.Keys.{length-filled}
+use Rattle.rows.specs.Laws.{Sound, fills-state}
+use Rattle.columns.specs.Columns.{inside, placedRecord, recordRows}
+use Rattle.columns.specs.Laws.{records-good}
 use Rattle.layers.specs.declared.StackTables.{StackTables}
 use Rattle.layers.specs.declared.StackOutcome.{StackOutcome}
 use Rattle.layers.specs.Layers.{layersRoom}
-use Rattle.layers.specs.Stacks.{Stack, StackRan, stackRan, openRan, openRefusal, openRow, Upright, stackOf, Holds, numbersOf, FillsStack, openedTables}
-use Rattle.layers.specs.StackLaws.{upright-row, holds-after, opened-is, holds-open}
-use Rattle.layercolumns.specs.LayerColumns.{openFlags, openingRow, placedRow, stackRows, Keeps}
+use Rattle.layers.specs.Laws.{inside-none}
+use Rattle.layers.specs.Stacks.{Upright, Stack, StackRan, ground, stackRefusal, stackRow, stackRan, openRan, stackOf, Holds, FillsStack, openedTables}
+use Rattle.layers.specs.StackLaws.{upright-ground, upright-row, holds-after, opened-is, holds-open}
+use Rattle.layercolumns.specs.LayerColumns.{openFlags, openingRow, placedRow, stackRows, firstOpen, grounded, lowestThen, lowestTables, Keeps}
 
 -- ---- one row
 
@@ -95,3 +100,118 @@ module _ (parents fs cs ats ls : List ℕ) (s : Stack) (i : ℕ) where
     pub stack-stop : (one .refusal ≡ 0 → ⊥) → stackRows parents (drop i fs) (drop i cs) (drop i ats) (drop i ls) s ≡ one
     unfolding stackRows
     stack-stop n = rw (drop-cons fs i 0 hf, drop-cons cs i 0 hc, drop-cons ats i 0 ha, drop-cons ls i 0 hl, ne-eqb (one .refusal) 0 n)
+
+-- ---- the rows before the first layer is opened
+
+module _ (parents : List ℕ) where
+  placed-lowest : (f c a l : ℕ) (s : State) → eqb f openFlags ≡ false → placedRow parents f c a l (ground s) ≡ grounded (placedRecord parents f c a l s)
+  unfolding placedRow placedRecord stackRefusal stackRow
+  placed-lowest f c a l s n = rw n (go (inside (length parents) a l))
+    where
+      go : (b : Bool) → cond b (stackRan (ground s) f c (take l (drop a parents))) (record { refusal = 3; state = ground s }) ≡ grounded (cond b (recordRan s f c (take l (drop a parents))) (record { refusal = 3; state = s }))
+      go true = refl
+      go false = refl
+
+  -- THE ROWS BEFORE THE FIRST LAYER IS OPENED ARE THOSE OF A PLAIN TABLE
+  pub lowest-rows : (fs cs ats ls : List ℕ) (s : State) → length fs ≡ length cs → length fs ≡ length ats → length fs ≡ length ls
+      → stackRows parents fs cs ats ls (ground s) ≡ lowestThen (firstOpen fs) parents fs cs ats ls s
+  unfolding stackRows recordRows firstOpen
+  lowest-rows [] cs ats ls s hc ha hl = refl
+  lowest-rows (f ∷ fs) [] ats ls s hc ha hl = absurd (omega arith)
+  lowest-rows (f ∷ fs) (c ∷ cs) [] ls s hc ha hl = absurd (omega arith)
+  lowest-rows (f ∷ fs) (c ∷ cs) (a ∷ ats) [] s hc ha hl = absurd (omega arith)
+  lowest-rows (f ∷ fs) (c ∷ cs) (a ∷ ats) (l ∷ ls) s hc ha hl =
+      go (eqb f openFlags) refl (lowest-rows fs cs ats ls (placedRecord parents f c a l s .state) (omega arith) (omega arith) (omega arith))
+    where
+      one : Ran
+      one = placedRecord parents f c a l s
+
+      step : stackRows parents fs cs ats ls (ground (one .state)) ≡ lowestThen (firstOpen fs) parents fs cs ats ls (one .state)
+          → (b : Bool) → eqb (one .refusal) 0 ≡ b
+          → cond (eqb (one .refusal) 0) (stackRows parents fs cs ats ls (ground (one .state))) (grounded one) ≡ lowestThen (suc (firstOpen fs)) parents (f ∷ fs) (c ∷ cs) (a ∷ ats) (l ∷ ls) s
+      step ih true q = rw q ih
+      step ih false q = rw (q, q)
+
+      go : (b : Bool) → eqb f openFlags ≡ b → stackRows parents fs cs ats ls (ground (one .state)) ≡ lowestThen (firstOpen fs) parents fs cs ats ls (one .state)
+          → stackRows parents (f ∷ fs) (c ∷ cs) (a ∷ ats) (l ∷ ls) (ground s) ≡ lowestThen (cond b 0 (suc (firstOpen fs))) parents (f ∷ fs) (c ∷ cs) (a ∷ ats) (l ∷ ls) s
+      go true e ih = refl
+      go false e ih = rw (placed-lowest f c a l s e) (step ih (eqb (one .refusal) 0) refl)
+
+-- ---- counting the rows before it
+
+module _ (fs : List ℕ) (i : ℕ) where
+  pub open-here : i < length fs → getD fs i 0 ≡ openFlags → firstOpen (drop i fs) ≡ 0
+  unfolding firstOpen
+  open-here h e = rw (drop-cons fs i 0 h, eq-eqb (getD fs i 0) openFlags e)
+
+  pub open-later : i < length fs → (getD fs i 0 ≡ openFlags → ⊥) → firstOpen (drop i fs) ≡ suc (firstOpen (drop (i + 1) fs))
+  unfolding firstOpen
+  open-later h n = rw (add-one, drop-cons fs i 0 h, ne-eqb (getD fs i 0) openFlags n)
+
+  pub open-none : length fs ≤ i → firstOpen (drop i fs) ≡ 0
+  unfolding firstOpen
+  open-none h = rw (drop-of-length-le fs {i = i} h)
+
+pub open-within : (fs : List ℕ) → firstOpen fs ≤ length fs
+unfolding firstOpen
+open-within [] = omega arith
+open-within (f ∷ fs) = go (eqb f openFlags) (open-within fs)
+  where
+    go : (b : Bool) → firstOpen fs ≤ length fs → cond b 0 (suc (firstOpen fs)) ≤ suc (length fs)
+    go true h = omega arith
+    go false h = omega arith
+
+-- ---- the lowest layer in the front of the pairs
+
+-- without pairs the front holds what the whole holds
+pub front-none : (pairs marks : List ℕ) (t : Tables) → t .pairs ≡ 0 → stateOf (take 4096 pairs) marks t ≡ stateOf pairs marks t
+front-none pairs marks t z = ap (λ (k : ℕ). record { tables = t; keys = take k (take 4096 pairs); marks = marks }) z ∙ ap (λ (k : ℕ). record { tables = t; keys = take k pairs; marks = marks }) (sym z)
+
+pub lowest-keeps : (parents fs cs ats ls pairs marks : List ℕ) (t : Tables) → length pairs ≡ layersRoom → Sound (stateOf pairs marks t) → t .pairs ≡ 0 → (part′ marks′ : List ℕ) (o : Outcome)
+    → Fills (recordRows parents fs cs ats ls (stateOf (take 4096 pairs) marks t)) (take 4096 pairs) part′ marks′ o
+    → Keeps (grounded (recordRows parents fs cs ats ls (stateOf pairs marks t))) (part′ ++ drop 4096 pairs) marks′ (record { refusal = o .refusal; stack = lowestTables (o .tables) })
+lowest-keeps parents fs cs ats ls pairs marks t w g z part′ marks′ o f =
+    let fills = subst (λ (x : State). Fills (recordRows parents fs cs ats ls x) (take 4096 pairs) part′ marks′ o) (front-none pairs marks t z) f in
+    let ran : Ran = recordRows parents fs cs ats ls (stateOf pairs marks t) in
+    let sound = records-good parents fs cs ats ls (stateOf pairs marks t) g in
+    let state = fills-state ran (take 4096 pairs) part′ marks′ o fills (sound .counted) in
+    let few : length (take 4096 pairs) ≡ 4096 = length-take-le 4096 pairs (omega arith) in
+    let long : length part′ ≡ 4096 = ap length (fills .pairs-are) ∙ length-filled (ran .state .keys) (take 4096 pairs) (omega (arith, sound .room)) ∙ few in
+    let count : o .tables .pairs ≡ length (ran .state .keys) = ap (λ (x : Outcome). x .tables .pairs) (fills .outcome-is) ∙ sound .counted in
+    let front : take (o .tables .pairs) (part′ ++ drop 4096 pairs) ≡ take (o .tables .pairs) part′ = take-append-le (o .tables .pairs) part′ (drop 4096 pairs) (omega (arith, sound .room)) in
+    let is : stateOf (part′ ++ drop 4096 pairs) marks′ (o .tables) ≡ ran .state = ap (λ (k : List ℕ). record { tables = o .tables; keys = k; marks = marks′ }) front ∙ state in
+    record {
+      refusal-is = ap (λ (x : Outcome). x .refusal) (fills .outcome-is);
+      stack-is = ap ground is;
+      holds = record {
+        long = length-append part′ (drop 4096 pairs) ∙ (let d = length-drop 4096 pairs in omega arith);
+        upright = subst (λ (x : State). Upright (ground x)) (sym is) (upright-ground (ran .state) sound);
+        layer-counted = sym (ap length (inside-none (take (o .tables .pairs) (part′ ++ drop 4096 pairs))));
+      };
+    }
+
+-- ---- all rows: those of the lowest layer, then the others
+
+module _ (parents fs cs ats ls : List ℕ) (s : State) (hc : length fs ≡ length cs) (ha : length fs ≡ length ats) (hl : length fs ≡ length ls) (k : ℕ) (e : k ≡ firstOpen fs) where
+  abbrev lowestRan : Ran
+  lowestRan = recordRows parents (take k fs) (take k cs) (take k ats) (take k ls) s
+
+  split : stackRows parents fs cs ats ls (ground s) ≡ lowestThen k parents fs cs ats ls s
+  split = lowest-rows parents fs cs ats ls s hc ha hl ∙ ap (λ (n : ℕ). lowestThen n parents fs cs ats ls s) (sym e)
+
+  module _ (pairs₁ marks₁ : List ℕ) (refusal : ℕ) (t : Tables) (n : StackTables) (is : n ≡ lowestTables t) (kept : Keeps (grounded lowestRan) pairs₁ marks₁ (record { refusal = refusal; stack = lowestTables t })) where
+    pub layers-refused : (refusal ≡ 0 → ⊥) → Keeps (stackRows parents fs cs ats ls (ground s)) pairs₁ marks₁ (record { refusal = refusal; stack = n })
+    layers-refused not-zero =
+        subst (λ (m : StackTables). Keeps (stackRows parents fs cs ats ls (ground s)) pairs₁ marks₁ (record { refusal = refusal; stack = m })) (sym is)
+        (keeps-same _ _ _ _ _ (split ∙ rw (ne-eqb (lowestRan .refusal) 0 (λ z. not-zero (kept .refusal-is ∙ z)))) kept)
+
+    pub layers-hold : Holds pairs₁ marks₁ n
+    layers-hold = subst (Holds pairs₁ marks₁) (sym is) (kept .holds)
+
+    pub layers-rest : refusal ≡ 0 → (pairs′ marks′ : List ℕ) (r : StackOutcome) → Keeps (stackRows parents (drop k fs) (drop k cs) (drop k ats) (drop k ls) (stackOf pairs₁ marks₁ n)) pairs′ marks′ r
+        → Keeps (stackRows parents fs cs ats ls (ground s)) pairs′ marks′ r
+    layers-rest z pairs′ marks′ r rest =
+        keeps-same _ _ _ _ _
+        (split ∙ rw (sym (kept .refusal-is) ∙ z)
+        (ap (stackRows parents (drop k fs) (drop k cs) (drop k ats) (drop k ls)) (sym (ap (λ (m : StackTables). stackOf pairs₁ marks₁ m) is ∙ kept .stack-is))))
+        rest

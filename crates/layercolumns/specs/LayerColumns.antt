@@ -2,13 +2,17 @@
 use mathlib.Core.Path.{_≡_}
 use mathlib.Core.Bool.{cond, _&&_}
 use mathlib.Core.List.{List, [], _∷_}
-use Prim.Native.Nat.{ℕ}
+use Prim.Native.Nat.{ℕ, suc}
 use lib.Dec.{eqb}
-use lib.ListN.{length, take, drop}
-use Rattle.rows.specs.Rows.{State}
-use Rattle.columns.specs.Columns.{inside}
+use lib.ListN.{length, take, drop, replicate}
+use Rattle.tables.specs.declared.Tables.{Tables}
+use Rattle.rows.specs.Rows.{State, Ran, stateOf}
+use Rattle.rows.specs.Laws.{Sound}
+use Rattle.columns.specs.Columns.{inside, recordRows}
+use Rattle.layers.specs.declared.StackTables.{StackTables}
 use Rattle.layers.specs.declared.StackOutcome.{StackOutcome}
-use Rattle.layers.specs.Stacks.{Stack, StackRan, stackRan, openRan, stackOf, Holds, numbersOf}
+use Rattle.layers.specs.Layers.{layersRoom}
+use Rattle.layers.specs.Stacks.{Stack, StackRan, ground, stackRan, openRan, stackOf, Holds}
 
 -- the flags of a row that opens a layer: 0x80 and the number of the frame that does
 abbrev pub openFlags : ℕ
@@ -34,8 +38,33 @@ stackRows parents (f ∷ fs) (c ∷ cs) (a ∷ ats) (l ∷ ls) s =
     cond (eqb (placedRow parents f c a l s .refusal) 0) (stackRows parents fs cs ats ls (placedRow parents f c a l s .state))
     (placedRow parents f c a l s)
 
+-- how many rows stand before the first that opens a layer
+unfoldable pub firstOpen : List ℕ → ℕ
+firstOpen [] = 0
+firstOpen (f ∷ fs) = cond (eqb f openFlags) 0 (suc (firstOpen fs))
+
+-- what rows of one layer come to, as a stack
+abbrev pub grounded : Ran → StackRan
+grounded r = record { refusal = r .refusal; state = ground (r .state) }
+
+-- n rows as those of a plain table, then the others
+abbrev pub lowestThen : ℕ → List ℕ → List ℕ → List ℕ → List ℕ → List ℕ → State → StackRan
+lowestThen n parents fs cs ats ls s =
+    cond (eqb (recordRows parents (take n fs) (take n cs) (take n ats) (take n ls) s .refusal) 0)
+    (stackRows parents (drop n fs) (drop n cs) (drop n ats) (drop n ls) (ground (recordRows parents (take n fs) (take n cs) (take n ats) (take n ls) s .state)))
+    (grounded (recordRows parents (take n fs) (take n cs) (take n ats) (take n ls) s))
+
 -- what a result and two slices hold after rows: the stack. What stands past its keys is not told: keys come and go
 pub record Keeps (after : StackRan) (pairs′ marks′ : List ℕ) (r : StackOutcome) : Type 0 where
   pub refusal-is : r .refusal ≡ after .refusal
   pub stack-is : stackOf pairs′ marks′ (r .stack) ≡ after .state
   pub holds : Holds pairs′ marks′ (r .stack)
+
+-- the numbers of a table of one layer
+abbrev pub lowestTables : Tables → StackTables
+lowestTables t = record { tables = t; layer = record { own = record { words = replicate 16 0 }; keys = 0 }; under = 0 }
+
+-- records in columns of equal length, and slices with room for four layers that hold no pair yet
+abbrev pub Lowest : List ℕ → List ℕ → List ℕ → List ℕ → List ℕ → List ℕ → Tables → Type 0
+Lowest fs cs ats ls pairs marks t =
+    (length fs ≡ length cs) × (length fs ≡ length ats) × (length fs ≡ length ls) × (length pairs ≡ layersRoom) × Sound (stateOf pairs marks t) × (t .pairs ≡ 0)
