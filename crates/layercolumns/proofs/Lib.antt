@@ -1,1 +1,2 @@
--- Lemmas for the proofs of this crate.
+-- The theorem that each contract allows one outcome.
+pub mod Unique

@@ -10,19 +10,20 @@ use lib.ListN.{length, take, drop, getD, drop-of-length-le, length-append, lengt
 use lib.Seq.{drop-cons, length-take-le, take-append-le}
 use borrow.Author.Tests.{eq-eqb, ne-eqb}
 use Rattle.tables.specs.declared.Tables.{Tables}
+use Rattle.tables.specs.Table.{marksRoom}
 use Rattle.rows.specs.declared.Outcome.{Outcome}
-use Rattle.rows.specs.Rows.{State, stateOf, Ran, Fills, recordRan}
+use Rattle.rows.specs.Rows.{noTables, State, stateOf, Ran, Fills, recordRan}
 use Rattle.rows.specs.Keys.{length-filled}
 use Rattle.rows.specs.Laws.{Sound, fills-state}
-use Rattle.columns.specs.Columns.{inside, placedRecord, recordRows}
-use Rattle.columns.specs.Laws.{records-good}
+use Rattle.columns.specs.Columns.{inside, nameRows, placedRecord, recordRows}
+use Rattle.columns.specs.Laws.{names-pairs, names-leave, records-good}
 use Rattle.layers.specs.declared.StackTables.{StackTables}
 use Rattle.layers.specs.declared.StackOutcome.{StackOutcome}
-use Rattle.layers.specs.Layers.{layersRoom}
+use Rattle.layers.specs.Layers.{layersRoom, layerKeys}
 use Rattle.layers.specs.Laws.{inside-none}
 use Rattle.layers.specs.Stacks.{Upright, Stack, StackRan, ground, stackRefusal, stackRow, stackRan, openRan, stackOf, Holds, FillsStack, openedTables}
 use Rattle.layers.specs.StackLaws.{upright-ground, upright-row, holds-after, opened-is, holds-open}
-use Rattle.layercolumns.specs.LayerColumns.{openFlags, openingRow, placedRow, stackRows, firstOpen, grounded, lowestThen, lowestTables, Keeps}
+use Rattle.layercolumns.specs.LayerColumns.{openFlags, openingRow, placedRow, stackRows, firstOpen, grounded, lowestThen, lowestTables, Lowest, stackTable, Keeps}
 
 -- ---- one row
 
@@ -215,3 +216,62 @@ module _ (parents fs cs ats ls : List ℕ) (s : State) (hc : length fs ≡ lengt
         (split ∙ rw (sym (kept .refusal-is) ∙ z)
         (ap (stackRows parents (drop k fs) (drop k cs) (drop k ats) (drop k ls)) (sym (ap (λ (m : StackTables). stackOf pairs₁ marks₁ m) is ∙ kept .stack-is))))
         rest
+
+-- ---- the table
+
+module _ (bytes nameAt nameLen parents fs cs ats ls pairs marks : List ℕ) (named : Outcome) (e : named ≡ nameRows bytes nameAt nameLen [] noTables) (w : length pairs ≡ layersRoom) (m : length marks ≡ marksRoom) where
+  named-sound : Sound (stateOf pairs marks (named .tables))
+  named-sound = subst (λ (o : Outcome). Sound (stateOf pairs marks (o .tables))) (sym e) (names-leave bytes nameAt nameLen pairs marks m)
+
+  no-pair : named .tables .pairs ≡ 0
+  unfolding noTables
+  no-pair = ap (λ (o : Outcome). o .tables .pairs) e ∙ names-pairs bytes nameAt nameLen [] noTables
+
+  no-key : stateOf pairs marks (named .tables) ≡ record { tables = named .tables; keys = []; marks = marks }
+  no-key = ap (λ (k : ℕ). record { tables = named .tables; keys = take k pairs; marks = marks }) no-pair
+
+  pub named-ready : length fs ≡ length cs → length fs ≡ length ats → length fs ≡ length ls → Lowest fs cs ats ls pairs marks (named .tables)
+  named-ready hc ha hl = (hc, ha, hl, w, named-sound, no-pair)
+
+  pub named-refused : (named .refusal ≡ 0 → ⊥) → (n : StackTables) → n ≡ lowestTables (named .tables)
+      → Keeps (stackTable (nameRows bytes nameAt nameLen [] noTables) parents fs cs ats ls marks) pairs marks (record { refusal = named .refusal; stack = n })
+  unfolding stackTable
+  named-refused not-zero n is =
+      let sound = subst Sound no-key named-sound in
+      subst (λ (o : Outcome). Keeps (stackTable o parents fs cs ats ls marks) pairs marks (record { refusal = named .refusal; stack = n })) e
+      (rw (ne-eqb (named .refusal) 0 not-zero)
+      (record {
+        refusal-is = refl;
+        stack-is = ap (λ (k : StackTables). stackOf pairs marks k) is ∙ ap ground no-key;
+        holds = subst (Holds pairs marks) (sym is) (record {
+          long = w;
+          upright = upright-ground (stateOf pairs marks (named .tables)) named-sound;
+          layer-counted = sym (ap length (inside-none (take (named .tables .pairs) pairs)));
+        });
+      }))
+
+  pub named-rows : named .refusal ≡ 0 → (pairs′ marks′ : List ℕ) (r : StackOutcome) → Keeps (stackRows parents fs cs ats ls (ground (stateOf pairs marks (named .tables)))) pairs′ marks′ r
+      → Keeps (stackTable (nameRows bytes nameAt nameLen [] noTables) parents fs cs ats ls marks) pairs′ marks′ r
+  unfolding stackTable
+  named-rows z pairs′ marks′ r k =
+      subst (λ (o : Outcome). Keeps (stackTable o parents fs cs ats ls marks) pairs′ marks′ r) e
+      (rw z (subst (λ (x : State). Keeps (stackRows parents fs cs ats ls (ground x)) pairs′ marks′ r) no-key k))
+
+-- ---- one outcome
+
+-- WHAT IS KEPT IS ONE: the result, the marks, and the pairs as far as there are keys
+pub keeps-one : (after : StackRan) (p₁ m₁ p₂ m₂ : List ℕ) (r₁ r₂ : StackOutcome) → Keeps after p₁ m₁ r₁ → Keeps after p₂ m₂ r₂
+    → (r₁ ≡ r₂) × (m₁ ≡ m₂) × (take (r₁ .stack .tables .pairs) p₁ ≡ take (r₂ .stack .tables .pairs) p₂)
+keeps-one after p₁ m₁ p₂ m₂ r₁ r₂ k q =
+    let same = k .stack-is ∙ sym (q .stack-is) in (
+      λ i. record {
+        refusal = (k .refusal-is ∙ sym (q .refusal-is)) i;
+        stack = record {
+          tables = same i .top .shown .tables;
+          layer = record { own = record { words = same i .top .own }; keys = (k .holds .layer-counted ∙ ap (λ (s : Stack). length (layerKeys (s .top))) same ∙ sym (q .holds .layer-counted)) i };
+          under = same i .under;
+        };
+      },
+      ap (λ (s : Stack). s .top .shown .marks) same,
+      ap (λ (s : Stack). s .top .shown .keys) same,
+    )

@@ -6,6 +6,7 @@ use Prim.Native.Nat.{ℕ, suc}
 use lib.Dec.{eqb}
 use lib.ListN.{length, take, drop, replicate}
 use Rattle.tables.specs.declared.Tables.{Tables}
+use Rattle.rows.specs.declared.Outcome.{Outcome}
 use Rattle.rows.specs.Rows.{State, Ran, stateOf}
 use Rattle.rows.specs.Laws.{Sound}
 use Rattle.columns.specs.Columns.{inside, recordRows}
@@ -68,3 +69,9 @@ lowestTables t = record { tables = t; layer = record { own = record { words = re
 abbrev pub Lowest : List ℕ → List ℕ → List ℕ → List ℕ → List ℕ → List ℕ → Tables → Type 0
 Lowest fs cs ats ls pairs marks t =
     (length fs ≡ length cs) × (length fs ≡ length ats) × (length fs ≡ length ls) × (length pairs ≡ layersRoom) × Sound (stateOf pairs marks t) × (t .pairs ≡ 0)
+
+-- THE STACK OF A TABLE: the names' refusal; else the rows, from no pair and the marks as they came
+unfoldable pub stackTable : Outcome → List ℕ → List ℕ → List ℕ → List ℕ → List ℕ → List ℕ → StackRan
+stackTable named parents fs cs ats ls marks =
+    let s : Stack = ground (record { tables = named .tables; keys = []; marks = marks }) in
+    cond (eqb (named .refusal) 0) (stackRows parents fs cs ats ls s) (record { refusal = named .refusal; state = s })
