@@ -3,7 +3,7 @@ use mathlib.Core.Bool.{Bool, true, false, cond, not, _&&_, true≢false}
 use mathlib.Core.List.{List, []}
 use mathlib.Core.Logic.{_↔_}
 use mathlib.Core.Path.{_≡_, refl, sym, ap, _∙_}
-use Prim.Native.Nat.{ℕ, _+_, _-_, _%_, _^_, _≤_, _<_}
+use Prim.Native.Nat.{ℕ, _+_, _-_, _*_, _%_, _^_, _≤_, _<_}
 use native.Mathlib.Decide.{ℕ-discrete}
 use native.Mathlib.Numerals.{add-one}
 use native.Mathlib.Omega.{arith}
@@ -11,7 +11,7 @@ use lib.Dec.{eqb, leb}
 use borrow.Author.Tests.{eq-eqb, ne-eqb, lt-ltb, le-ltb, le-leb, lt-leb}
 use lib.ListN.{length, getD, set, take, drop}
 use lib.Seq.{ext-getD, set-out}
-use Rattle.replaying.specs.Replaying.{endOf, lastEnd, span, afterOf, partOf, placeOf, listOf, isLast, verdict, Judges, more, tallied, counted}
+use Rattle.replaying.specs.Replaying.{endOf, lastEnd, span, afterOf, clipped, partOf, placeOf, listOf, isLast, verdict, Judges, more, tallied, counted, Entered}
 use Rattle.replaying.specs.declared.lists.Span.{Span}
 use Rattle.replaying.specs.declared.answers.Verdict.{Verdict}
 use Rattle.replaying.specs.declared.answers.Verdict.the-variants.{Agrees, Differs, Unread}
@@ -126,23 +126,60 @@ pub counted-in : (place : ℕ) (v : Verdict) (counts : List ℕ) → (place ≡ 
 unfolding counted
 counted-in place v counts n l = sym (simp (ne-eqb _ _ n, lt-leb _ _ l))
 
+-- past any end
+abbrev none : ℕ
+none = 18446744073709551615
+
+more-none : (all : ℕ) (counts : List ℕ) → length counts < 2 ^ 64 → more all (more none counts) ≡ more all counts
+more-none all counts l = ap (more all) (sym (more-out none counts (omega arith)))
+
+module _ (place : ℕ) (v : Verdict) where
+  pub entered-comment : place ≡ 64 → Entered place v none none
+  entered-comment e counts l = more-none none counts l ∙ sym (more-out none counts (omega arith)) ∙ counted-comment place v counts e
+
+  pub entered-past : (place ≡ 64 → ⊥) → 63 ≤ place → Entered place v none 127
+  entered-past n h counts l = more-none 127 counts l ∙ counted-past place v counts n h
+
+  module _ (n : place ≡ 64 → ⊥) (h : place < 63) where
+    to-counted : (w : Verdict) (counts : List ℕ) → v ≡ w → tallied place w counts ≡ counted place v counts
+    to-counted w counts e = ap (λ (u : Verdict). tallied place u counts) (sym e) ∙ counted-in place v counts n h
+
+    pub entered-agrees : v ≡ Agrees → Entered place v (2 * place) (2 * place + 1)
+    unfolding tallied
+    entered-agrees e counts l = to-counted Agrees counts e
+
+    pub entered-differs : v ≡ Differs → Entered place v none (2 * place + 1)
+    unfolding tallied
+    entered-differs e counts l = more-none (2 * place + 1) counts l ∙ to-counted Differs counts e
+
+    pub entered-unread : v ≡ Unread → Entered place v none 127
+    unfolding tallied
+    entered-unread e counts l = more-none 127 counts l ∙ to-counted Unread counts e
+
 -- ---- parts that are handed out
 
-pub part-turned : (a : List ℕ) (start end : ℕ) → end < start → [] ≡ partOf a start end
-unfolding partOf
-part-turned a start end h = ap (λ (b : Bool). cond (b && leb end (length a)) (take (end - start) (drop start a)) []) (sym (lt-leb start end h))
+pub clip-turned : (start end room : ℕ) → end < start → span 0 0 ≡ clipped start end room
+unfolding clipped
+clip-turned start end room h = sym (rw (lt-leb start end h))
 
-pub part-past : (a : List ℕ) (start end : ℕ) → start ≤ end → length a < end → [] ≡ partOf a start end
-unfolding partOf
-part-past a start end g h =
-    ap (λ (b : Bool). cond (b && false) (take (end - start) (drop start a)) []) (sym (le-leb start end g))
-    ∙ ap (λ (b : Bool). cond (leb start end && b) (take (end - start) (drop start a)) []) (sym (lt-leb end (length a) h))
+pub clip-past : (start end room : ℕ) → start ≤ end → room < end → span 0 0 ≡ clipped start end room
+unfolding clipped
+clip-past start end room g h = sym (rw (le-leb start end g, lt-leb end room h))
 
-pub part-there : (a : List ℕ) (start end : ℕ) → start ≤ end → end ≤ length a → take (end - start) (drop start a) ≡ partOf a start end
-unfolding partOf
-part-there a start end g h =
-    ap (λ (b : Bool). cond b (take (end - start) (drop start a)) []) (ap (λ (b : Bool). true && b) (sym (le-leb end (length a) h)))
-    ∙ ap (λ (b : Bool). cond (b && leb end (length a)) (take (end - start) (drop start a)) []) (sym (le-leb start end g))
+pub clip-there : (start end room : ℕ) → start ≤ end → end ≤ room → span start end ≡ clipped start end room
+unfolding clipped
+clip-there start end room g h = sym (rw (le-leb start end g, le-leb end room h))
+
+pub part-clipped : (a : List ℕ) (start end : ℕ) (s : Span) → s ≡ clipped start end (length a) → take (s .end - s .start) (drop (s .start) a) ≡ partOf a start end
+unfolding clipped partOf
+part-clipped a start end s e = ap (λ (t : Span). take (t .end - t .start) (drop (t .start) a)) e ∙ go (leb start end && leb end (length a))
+  where
+    spanned : Bool → Span
+    spanned b = cond b (span start end) (span 0 0)
+
+    go : (b : Bool) → take (spanned b .end - spanned b .start) (drop (spanned b .start) a) ≡ cond b (take (end - start) (drop start a)) []
+    go true = refl
+    go false = refl
 
 -- the first list, and the one after list i
 pub place-first : (a : List ℕ) (from : ℕ) (r : Span) → r ≡ afterOf a (span from from) → r ≡ placeOf a from 0

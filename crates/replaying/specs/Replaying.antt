@@ -56,6 +56,10 @@ pub record After (a : List ℕ) (s r : Span) : Type 0 where
   pub inside : r .end ≤ length a
   pub whole : (r .start ≡ 0 → ⊥) → (r .start ≡ s .end + 1) × (r .end ≡ s .end + 1 + getD a (s .end) 0)
 
+-- two places inside so many members; both 0 where they do not stand so
+unfoldable pub clipped : ℕ → ℕ → ℕ → Span
+clipped start end room = cond (leb start end && leb end room) (span start end) (span 0 0)
+
 -- the members between two places; none where they do not stand so
 unfoldable pub partOf : List ℕ → ℕ → ℕ → List ℕ
 partOf a start end = cond (leb start end && leb end (length a)) (take (end - start) (drop start a)) []
@@ -93,3 +97,7 @@ tallied place Unread counts = more 127 counts
 -- and on a line: 64 stands for one that is to be no case, 63 and what else passes the functions for one that is none
 unfoldable pub counted : ℕ → Verdict → List ℕ → List ℕ
 counted place v counts = cond (eqb place 64) counts (cond (leb 63 place) (more 127 counts) (tallied place v counts))
+
+-- the same as one more at two places, of which one past any end counts nothing
+abbrev pub Entered : ℕ → Verdict → ℕ → ℕ → Type 0
+Entered place v agree all = (counts : List ℕ) → length counts < 2 ^ 64 → more all (more agree counts) ≡ counted place v counts

@@ -1,5 +1,6 @@
 // A line as a case. Its numbers go into `numbers`, the arguments first. The bytes of a word that starts with x go into
 // `store`; among the numbers stand the place where they begin there and the place where they end.
+use crate::parts;
 use crate::report::COMMENT;
 use crate::report::UNREAD;
 use crate::text;
@@ -14,155 +15,198 @@ pub struct Case {
     pub split: usize,
 }
 
-// A line as far as it is read: the numbers so far, how many bytes are in the store, how many numbers stood before the
-// equals sign (0 before it is read: every function has an argument), and whether every word could be read.
+// What is being read: nothing between two words, a number with as many digits as the state says, a word that stands for no
+// number (the name, or what starts with an equals sign), and bytes, before the first and before the second digit of one. What is
+// bad stays so.
+const BETWEEN: usize = 0;
+
+const LONGEST: usize = 16;
+
+const SILENT: usize = 17;
+
+const BAD: usize = 18;
+
+const BYTES: usize = 19;
+
+const HALF: usize = 20;
+
+// What a byte means is its place here, which for a digit is what it counts.
+const MEANINGS: [u8; 19] = *b"0123456789abcdef =x";
+
+const BLANK: usize = 16;
+
+const SIGN: usize = 17;
+
+const X: usize = 18;
+
+// A line as far as it is read: the numbers that are whole, how many bytes are in the store, how many numbers stood before the
+// equals sign (0 before it is read: every function has an argument), and what the next number is so far.
 struct Reading {
+    state: usize,
     count: usize,
     used: usize,
     split: usize,
-    is_good: bool,
+    value: u64,
 }
 
 impl Reading {
-    fn bad(self) -> Reading {
-        Reading {
-            count: self.count,
-            used: self.used,
-            split: self.split,
-            is_good: false,
+    // One number more is whole. The next is where the bytes so far end, until a digit of a number comes.
+    fn counted(mut self, state: usize) -> Reading {
+        self.state = state;
+        self.count = std::num::wrapping_add_usize(self.count, 1);
+        self.value = self.used as u64;
+        self
+    }
+
+    fn equals(mut self) -> Reading {
+        if self.split != 0 {
+            self.state = BAD;
+            return self;
         }
+        self.split = self.count;
+        self.state = SILENT;
+        self
     }
 
-    fn equals(self) -> Reading {
-        Reading {
-            count: self.count,
-            used: self.used,
-            split: self.count,
-            is_good: self.is_good && self.split == 0,
+    // The first byte of a word, which is not empty.
+    fn begun(mut self, m: usize) -> Reading {
+        if m < BLANK {
+            self.value = m as u64;
+            self.state = 1;
+            return self;
         }
-    }
-}
-
-enum Hex {
-    Is(u64),
-    Bad,
-}
-
-fn wide(b: u8) -> u64 {
-    b as u64
-}
-
-// The value of a lower-case hex digit; 16 for another byte.
-fn hex_digit(b: u8) -> u64 {
-    match b {
-        b'0'..=b'9' => wide(b - b'0'),
-        b'a'..=b'f' => wide(b - b'a' + 10),
-        _ => 16,
-    }
-}
-
-// A number of 1 to 16 hex digits.
-fn hex_number(text: &[u8]) -> Hex {
-    if text.len() == 0 || 16 < text.len() {
-        return Hex::Bad;
-    }
-    let mut n: u64 = 0;
-    let mut i: usize = 0;
-    while i < text.len() {
-        let d = hex_digit(text[i]);
-        if 15 < d {
-            return Hex::Bad;
+        if m == SIGN {
+            return self.equals();
         }
-        n = (n << 4) | d;
-        i += 1;
+        if m == X {
+            return self.counted(BYTES);
+        }
+        self.state = BAD;
+        self
     }
-    Hex::Is(n)
-}
 
-// One more number, after which `used` bytes are in the store.
-fn push(r: Reading, n: u64, used: usize, numbers: &mut [u64]) -> Reading {
-    let at = r.count;
-    if numbers.len() <= at {
-        return r.bad();
+    // The end of a word, if one has begun.
+    fn ended(mut self) -> Reading {
+        if self.state == BETWEEN {
+            return self;
+        }
+        if self.state == SILENT {
+            self.state = BETWEEN;
+            return self;
+        }
+        if self.state == BAD {
+            return self;
+        }
+        if self.state == HALF {
+            self.state = BAD;
+            return self;
+        }
+        self.counted(BETWEEN)
     }
-    numbers[at] = n;
-    Reading {
-        count: at + 1,
-        used,
-        split: r.split,
-        is_good: r.is_good,
+
+    // A digit after the first byte of a word.
+    fn digit(mut self, d: usize) -> Reading {
+        if self.state < LONGEST {
+            self.value = (self.value << 4) | (d as u64);
+            self.state = self.state + 1;
+            return self;
+        }
+        if self.state == BYTES {
+            self.state = HALF;
+            return self;
+        }
+        if self.state == HALF {
+            self.used = std::num::wrapping_add_usize(self.used, 1);
+            self.value = self.used as u64;
+            self.state = BYTES;
+            return self;
+        }
+        self.state = BAD;
+        self
     }
-}
 
-fn number(r: Reading, word: &[u8], numbers: &mut [u64]) -> Reading {
-    let Hex::Is(n) = hex_number(word) else {
-        return r.bad();
-    };
-    push(r, n, r.used, numbers)
-}
+    // The next byte by what it means.
+    fn next(mut self, m: usize) -> Reading {
+        if self.state == BETWEEN {
+            return self.begun(m);
+        }
+        if m == BLANK {
+            return self.ended();
+        }
+        if self.state == SILENT {
+            return self;
+        }
+        if m < BLANK {
+            return self.digit(m);
+        }
+        self.state = BAD;
+        self
+    }
 
-// Puts the bytes of these digits into the store from `at` on; where they end there, 0 if that can't be.
-fn put_bytes(digits: &[u8], at: usize, store: &mut [u8]) -> usize {
-    let mut to = at;
-    let mut i: usize = 0;
-    while i < digits.len() {
-        let e = i + 2;
-        if digits.len() < e {
+    // Where a digit of bytes goes; nowhere for what is none.
+    fn byte_at(self, m: usize) -> usize {
+        if self.state < BYTES {
+            return usize::MAX;
+        }
+        if m < BLANK {
+            return self.used;
+        }
+        usize::MAX
+    }
+
+    // The numbers before the equals sign, 0 where what was read is no case or had no room among so many bytes.
+    fn arguments(self, room: usize) -> usize {
+        if room < self.used {
             return 0;
         }
-        if store.len() <= to {
-            return 0;
+        if self.state == BETWEEN {
+            return self.split;
         }
-        let Hex::Is(n) = hex_number(&digits[i..e]) else {
-            return 0;
-        };
-        store[to] = (n % 256) as u8;
-        to += 1;
-        i = e;
+        0
     }
-    to
 }
 
-// The bytes of a word after its x.
-fn bytes(r: Reading, digits: &[u8], numbers: &mut [u64], store: &mut [u8]) -> Reading {
-    let start = r.used;
-    let end = put_bytes(digits, start, store);
-    if end < start {
-        return r.bad();
-    }
-    let begun = push(r, start as u64, start, numbers);
-    push(begun, end as u64, end, numbers)
+fn meaning(b: u8) -> usize {
+    text::part_end(&MEANINGS, 0, b)
 }
 
-// One word after the name.
-fn field(r: Reading, word: &[u8], numbers: &mut [u64], store: &mut [u8]) -> Reading {
-    if word.len() == 0 {
-        return r.bad();
+// What has no room is left out: it is counted all the same, and then there is no case.
+fn put_number(numbers: &mut [u64], at: usize, n: u64) {
+    if at < numbers.len() {
+        numbers[at] = n;
     }
-    if word[0] == b'=' {
-        return r.equals();
-    }
-    if word[0] == b'x' {
-        return bytes(r, &word[1..], numbers, store);
-    }
-    number(r, word, numbers)
 }
 
-// All words of a line from `from` on.
-fn fields(line: &[u8], from: usize, numbers: &mut [u64], store: &mut [u8]) -> Reading {
+// A digit into the byte at a place: two of them are all of it.
+fn put_digit(store: &mut [u8], at: usize, d: usize) {
+    if at < store.len() {
+        store[at] = (store[at] << 4) | ((d % 16) as u8);
+    }
+}
+
+// One byte of the words. What a word stands for so far is among the numbers before it is counted.
+fn step(r: Reading, m: usize, numbers: &mut [u64], store: &mut [u8]) -> Reading {
+    put_digit(store, r.byte_at(m), m);
+    let s = r.next(m);
+    put_number(numbers, s.count, s.value);
+    s
+}
+
+// All words of a line, of which the first is the name.
+fn words(line: &[u8], numbers: &mut [u64], store: &mut [u8]) -> Reading {
     let mut r = Reading {
+        state: SILENT,
         count: 0,
         used: 0,
         split: 0,
-        is_good: true,
+        value: 0,
     };
-    let mut i = from;
+    let mut i: usize = 0;
     while i < line.len() {
-        let e = text::part_end(line, i, b' ');
-        r = field(r, &line[i..e], numbers, store);
-        i = e + 1;
+        r = step(r, meaning(line[i]), numbers, store);
+        i += 1;
     }
-    r
+    r.ended()
 }
 
 // The place of a word among names with one blank between; as many as there are names for another word.
@@ -171,7 +215,7 @@ fn place(names: &[u8], word: &[u8]) -> usize {
     let mut i: usize = 0;
     while i < names.len() {
         let e = text::part_end(names, i, b' ');
-        if text::is_same(&names[i..e], word) {
+        if text::is_same(parts::bytes(names, i as u64, e as u64), word) {
             break;
         }
         i = e + 1;
@@ -203,24 +247,24 @@ fn is_comment(line: &[u8]) -> bool {
     line.len() != 0 && line[0] == b'#'
 }
 
-// What was read as a case of the name at a place, where there is room for so many numbers.
-fn case_of(r: Reading, place: usize, room: usize) -> Case
+// A case of the name at a place, where there is room for so many numbers.
+fn case_of(place: usize, count: usize, split: usize, room: usize) -> Case
     ensures { λ c. ⌜ (c .split ≤ c .count) × (c .count ≤ room) ⌝ }
 {
-    if r.split == 0 || r.count < r.split {
+    if split == 0 {
         return no_case(UNREAD);
     }
-    if room < r.count {
+    if count < split {
         return no_case(UNREAD);
     }
-    if r.is_good {
-        return Case {
-            place,
-            count: r.count,
-            split: r.split,
-        };
+    if room < count {
+        return no_case(UNREAD);
     }
-    no_case(UNREAD)
+    Case {
+        place,
+        count,
+        split,
+    }
 }
 
 // The case of a line. Its numbers are in `numbers`, the arguments before the answers.
@@ -231,6 +275,7 @@ pub fn read(names: &[u8], line: &[u8], numbers: &mut [u64], store: &mut [u8]) ->
         return no_case(COMMENT);
     }
     let e = text::part_end(line, 0, b' ');
-    let r = fields(line, e + 1, numbers, store);
-    case_of(r, place(names, &line[0..e]), numbers.len())
+    let k = place(names, parts::bytes(line, 0, e as u64));
+    let r = words(line, numbers, store);
+    case_of(k, r.count, r.arguments(store.len()), numbers.len())
 }

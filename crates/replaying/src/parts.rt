@@ -3,7 +3,7 @@ use crate::lists;
 use crate::lists::Span;
 ghost use mathlib.Core.Path.{_≡_};
 ghost use lib.ListN.{length, getD};
-ghost use Rattle.replaying.specs.Replaying.{Inside, partOf, placeOf, listOf, isLast};
+ghost use Rattle.replaying.specs.Replaying.{Inside, clipped, partOf, placeOf, listOf, isLast};
 
 // The number at a place, 0 past the end.
 pub fn number_at(a: &[u64], i: usize) -> u64
@@ -15,32 +15,37 @@ pub fn number_at(a: &[u64], i: usize) -> u64
     0
 }
 
+// Two places inside so many members; both 0 where they do not stand so.
+fn inside(start: usize, end: usize, room: usize) -> Span
+    ensures { λ r. ⌜ (r ≡ clipped start end room) × Inside r room ⌝ }
+{
+    if end < start {
+        return Span { start: 0, end: 0 };
+    }
+    if room < end {
+        return Span { start: 0, end: 0 };
+    }
+    Span { start, end }
+}
+
 // The numbers between two places; none where they do not stand so.
 pub fn numbers<'a>(a: &'a [u64], start: usize, end: usize) -> &'a [u64]
     ensures { λ r. ⌜ now r ≡ partOf (now (a .entry)) start end ⌝ }
 {
-    if end < start {
-        return &a[0..0];
-    }
-    if a.len() < end {
-        return &a[0..0];
-    }
-    &a[start..end]
+    let s = inside(start, end, a.len());
+    let first = s.start;
+    let past = s.end;
+    &a[first..past]
 }
 
 // The bytes between two places, which are numbers of a case; none where they do not stand so.
 pub fn bytes<'a>(a: &'a [u8], start: u64, end: u64) -> &'a [u8]
     ensures { λ r. ⌜ now r ≡ partOf (now (a .entry)) start end ⌝ }
 {
-    let s = start as usize;
-    let e = end as usize;
-    if e < s {
-        return &a[0..0];
-    }
-    if a.len() < e {
-        return &a[0..0];
-    }
-    &a[s..e]
+    let s = inside(start as usize, end as usize, a.len());
+    let first = s.start;
+    let past = s.end;
+    &a[first..past]
 }
 
 // Where the members of list k of those that begin at `from` stand; both 0 where it is not whole, or one before it.

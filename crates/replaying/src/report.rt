@@ -1,22 +1,26 @@
 // Counts, two for each function: the cases that agree, and all. The last is that of lines that are no case. And the report of them, into a
 // lent buffer.
 use crate::answers::Verdict;
+use crate::parts::number_at;
 use lineout::put_byte;
 use lineout::put_decimal;
 ghost use mathlib.Core.Bool.{cond};
 ghost use mathlib.Core.List.{[], _∷_};
 ghost use mathlib.Core.Path.{_≡_};
-ghost use Prim.Native.Nat.{_+_, _*_, _≤_, _<_};
-ghost use lib.ListN.{length, getD};
+ghost use Prim.Native.Nat.{_+_, _*_, _≤_};
+ghost use lib.ListN.{length};
 ghost use Rattle.lineout.specs.Printed.{Puts};
-ghost use Rattle.replaying.specs.Replaying.{more, tallied, counted};
-ghost use Rattle.replaying.specs.Report.{field, countsText, countsOf, nextText, nextName, namesText, namesIn, total, sumsOf, unreadAll, reportIn};
+ghost use Rattle.replaying.specs.Replaying.{more, Entered, counted};
+ghost use Rattle.replaying.specs.Report.{field, countsOf, nextText, nextName, namesText, namesIn, total, sumsOf, unreadAll, reportIn};
 
 // The most functions of a program, and the place that stands for lines that are no case.
 pub(crate) const UNREAD: usize = 63;
 
 // The place that stands for lines that are to be none.
 pub(crate) const COMMENT: usize = 64;
+
+// No index of the counts.
+const NONE: usize = usize::MAX;
 
 // Room for the report of names of at most 128 bytes.
 pub const ROOM: usize = 8192;
@@ -30,18 +34,41 @@ fn one_more(counts: &mut [u64], at: usize)
     }
 }
 
-// The verdict on the function at a place.
-fn tally(counts: &mut [u64], place: usize, v: Verdict)
-    requires { ⌜ place < 63 ⌝ }
-    ensures { λ _. ⌜ now (counts .exit) ≡ tallied place v (now (counts .entry)) ⌝ }
+// Which counts a line is in: of the cases that agree, and of all.
+struct Entry {
+    agree: usize,
+    all: usize,
+}
+
+// Those of a verdict on the function at a place.
+fn entry_of(place: usize, v: Verdict) -> Entry
+    ensures { λ r. ⌜ Entered place v (r .agree) (r .all) ⌝ }
 {
+    if place == COMMENT {
+        return Entry {
+            agree: NONE,
+            all: NONE,
+        };
+    }
+    if UNREAD <= place {
+        return Entry {
+            agree: NONE,
+            all: 127,
+        };
+    }
     match v {
-        Verdict::Agrees => {
-            one_more(counts, 2 * place);
-            one_more(counts, 2 * place + 1)
-        }
-        Verdict::Differs => one_more(counts, 2 * place + 1),
-        Verdict::Unread => one_more(counts, 127),
+        Verdict::Agrees => Entry {
+            agree: 2 * place,
+            all: 2 * place + 1,
+        },
+        Verdict::Differs => Entry {
+            agree: NONE,
+            all: 2 * place + 1,
+        },
+        Verdict::Unread => Entry {
+            agree: NONE,
+            all: 127,
+        },
     }
 }
 
@@ -49,13 +76,9 @@ fn tally(counts: &mut [u64], place: usize, v: Verdict)
 pub fn record(counts: &mut [u64], place: usize, v: Verdict)
     ensures { λ _. ⌜ now (counts .exit) ≡ counted place v (now (counts .entry)) ⌝ }
 {
-    if place == COMMENT {
-        return;
-    }
-    if UNREAD <= place {
-        return one_more(counts, 127);
-    }
-    tally(counts, place, v)
+    let e = entry_of(place, v);
+    one_more(counts, e.agree);
+    one_more(counts, e.all)
 }
 
 // An input that fills the buffer may be longer: that counts as a line that is no case.
@@ -67,16 +90,6 @@ pub fn note_full(counts: &mut [u64], is_full: bool)
     }
 }
 
-// The count at an index, 0 past the end.
-fn count_at(counts: &[u64], i: usize) -> u64
-    ensures { λ r. ⌜ r ≡ getD (now (counts .entry)) i 0 ⌝ }
-{
-    if i < counts.len() {
-        return counts[i];
-    }
-    0
-}
-
 // A blank and a number.
 fn put_field(out: &mut [u8], at: usize, n: u64) -> usize
     requires { ⌜ at + 21 ≤ length (now out) ⌝ }
@@ -86,24 +99,14 @@ fn put_field(out: &mut [u8], at: usize, n: u64) -> usize
     put_decimal(out, m, n)
 }
 
-// The counts behind a name, and the end of its line.
-fn put_counts(out: &mut [u8], at: usize, agree: u64, all: u64) -> usize
-    requires { ⌜ at + 43 ≤ length (now out) ⌝ }
-    ensures { λ r. ⌜ Puts (countsText agree all) at (now (out .entry)) (now (out .exit)) r × (r ≤ at + 43) ⌝ }
-{
-    let m = put_field(out, at, agree);
-    let n = put_field(out, m, all);
-    put_byte(out, n, b'\n')
-}
-
-// Those of name k.
-fn put_name_counts(out: &mut [u8], at: usize, counts: &[u64], k: usize) -> usize
+// The counts behind name k, and the end of its line.
+fn put_counts(out: &mut [u8], at: usize, counts: &[u64], k: usize) -> usize
     requires { ⌜ (at + 43 ≤ length (now out)) × (k ≤ 128) ⌝ }
     ensures { λ r. ⌜ Puts (countsOf (now (counts .entry)) k) at (now (out .entry)) (now (out .exit)) r × (r ≤ at + 43) ⌝ }
 {
-    let agree = count_at(counts, 2 * k);
-    let all = count_at(counts, 2 * k + 1);
-    put_counts(out, at, agree, all)
+    let m = put_field(out, at, number_at(counts, 2 * k));
+    let n = put_field(out, m, number_at(counts, 2 * k + 1));
+    put_byte(out, n, b'\n')
 }
 
 // One byte of the names: a blank ends name k.
@@ -112,7 +115,7 @@ fn put_next(out: &mut [u8], at: usize, b: u8, counts: &[u64], k: usize) -> usize
     ensures { λ r. ⌜ Puts (nextText (now (counts .entry)) k b) at (now (out .entry)) (now (out .exit)) r × (r ≤ at + 43) ⌝ }
 {
     if b == b' ' {
-        return put_name_counts(out, at, counts, k);
+        return put_counts(out, at, counts, k);
     }
     put_byte(out, at, b)
 }
@@ -142,7 +145,7 @@ fn put_names(out: &mut [u8], at: usize, names: &[u8], counts: &[u64]) -> usize
         k = next_name(k, b);
         i += 1;
     }
-    put_name_counts(out, m, counts, k)
+    put_counts(out, m, counts, k)
 }
 
 // How many names these are.
@@ -167,7 +170,7 @@ fn sum(counts: &[u64], first: usize, n: usize) -> u64
     let mut s: u64 = 0;
     let mut k: usize = 0;
     while k < n {
-        s = std::num::wrapping_add_u64(s, count_at(counts, 2 * k + first));
+        s = std::num::wrapping_add_u64(s, number_at(counts, 2 * k + first));
         k += 1;
     }
     s
@@ -178,7 +181,7 @@ fn put_sums(out: &mut [u8], at: usize, counts: &[u64], n: usize) -> usize
     requires { ⌜ (at + 473 ≤ length (now out)) × (n ≤ 129) ⌝ }
     ensures { λ r. ⌜ Puts (namesText (sumsOf (now (counts .entry)) n) 0 unreadAll) at (now (out .entry)) (now (out .exit)) r × (r ≤ at + 473) ⌝ }
 {
-    let unread = count_at(counts, 127);
+    let unread = number_at(counts, 127);
     let agree = sum(counts, 0, n);
     let all = std::num::wrapping_add_u64(sum(counts, 1, n), unread);
     put_names(out, at, b"unread all", &[0, unread, agree, all])

@@ -17,14 +17,8 @@ loop-holds c = search needs
 part-end-requires : tie.Need-part-end-requires Inv-loop μ-loop
 part-end-requires c κs = search needs
 
-sub-is-same : tie.Need-sub-is-same Inv-loop μ-loop
-sub-is-same c = search needs
-
-part-is-same-start : tie.Need-part-is-same-start Inv-loop μ-loop
-part-is-same-start c = search needs
-
-part-is-same-end : tie.Need-part-is-same-end Inv-loop μ-loop
-part-is-same-end c = search needs
+bytes-requires : tie.Need-bytes-requires Inv-loop μ-loop
+bytes-requires c κs = search needs
 
 is-same-requires : tie.Need-is-same-requires Inv-loop μ-loop
 is-same-requires c κs = search needs
@@ -55,9 +49,7 @@ place-spec =
     μ-loop
     loop-holds
     part-end-requires
-    sub-is-same
-    part-is-same-start
-    part-is-same-end
+    bytes-requires
     is-same-requires
     add-i
     add-k

@@ -60,11 +60,11 @@ loop-again c =
       g,
     )
 
-put-name-counts-requires : tie.Need-put-name-counts-requires Inv-loop μ-loop
-put-name-counts-requires c κs = search needs
+put-counts-requires : tie.Need-put-counts-requires Inv-loop μ-loop
+put-counts-requires c κs = search needs
 
 same-length : tie.Need-same-length Inv-loop μ-loop
-same-length c = c .before .before .put-name-counts .kept .0 ∙ c .before .before .before .before .before .loop .inv .3
+same-length c = c .before .before .put-counts .kept .0 ∙ c .before .before .before .before .before .loop .inv .3
 
 returns : tie.Need-returns Inv-loop μ-loop
 returns c =
@@ -72,7 +72,7 @@ returns c =
     let a = s .args in
     let p = s .pre in
     let l = c .before .before .before .before .before .loop in
-    let put = c .before .before .put-name-counts in
+    let put = c .before .before .put-counts in
     let counts = a .counts .now in
     let names = a .names .now in
     let whole = namesText counts 0 names in
@@ -93,6 +93,6 @@ put-names-spec =
     add-i
     loop-less
     loop-again
-    put-name-counts-requires
+    put-counts-requires
     same-length
     returns)

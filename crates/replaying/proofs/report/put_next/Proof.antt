@@ -8,8 +8,8 @@ use Rattle.replaying.specs.ReportLaws.{next-blank, next-byte}
 use Rattle.replaying.proofs.report.put_next.Statement.{statement}
 use Rattle.replaying.proofs.report.put_next.Tie as tie
 
-put-name-counts-requires : tie.Need-put-name-counts-requires
-put-name-counts-requires c κs = search needs
+put-counts-requires : tie.Need-put-counts-requires
+put-counts-requires c κs = search needs
 
 same-length : tie.Need-same-length
 same-length c = search needs
@@ -18,7 +18,7 @@ returns : tie.Need-returns
 returns c =
     let s = c .before .before .before .before .before .before .before in
     let a = s .args in
-    let put = c .before .before .put-name-counts in
+    let put = c .before .before .put-counts in
     (puts-as (countsOf (a .counts .now) (a .k)) (nextText (a .counts .now) (a .k) (a .b)) (a .at) _ (a .out .now) _ (next-blank (a .counts .now) (a .k) (a .b) (c .before .before .before .before .if1 .taken)) (put .ensures .0), put .ensures .1)
 
 put-byte-requires : tie.Need-put-byte-requires
@@ -39,7 +39,7 @@ pub put-next-spec : {M : Type 1} → statement M
 put-next-spec =
     tie.close
     (tie.spec
-    put-name-counts-requires
+    put-counts-requires
     same-length
     returns
     put-byte-requires

@@ -10,8 +10,8 @@ use Rattle.replaying.specs.ReportLaws.{sums-are}
 use Rattle.replaying.proofs.report.put_sums.Statement.{statement}
 use Rattle.replaying.proofs.report.put_sums.Tie as tie
 
-count-at-requires : tie.Need-count-at-requires
-count-at-requires c κs = search needs
+number-at-requires : tie.Need-number-at-requires
+number-at-requires c κs = search needs
 
 sum-requires : tie.Need-sum-requires
 sum-requires c κs = search needs
@@ -37,7 +37,7 @@ same-length c = search needs
 returns : tie.Need-returns
 returns c =
     let a = c .before .before .before .before .before .before .before .before .before .before .before .before .args in
-    let unread = c .before .before .before .before .before .before .before .before .before .count-at in
+    let unread = c .before .before .before .before .before .before .before .before .before .number-at in
     let agree = c .before .before .before .before .before .before .before .before .sum in
     let cases = c .before .before .before .before .before .before .before .sum2 in
     let all = c .before .before .before .before .before .before .wrapping-add-u64 in
@@ -52,7 +52,7 @@ pub put-sums-spec : {M : Type 1} → statement M
 put-sums-spec =
     tie.close
     (tie.spec
-    count-at-requires
+    number-at-requires
     sum-requires
     sum-requires-2
     wrapping-add-u64-requires

@@ -1,45 +1,31 @@
--- `record` meets its contract: a test for each kind of line.
-use mathlib.Core.Path.{_∙_}
-use Rattle.replaying.proofs.Steps.{counted-comment, counted-past, counted-in}
+-- `record` meets its contract: one more at two indices.
 use borrow.Author.Needs.{needs}
+use mathlib.Core.List.{List}
+use mathlib.Core.Path.{ap, _∙_}
+use Prim.Native.Nat.{ℕ}
+use native.Mathlib.Omega.{arith}
+use Rattle.replaying.specs.Replaying.{more}
 use Rattle.replaying.proofs.report.record.Statement.{statement}
 use Rattle.replaying.proofs.report.record.Tie as tie
 
-returns : tie.Need-returns
-returns c =
-    let a = c .before .before .args in
-    counted-comment (a .place) (a .v) (a .counts .now) (c .if1 .taken)
+entry-of-requires : tie.Need-entry-of-requires
+entry-of-requires c κs = search needs
 
 one-more-requires : tie.Need-one-more-requires
 one-more-requires c κs = search needs
 
+one-more-requires-2 : tie.Need-one-more-requires-2
+one-more-requires-2 c κs = search needs
+
 same-length : tie.Need-same-length
 same-length c = search needs
 
-returns-2 : tie.Need-returns-2
-returns-2 c =
-    let a = c .before .before .before .before .before .before .before .args in
-    c .before .before .one-more .ensures ∙ counted-past (a .place) (a .v) (a .counts .now) (c .before .before .before .before .before .if1 .left) (c .before .before .before .before .if2 .taken)
-
-tally-requires : tie.Need-tally-requires
-tally-requires c κs = search needs
-
-same-length-2 : tie.Need-same-length-2
-same-length-2 c = search needs
-
-returns-3 : tie.Need-returns-3
-returns-3 c =
-    let a = c .before .before .before .before .before .before .before .args in
-    c .before .before .tally .ensures ∙ counted-in (a .place) (a .v) (a .counts .now) (c .before .before .before .before .before .if1 .left) (c .before .before .before .before .if2 .left)
+returns : tie.Need-returns
+returns c =
+    let counts = c .before .before .before .before .before .before .before .before .before .before .args .counts .now in
+    let e = c .before .before .before .before .before .before .before .before .entry-of in
+    let room = c .before .before .before .before .before .before .before .before .before .before .good .0 .0 in
+    c .before .before .one-more2 .ensures ∙ ap (λ (l : List ℕ). more (e .result .all) l) (c .before .before .before .before .before .before .one-more .ensures) ∙ e .ensures counts (omega arith)
 
 pub record-spec : {M : Type 1} → statement M
-record-spec =
-    tie.close
-    (tie.spec
-    returns
-    one-more-requires
-    same-length
-    returns-2
-    tally-requires
-    same-length-2
-    returns-3)
+record-spec = tie.close (tie.spec entry-of-requires one-more-requires one-more-requires-2 same-length returns)

@@ -19,14 +19,14 @@ loop-holds : tie.Need-loop-holds Inv-loop μ-loop
 unfolding total
 loop-holds c = (omega arith, refl)
 
-mul-count-at : tie.Need-mul-count-at Inv-loop μ-loop
-mul-count-at c = search needs
+mul-number-at : tie.Need-mul-number-at Inv-loop μ-loop
+mul-number-at c = search needs
 
-add-count-at : tie.Need-add-count-at Inv-loop μ-loop
-add-count-at c = search needs
+add-number-at : tie.Need-add-number-at Inv-loop μ-loop
+add-number-at c = search needs
 
-count-at-requires : tie.Need-count-at-requires Inv-loop μ-loop
-count-at-requires c κs = search needs
+number-at-requires : tie.Need-number-at-requires Inv-loop μ-loop
+number-at-requires c κs = search needs
 
 wrapping-add-u64-requires : tie.Need-wrapping-add-u64-requires Inv-loop μ-loop
 wrapping-add-u64-requires c κs = search needs
@@ -44,7 +44,7 @@ loop-again c =
     let h = c .before .before .loop-test .taken in
     let n = getD (a .counts .now) (2 * l .k + a .first) 0 in (
       omega arith,
-      c .wrapping-add-u64 .ensures ∙ ap (λ (x : ℕ). (l .s + x) % 2 ^ 64) (c .before .count-at .ensures) ∙ ap (λ (x : ℕ). (x + n) % 2 ^ 64) (l .inv .1) ∙ total-step (a .counts .now) (a .first) (l .k),
+      c .wrapping-add-u64 .ensures ∙ ap (λ (x : ℕ). (l .s + x) % 2 ^ 64) (c .before .number-at .ensures) ∙ ap (λ (x : ℕ). (x + n) % 2 ^ 64) (l .inv .1) ∙ total-step (a .counts .now) (a .first) (l .k),
     )
 
 returns : tie.Need-returns Inv-loop μ-loop
@@ -60,9 +60,9 @@ sum-spec =
     Inv-loop
     μ-loop
     loop-holds
-    mul-count-at
-    add-count-at
-    count-at-requires
+    mul-number-at
+    add-number-at
+    number-at-requires
     wrapping-add-u64-requires
     add-k
     loop-less
