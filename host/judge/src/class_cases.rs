@@ -1,7 +1,8 @@
-//! Class tables to try: random ones with cycles, parents of Object, repeats, classes without a record, and shapes as
-//! they occur in programs.
+//! Class tables to try: random ones with cycles, parents of Object, repeats, classes without a record, shapes as they
+//! occur in programs, and tables in layers.
 
 use crate::classes::{Classes, MAX_PARENTS, OBJECT};
+use crate::layers::{Layers, Row};
 use crate::rng::Rng;
 
 /// Flags that a record may have: undeclared, or declared with its facts.
@@ -36,6 +37,27 @@ pub fn any_classes(rng: &mut Rng, most: u64) -> Classes {
         classes.push(*rng.pick(&FLAGS), class, &list);
     }
     classes
+}
+
+/// One to four layers over three to eight names. Some have no record; most record classes of the layers below again.
+pub fn any_layers(rng: &mut Rng) -> Layers {
+    let count = 3 + rng.below(6);
+    let names = class_names(rng, count);
+    let mut rows = Vec::new();
+    // Few parents leave chains and classes that lead nowhere; many make cycles.
+    let most_parents = 1 + rng.below(3);
+    for layer in 0..1 + rng.below(4) {
+        if layer > 0 {
+            rows.push(Row::opening());
+        }
+        for _ in 0..rng.below(count + 1) {
+            let parents: Vec<u64> = (0..rng.below(most_parents + 1))
+                .map(|_| rng.below(count))
+                .collect();
+            rows.push(Row::record(*rng.pick(&FLAGS), rng.below(count), &parents));
+        }
+    }
+    Layers { names, rows }
 }
 
 /// A sound table without cycles, as programs have them: class i has its parents among those before it in an order of

@@ -121,18 +121,12 @@ impl Classes {
 
     /// The index of hierarchy.rs over the same records, for a table that is not refused.
     pub fn judge(&self) -> Judge {
-        let names = self.names().expect("a sound table");
-        let mut index = ClassHierarchyIndex::default();
-        let name = |number: &u64| names[*number as usize].clone();
+        let mut judge = Judge::without_records(self.names().expect("a sound table"));
         for row in 0..self.flags.len() {
-            let class = name(&self.class[row]);
-            let parents = self.parents_of(row).expect("inside").iter().map(name);
-            match self.flags[row] {
-                0 => index.add(class, parents),
-                flags => index.add_declared_type(class, parents, facts(flags)),
-            }
+            let parents = self.parents_of(row).expect("inside");
+            judge.record(self.flags[row], self.class[row], parents);
         }
-        Judge { names, index }
+        judge
     }
 }
 
@@ -155,6 +149,24 @@ pub struct Judge {
 }
 
 impl Judge {
+    /// These names, ascending, and an index of one layer without a record.
+    pub fn without_records(names: Vec<String>) -> Self {
+        Self {
+            names,
+            index: ClassHierarchyIndex::default(),
+        }
+    }
+
+    /// One more record: `add`, or `add_declared_type` where the flags say so.
+    pub fn record(&mut self, flags: u64, class: u64, parents: &[u64]) {
+        let name = |number: &u64| self.names[*number as usize].clone();
+        let (class, parents) = (name(&class), parents.iter().map(name));
+        match flags {
+            0 => self.index.add(class, parents),
+            flags => self.index.add_declared_type(class, parents, facts(flags)),
+        }
+    }
+
     fn name(&self, number: u64) -> &str {
         &self.names[number as usize]
     }

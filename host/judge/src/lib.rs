@@ -3,11 +3,13 @@
 //! `rust` asks ty.rs and the standard library; they decide wherever they can. `paper` is written from the rules
 //! of the scope paper alone and answers everything: bytes that are no UTF-8, limits, strict reading, tables of
 //! names. `classes` has both for class tables, `types` for joins and assignability, `solves` for solves, and `lines` for
-//! what the program prints. The functions here take the first where it decides and the second elsewhere.
+//! what the program prints; `layers` has class tables over one another. The functions here take the first where it
+//! decides and the second elsewhere.
 
 pub mod cases;
 pub mod class_cases;
 pub mod classes;
+pub mod layers;
 pub mod line_cases;
 pub mod lines;
 pub mod paper;
