@@ -97,7 +97,7 @@ abbrev covered : Stack → ℕ → List Record → Bool
 covered s c rs = cond (stays s c) (recordedAbove c rs) (hasRecord c rs)
 
 -- the rows that are shown record what some row records
-shown-recorded : (c : ℕ) (rs : List Record) → isRecorded c (shownRows rs) ≡ hasRecord c rs
+pub shown-recorded : (c : ℕ) (rs : List Record) → isRecorded c (shownRows rs) ≡ hasRecord c rs
 unfolding isRecorded shownRows hasRecord
 shown-recorded c [] = refl
 shown-recorded c (r ∷ rs) = go (opensLayer r) (recordedAbove (r .class) rs) (shown-recorded c rs)
@@ -146,15 +146,15 @@ after-none s = record {
 -- ---- a layer opened
 
 module _ (r : Record) (rs : List Record) (o : opensLayer r ≡ true) where
-  open-shown : shownRows (r ∷ rs) ≡ shownRows rs
+  pub open-shown : shownRows (r ∷ rs) ≡ shownRows rs
   unfolding shownRows
   open-shown = rw o
 
-  open-has : (c : ℕ) → hasRecord c (r ∷ rs) ≡ hasRecord c rs
+  pub open-has : (c : ℕ) → hasRecord c (r ∷ rs) ≡ hasRecord c rs
   unfolding hasRecord
   open-has c = rw o
 
-  open-above : (c : ℕ) → recordedAbove c (r ∷ rs) ≡ hasRecord c rs
+  pub open-above : (c : ℕ) → recordedAbove c (r ∷ rs) ≡ hasRecord c rs
   unfolding recordedAbove
   open-above c = rw o
 
@@ -185,15 +185,15 @@ module _ (r : Record) (rs : List Record) (o : opensLayer r ≡ true) where
 -- ---- a record taken
 
 module _ (r : Record) (rs : List Record) (o : opensLayer r ≡ false) where
-  record-shown : shownRows (r ∷ rs) ≡ hidden (recordedAbove (r .class) rs) r ∷ shownRows rs
+  pub record-shown : shownRows (r ∷ rs) ≡ hidden (recordedAbove (r .class) rs) r ∷ shownRows rs
   unfolding shownRows
   record-shown = rw o
 
-  record-has : (c : ℕ) → hasRecord c (r ∷ rs) ≡ (eqb (r .class) c || hasRecord c rs)
+  pub record-has : (c : ℕ) → hasRecord c (r ∷ rs) ≡ (eqb (r .class) c || hasRecord c rs)
   unfolding hasRecord
   record-has c = rw o
 
-  record-above : (c : ℕ) → recordedAbove c (r ∷ rs) ≡ recordedAbove c rs
+  pub record-above : (c : ℕ) → recordedAbove c (r ∷ rs) ≡ recordedAbove c rs
   unfolding recordedAbove
   record-above c = rw o
 
@@ -211,12 +211,12 @@ module _ (r : Record) (rs : List Record) (o : opensLayer r ≡ false) where
       go true = elem-append p (r .parents) (listedParents c (shownRows rs))
       go false = refl
 
-  hidden-recorded : (c : ℕ) (h : Bool) → isRecorded c (hidden h r ∷ shownRows rs) ≡ (eqb (r .class) c || isRecorded c (shownRows rs))
+  pub hidden-recorded : (c : ℕ) (h : Bool) → isRecorded c (hidden h r ∷ shownRows rs) ≡ (eqb (r .class) c || isRecorded c (shownRows rs))
   unfolding isRecorded
   hidden-recorded c true = refl
   hidden-recorded c false = refl
 
-  hidden-declared : (c : ℕ) (h : Bool) → lastDeclared c (hidden h r ∷ shownRows rs) ≡ later (lastDeclared c (shownRows rs)) (declares c (r .flags) (r .class))
+  pub hidden-declared : (c : ℕ) (h : Bool) → lastDeclared c (hidden h r ∷ shownRows rs) ≡ later (lastDeclared c (shownRows rs)) (declares c (r .flags) (r .class))
   unfolding lastDeclared
   hidden-declared c true = refl
   hidden-declared c false = refl
