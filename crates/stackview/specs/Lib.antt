@@ -2,3 +2,5 @@
 pub mod LayerRows
 pub mod Taken
 pub mod LayerViews
+pub mod LayerRefusals
+pub mod Refused

@@ -397,7 +397,7 @@ module _ (parents : List ℕ) (f c a l : ℕ) (s : Stack) (z : placedRow parents
     opening : placedRow parents f c a l s ≡ openingRow c l s
     opening = row-opens parents f c a l s taken-inside (eqb-true f openFlags e)
 
-    opened-taken : (s .under < 3) × (placedRow parents f c a l s .state ≡ record { top = opened (s .top .shown); under = s .under + 1 })
+    pub opened-taken : (s .under < 3) × (placedRow parents f c a l s .state ≡ record { top = opened (s .top .shown); under = s .under + 1 })
     unfolding openRefusal openRow
     opened-taken = go (ℕ-discrete c 0) (ℕ-discrete l 0)
       where
@@ -418,13 +418,13 @@ module _ (parents : List ℕ) (f c a l : ℕ) (s : Stack) (z : placedRow parents
         go (no p) q = absurd (let k = sym (ap (λ (x : StackRan). x .refusal) (opening-classed c l s p)) ∙ told in omega arith)
 
   module _ (e : eqb f openFlags ≡ false) where
-    recording : (stackRefusal s f c (take l (drop a parents)) ≡ 0) × (placedRow parents f c a l s .state ≡ stackRow s f c (take l (drop a parents)))
+    pub recording : (stackRefusal s f c (take l (drop a parents)) ≡ 0) × (placedRow parents f c a l s .state ≡ stackRow s f c (take l (drop a parents)))
     recording =
         let is = row-records parents f c a l s taken-inside (eqb-false f openFlags e) in
         (sym (ap (λ (x : StackRan). x .refusal) is) ∙ z, ap (λ (x : StackRan). x .state) is)
 
   -- the stack stays upright
-  taken-upright : Upright s → Upright (placedRow parents f c a l s .state)
+  pub taken-upright : Upright s → Upright (placedRow parents f c a l s .state)
   unfolding openRow
   taken-upright g = go (eqb f openFlags) refl
     where

@@ -30,7 +30,7 @@ use Rattle.tableview.specs.Domain.{keysOf, Small, elem-listed, set-count
 -- ---- names
 
 -- as many names as rows that have both columns
-names-many : (bytes ats lens last : List ℕ) (t : Tables) → nameRows bytes ats lens last t .refusal ≡ 0
+pub names-many : (bytes ats lens last : List ℕ) (t : Tables) → nameRows bytes ats lens last t .refusal ≡ 0
     → nameRows bytes ats lens last t .tables .names ≡ t .names + length (namesOf bytes ats lens)
 unfolding nameRows namesOf withName
 names-many bytes [] lens last t z = omega arith
@@ -58,7 +58,7 @@ pub record Holds (keys : List ℕ) (before : List Pair) : Type 0 where
 
 module _ (names : ℕ) (keys : List ℕ) (before : List Pair) (few : names ≤ 1024) (h : Holds keys before) (c : ℕ) (ps : List ℕ) where
   -- the pairs of a row of the table's classes come to them
-  row-holds : ((p : ℕ) → List·Memᴰ p ps → p < names) → Holds (putAll c ps keys) (listed c ps ++ before)
+  pub row-holds : ((p : ℕ) → List·Memᴰ p ps → p < names) → Holds (putAll c ps keys) (listed c ps ++ before)
   row-holds below = record {
     keys-are =
         ap (putAll c ps) (h .keys-are)
@@ -75,7 +75,7 @@ module _ (names : ℕ) (keys : List ℕ) (before : List Pair) (few : names ≤ 1
   row-counted below = let n = row-holds below in ap length (n .keys-are) ∙ set-counted (listed c ps ++ before) (n .small)
 
   -- A ROW INSIDE IS REFUSED BY ITS PAIRS AS BY ITS KEYS
-  row-refused : (f : ℕ) → recordRefusal names keys f c ps ≡ firstRefusal (rowChecks names true f c ps before)
+  pub row-refused : (f : ℕ) → recordRefusal names keys f c ps ≡ firstRefusal (rowChecks names true f c ps before)
   unfolding recordRefusal recordChecks rowChecks firstRefusal
   row-refused f = go (goodFlags f && (ltb c names && allBelow names ps)) refl
     where
