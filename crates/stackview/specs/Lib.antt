@@ -4,3 +4,4 @@ pub mod Taken
 pub mod LayerViews
 pub mod LayerRefusals
 pub mod Refused
+pub mod Agrees

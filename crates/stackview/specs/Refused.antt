@@ -140,22 +140,22 @@ rows-refused parents (f ∷ fs) (c ∷ cs) (a ∷ ats) (l ∷ ls) s before g h =
         → ((b : List Pair) → Upright (one .state) → Holds (topKeys (one .state)) b → rest .refusal ≡ layersRefusal (one .state .top .shown .tables .names) parents fs cs ats ls (one .state .under) b)
         → cond (eqb (one .refusal) 0) rest one .refusal
         ≡ cond o (orElse (firstRefusal (openChecks (s .under) (inside (length parents) a l) c l)) (layersRefusal names parents fs cs ats ls (s .under + 1) []))
-          (orElse (firstRefusal (rowChecks names (inside (length parents) a l) f c part before)) (layersRefusal names parents fs cs ats ls (s .under) (listed c part ++ before)))
+        (orElse (firstRefusal (rowChecks names (inside (length parents) a l) f c part before)) (layersRefusal names parents fs cs ats ls (s .under) (listed c part ++ before)))
     go true o ih =
         chain (firstRefusal (openChecks (s .under) (inside (length parents) a l) c l)) (layersRefusal names parents fs cs ats ls (s .under + 1) []) (open-refused parents f c a l s o)
         (λ z. let is = opened-taken parents f c a l s z o .1 in
-            ih [] (taken-upright parents f c a l s z g) (subst (λ (x : Stack). Holds (topKeys x) []) (sym is) (subst (λ (k : List ℕ). Holds k []) (sym (top-none s)) none-held))
-            ∙ ap (λ (x : Stack). layersRefusal (x .top .shown .tables .names) parents fs cs ats ls (x .under) []) is)
+        ih [] (taken-upright parents f c a l s z g) (subst (λ (x : Stack). Holds (topKeys x) []) (sym is) (subst (λ (k : List ℕ). Holds k []) (sym (top-none s)) none-held))
+        ∙ ap (λ (x : Stack). layersRefusal (x .top .shown .tables .names) parents fs cs ats ls (x .under) []) is)
     go false o ih =
         chain (firstRefusal (rowChecks names (inside (length parents) a l) f c part before)) (layersRefusal names parents fs cs ats ls (s .under) (listed c part ++ before)) (record-refused parents f c a l s o before (g .few) h)
         (λ z. let is = recording parents f c a l s z o in
-            let taken = sym (refusal-top s f c part) ∙ is .0 in
-            let good = record-good names (topKeys s) f c part taken in
-            let held = row-holds names (topKeys s) before (g .few) h c part (λ p m. elem-below names p part (good .parents-in) (member-elem p part m)) in
-            ih (listed c part ++ before) (taken-upright parents f c a l s z g)
-            (subst (λ (x : Stack). Holds (topKeys x) (listed c part ++ before)) (sym (is .1)) (subst (λ (k : List ℕ). Holds k (listed c part ++ before)) (sym (top-now s g f c part (is .0))) held))
-            ∙ ap (λ (x : Stack). layersRefusal (x .top .shown .tables .names) parents fs cs ats ls (x .under) (listed c part ++ before)) (is .1)
-            ∙ numbers-kept s f c part (is .0) g (λ (n u : ℕ). layersRefusal n parents fs cs ats ls u (listed c part ++ before)))
+        let taken = sym (refusal-top s f c part) ∙ is .0 in
+        let good = record-good names (topKeys s) f c part taken in
+        let held = row-holds names (topKeys s) before (g .few) h c part (λ p m. elem-below names p part (good .parents-in) (member-elem p part m)) in
+        ih (listed c part ++ before) (taken-upright parents f c a l s z g)
+        (subst (λ (x : Stack). Holds (topKeys x) (listed c part ++ before)) (sym (is .1)) (subst (λ (k : List ℕ). Holds k (listed c part ++ before)) (sym (top-now s g f c part (is .0))) held))
+        ∙ ap (λ (x : Stack). layersRefusal (x .top .shown .tables .names) parents fs cs ats ls (x .under) (listed c part ++ before)) (is .1)
+        ∙ numbers-kept s f c part (is .0) g (λ (n u : ℕ). layersRefusal n parents fs cs ats ls u (listed c part ++ before)))
 
 -- ---- the table
 

@@ -37,7 +37,7 @@ use Rattle.columns.specs.Names.{names-checked, names-counted, notedIn, names-no
 use Rattle.columns.specs.Given.{Given, even, noMarks, table}
 use Rattle.columns.specs.GivenLaws.{even-is, good-in}
 use Rattle.tableview.specs.TableRows.{Record, isRecorded, listedParents, setOf, lastDeclared, factFrom, anyFlags, interfaceFlag, finalFlag, placeOf, rowsView, rowsWorld, namesOf, recordsOf, rowsIn}
-use Rattle.tableview.specs.Inner.{viewIn, worldIn}
+use Rattle.tableview.specs.Inner.{stateView, stateWorld, viewIn, worldIn}
 use Rattle.tableview.specs.Taken.{After, records-after}
 
 -- ---- names
@@ -177,70 +177,50 @@ unfolding present numberOf
 present-number none h = refl
 present-number (some i) h = rw (ne-eqb i (2 ^ 64 - 1) (λ e. let k = h i refl in omega arith))
 
--- ---- the table
+-- ---- a table, from its names and from what its records leave
 
-module _ (g : Given) (e : even g ≡ true) (z : table g .refusal ≡ 0) where
-  named : Outcome
-  named = nameRows (g .names) (g .«name_at») (g .«name_len») [] noTables
+-- the names, before there is a record
+abbrev pub namedTable : List ℕ → List ℕ → List ℕ → State
+namedTable bytes ats lens = record { tables = nameRows bytes ats lens [] noTables .tables; keys = []; marks = noMarks }
 
-  first : State
-  first = record { tables = named .tables; keys = []; marks = noMarks }
+-- what rows have made: keys ascend and name classes of the table, and are counted; marks of 64 words
+pub record Made (u : State) : Type 0 where
+  pub ordered : Sorted (u .keys)
+  pub counted : u .tables .pairs ≡ length (u .keys)
+  pub classes : (y : ℕ) → elem y (u .keys) ≡ true → (y / 1024 < u .tables .names) × (y % 1024 < u .tables .names)
+  pub wide : length (u .marks) ≡ 64
 
-  columns-even : length (g .«name_at») ≡ length (g .«name_len»)
-  unfolding even
-  columns-even = even-is (length (g .«name_at»)) (length (g .«name_len»)) (length (g .«rec_flags»)) (length (g .«rec_class»)) (length (g .«rec_at»)) (length (g .«rec_len»)) e .0
+module _ (bytes ats lens : List ℕ) (columns-even : length ats ≡ length lens) (names-taken : nameRows bytes ats lens [] noTables .refusal ≡ 0) (rs : List Record) (s : State)
+    (after : After (namedTable bytes ats lens) rs s) (made : Made s) where
+  good-first : Sound (namedTable bytes ats lens)
+  good-first = names-good bytes ats lens noMarks refl
 
-  good-first : Sound first
-  unfolding first named
-  good-first = names-good (g .names) (g .«name_at») (g .«name_len») noMarks refl
-
-  rs : List Record
-  rs = recordsOf (g .parents) (g .«rec_flags») (g .«rec_class») (g .«rec_at») (g .«rec_len»)
-
-  -- the names are taken, and then the records
-  both-taken : (named .refusal ≡ 0) × After first rs (table g .state)
-  unfolding table tableOf first named rs
-  both-taken = go (eqb (named .refusal) 0) refl z
-    where
-      go : (b : Bool) → eqb (named .refusal) 0 ≡ b
-          → cond {A = Ran} b (recordRows (g .parents) (g .«rec_flags») (g .«rec_class») (g .«rec_at») (g .«rec_len») first) (record { refusal = named .refusal; state = first }) .refusal ≡ 0
-          → (named .refusal ≡ 0) × After first rs (cond {A = Ran} b (recordRows (g .parents) (g .«rec_flags») (g .«rec_class») (g .«rec_at») (g .«rec_len») first) (record { refusal = named .refusal; state = first }) .state)
-      go true q r = (eqb-true (named .refusal) 0 q, records-after (g .parents) (g .«rec_flags») (g .«rec_class») (g .«rec_at») (g .«rec_len») first good-first r)
-      go false q r = absurd (eqb-false (named .refusal) 0 q r)
-
-  after : After first rs (table g .state)
-  after = both-taken .1
-
-  s : State
-  s = table g .state
-
-  names-many : s .tables .names ≡ length (namesOf (g .names) (g .«name_at») (g .«name_len»))
-  unfolding s first named noTables
+  names-many : s .tables .names ≡ length (namesOf bytes ats lens)
+  unfolding noTables
   names-many =
-      after .numbers .names ∙ names-counted (g .names) (g .«name_at») (g .«name_len») [] noTables columns-even (both-taken .0)
-      ∙ (let k : 0 + length (g .«name_at») ≡ length (g .«name_at») = omega arith in k) ∙ sym (names-length (g .names) (g .«name_at») (g .«name_len») columns-even)
+      after .numbers .names ∙ names-counted bytes ats lens [] noTables columns-even names-taken
+      ∙ (let k : 0 + length ats ≡ length ats = omega arith in k) ∙ sym (names-length bytes ats lens columns-even)
 
-  object-is : s .tables .object ≡ numberOf (placeOf objectName (namesOf (g .names) (g .«name_at») (g .«name_len»)))
-  unfolding s first named noTables
+  object-is : s .tables .object ≡ numberOf (placeOf objectName (namesOf bytes ats lens))
+  unfolding noTables
   object-is =
-      after .numbers .object ∙ names-noted (g .names) (g .«name_at») (g .«name_len») [] noTables (both-taken .0) .0
-      ∙ noted-index objectName (g .names) (g .«name_at») (g .«name_len») columns-even (both-taken .0)
+      after .numbers .object ∙ names-noted bytes ats lens [] noTables names-taken .0
+      ∙ noted-index objectName bytes ats lens columns-even names-taken
 
-  pub cloneable-is : table g .state .tables .cloneable ≡ numberOf (placeOf cloneableName (namesOf (g .names) (g .«name_at») (g .«name_len»)))
-  unfolding first named noTables
-  cloneable-is =
-      after .numbers .cloneable ∙ names-noted (g .names) (g .«name_at») (g .«name_len») [] noTables (both-taken .0) .1
-      ∙ noted-index cloneableName (g .names) (g .«name_at») (g .«name_len») columns-even (both-taken .0)
+  pub named-cloneable : s .tables .cloneable ≡ numberOf (placeOf cloneableName (namesOf bytes ats lens))
+  unfolding noTables
+  named-cloneable =
+      after .numbers .cloneable ∙ names-noted bytes ats lens [] noTables names-taken .1
+      ∙ noted-index cloneableName bytes ats lens columns-even names-taken
 
-  pub serializable-is : table g .state .tables .serializable ≡ numberOf (placeOf serializableName (namesOf (g .names) (g .«name_at») (g .«name_len»)))
-  unfolding first named noTables
-  serializable-is =
-      after .numbers .serializable ∙ names-noted (g .names) (g .«name_at») (g .«name_len») [] noTables (both-taken .0) .2
-      ∙ noted-index serializableName (g .names) (g .«name_at») (g .«name_len») columns-even (both-taken .0)
+  pub named-serializable : s .tables .serializable ≡ numberOf (placeOf serializableName (namesOf bytes ats lens))
+  unfolding noTables
+  named-serializable =
+      after .numbers .serializable ∙ names-noted bytes ats lens [] noTables names-taken .2
+      ∙ noted-index serializableName bytes ats lens columns-even names-taken
 
   -- rows are of classes of the table, so below 1,024
   small-class : (c : ℕ) → isRecorded c rs ≡ true → c < 1024
-  unfolding first named
   small-class c h = let x = after .class-in c h in let y = good-first .few in omega arith
 
   unrecorded : (c : ℕ) → (c < 1024 → ⊥) → isRecorded c rs ≡ false
@@ -251,34 +231,30 @@ module _ (g : Given) (e : even g ≡ true) (z : table g .refusal ≡ 0) where
       go false q = refl
 
   recorded-is : (c : ℕ) → member (mark (s .marks) 0) c ≡ isRecorded c rs
-  unfolding mark s first named
+  unfolding mark
   recorded-is c = go (decLt c 1024)
     where
-      go : Dec (c < 1024) → member (take 16 (drop (16 * 0) (table g .state .marks))) c ≡ isRecorded c rs
-      go (yes h) = mark-set (table g .state .marks) 0 c h ∙ after .recorded c h ∙ ap (λ (b : Bool). isRecorded c rs || b) (unmarked 0 c) ∙ or-false (isRecorded c rs)
-      go (no n) = marks-past (table g .state .marks) 0 c (good-in g .wide) (omega arith) n ∙ sym (unrecorded c n)
+      go : Dec (c < 1024) → member (take 16 (drop (16 * 0) (s .marks))) c ≡ isRecorded c rs
+      go (yes h) = mark-set (s .marks) 0 c h ∙ after .recorded c h ∙ ap (λ (b : Bool). isRecorded c rs || b) (unmarked 0 c) ∙ or-false (isRecorded c rs)
+      go (no n) = marks-past (s .marks) 0 c (made .wide) (omega arith) n ∙ sym (unrecorded c n)
 
   fact-is : (k : ℕ) (f : ℕ → Bool) → k < 4 → ((c : ℕ) → c < 1024 → isMarked k c (s .marks) ≡ factFrom f (lastDeclared c rs) (isMarked k c noMarks))
       → (c : ℕ) → member (mark (s .marks) k) c ≡ factFrom f (lastDeclared c rs) false
-  unfolding mark s
+  unfolding mark
   fact-is k f l law c = go (decLt c 1024)
     where
-      go : Dec (c < 1024) → member (take 16 (drop (16 * k) (table g .state .marks))) c ≡ factFrom f (lastDeclared c rs) false
-      go (yes h) = mark-set (table g .state .marks) k c h ∙ law c h ∙ ap (factFrom f (lastDeclared c rs)) (unmarked k c)
-      go (no n) = marks-past (table g .state .marks) k c (good-in g .wide) l n ∙ sym (fact-none f c rs (unrecorded c n))
+      go : Dec (c < 1024) → member (take 16 (drop (16 * k) (s .marks))) c ≡ factFrom f (lastDeclared c rs) false
+      go (yes h) = mark-set (s .marks) k c h ∙ law c h ∙ ap (factFrom f (lastDeclared c rs)) (unmarked k c)
+      go (no n) = marks-past (s .marks) k c (made .wide) l n ∙ sym (fact-none f c rs (unrecorded c n))
 
-  keys : List ℕ
-  keys = take (s .tables .pairs) (s .keys)
+  keys-are : take (s .tables .pairs) (s .keys) ≡ s .keys
+  keys-are = take-all (s .tables .pairs) (s .keys) (let n = made .counted in omega arith)
 
-  keys-are : keys ≡ s .keys
-  unfolding keys s
-  keys-are = take-all (table g .state .tables .pairs) (table g .state .keys) (let n = good-in g .counted in omega arith)
-
-  parents-are : (c p : ℕ) → List·Memᴰ p (keyParents (s .tables .names) keys c) ↔ List·Memᴰ p (listedParents c rs)
-  unfolding s first named elem
+  pub parents-are : (c p : ℕ) → List·Memᴰ p (keyParents (s .tables .names) (take (s .tables .pairs) (s .keys)) c) ↔ List·Memᴰ p (listedParents c rs)
+  unfolding elem
   parents-are c p =
       rw keys-are (
-        λ m. let b = parents-below (table g .state .tables .names) p (table g .state .keys) c m in
+        λ m. let b = parents-below (s .tables .names) p (s .keys) c m in
             let k = entry (b .1) .0 m in
             elem-member p (listedParents c rs) (sym (or-false (elem p (listedParents c rs))) ∙ sym (after-pairs (b .1)) ∙ k),
         λ m. let h = member-elem p (listedParents c rs) m in
@@ -286,28 +262,30 @@ module _ (g : Given) (e : even g ≡ true) (z : table g .refusal ≡ 0) where
             entry b .1 (after-pairs b ∙ or-false (elem p (listedParents c rs)) ∙ h),
       )
     where
-      entry : p < 1024 → List·Memᴰ p (keyParents (table g .state .tables .names) (table g .state .keys) c) ↔ (elem (c * 1024 + p) (table g .state .keys) ≡ true)
-      entry h = parents-entry (table g .state .tables .names) p (table g .state .keys) c (good-in g .ordered) h (λ y m. good-in g .classes y m .1)
+      entry : p < 1024 → List·Memᴰ p (keyParents (s .tables .names) (s .keys) c) ↔ (elem (c * 1024 + p) (s .keys) ≡ true)
+      entry h = parents-entry (s .tables .names) p (s .keys) c (made .ordered) h (λ y m. made .classes y m .1)
 
-      after-pairs : p < 1024 → elem (key c p) (table g .state .keys) ≡ (elem p (listedParents c rs) || false)
+      after-pairs : p < 1024 → elem (key c p) (s .keys) ≡ (elem p (listedParents c rs) || false)
       after-pairs h = after .pairs c p h
 
       small : elem p (listedParents c rs) ≡ true → p < 1024
       small h = let x = after .parent-in c p h .1 in let y = good-first .few in omega arith
 
-  parents-set : (c : ℕ) → keyParents (s .tables .names) keys c ≡ setOf (listedParents c rs)
-  unfolding s keys
+  parents-set : (c : ℕ) → keyParents (s .tables .names) (take (s .tables .pairs) (s .keys)) c ≡ setOf (listedParents c rs)
   parents-set c =
-      same-members (keyParents (table g .state .tables .names) keys c) (setOf (listedParents c rs))
-      (parents-sorted (table g .state .tables .names) c keys (subst Sorted (sym keys-are) (good-in g .ordered))) (set-sorted (listedParents c rs))
-      (λ z. implied-both (elem z (keyParents (table g .state .tables .names) keys c)) (elem z (setOf (listedParents c rs)))
-      (λ h. elem-set z (listedParents c rs) ∙ member-elem z (listedParents c rs) (parents-are c z .0 (elem-member z (keyParents (table g .state .tables .names) keys c) h)))
-      (λ h. member-elem z (keyParents (table g .state .tables .names) keys c) (parents-are c z .1 (elem-member z (listedParents c rs) (sym (elem-set z (listedParents c rs)) ∙ h)))))
+      same-members (keyParents (s .tables .names) keys c) (setOf (listedParents c rs))
+      (parents-sorted (s .tables .names) c keys (subst Sorted (sym keys-are) (made .ordered))) (set-sorted (listedParents c rs))
+      (λ z. implied-both (elem z (keyParents (s .tables .names) keys c)) (elem z (setOf (listedParents c rs)))
+      (λ h. elem-set z (listedParents c rs) ∙ member-elem z (listedParents c rs) (parents-are c z .0 (elem-member z (keyParents (s .tables .names) keys c) h)))
+      (λ h. member-elem z (keyParents (s .tables .names) keys c) (parents-are c z .1 (elem-member z (listedParents c rs) (sym (elem-set z (listedParents c rs)) ∙ h)))))
+    where
+      keys : List ℕ
+      keys = take (s .tables .pairs) (s .keys)
 
-  -- THE VIEW IN THE WORDS OF THE ROWS, of every table that is taken
-  pub view-rows : viewIn g ≡ rowsView (rowsIn g)
-  unfolding viewIn rowsView rowsIn s rs keys first
-  view-rows i = record {
+  -- THE VIEW OF WHAT ROWS HAVE MADE IS THE ROWS'
+  pub made-view : stateView s ≡ rowsView (record { names = namesOf bytes ats lens; records = rs })
+  unfolding rowsView
+  made-view i = record {
     names = names-many i;
     object = object-is i;
     recorded = λ c. recorded-is c i;
@@ -317,29 +295,70 @@ module _ (g : Given) (e : even g ≡ true) (z : table g .refusal ≡ 0) where
     final = λ c. fact-is 3 finalFlag (omega arith) (after .final) c i;
   }
 
-  -- and member by member, with the parents as the rows list them: y is a parent of c exactly if some row of c lists it
-  pub parents-listed : (c y : ℕ) → List·Memᴰ y (viewIn g .parents c) ↔ List·Memᴰ y (listedParents c (rowsIn g .records))
-  unfolding viewIn rowsIn s rs keys
-  parents-listed c y = parents-are c y
-
-  few-names : length (g .«name_at») ≤ 1024
-  unfolding s first named noTables
+  few-names : length ats ≤ 1024
+  unfolding noTables
   few-names =
-      let n = names-counted (g .names) (g .«name_at») (g .«name_len») [] noTables columns-even (both-taken .0) in
+      let n = names-counted bytes ats lens [] noTables columns-even names-taken in
       let k = good-first .few in
       omega arith
 
-  placed-small : (wanted : List ℕ) (i : ℕ) → placeOf wanted (namesOf (g .names) (g .«name_at») (g .«name_len»)) ≡ some i → i < 2 ^ 64 - 1
+  placed-small : (wanted : List ℕ) (i : ℕ) → placeOf wanted (namesOf bytes ats lens) ≡ some i → i < 2 ^ 64 - 1
   unfolding StandsAt
   placed-small wanted i q =
-      let p = subst (StandsAt wanted (g .names) (g .«name_at») (g .«name_len»)) q (index-placed wanted (g .names) (g .«name_at») (g .«name_len») columns-even) .0 in
+      let p = subst (StandsAt wanted bytes ats lens) q (index-placed wanted bytes ats lens columns-even) .0 in
       let k = few-names in
       omega arith
 
+  -- and so is the world
+  pub made-world : stateWorld s ≡ rowsWorld (record { names = namesOf bytes ats lens; records = rs })
+  unfolding rowsWorld
+  made-world =
+      let a = ap present named-cloneable ∙ present-number (placeOf cloneableName (namesOf bytes ats lens)) (placed-small cloneableName) in
+      let b = ap present named-serializable ∙ present-number (placeOf serializableName (namesOf bytes ats lens)) (placed-small serializableName) in
+      λ i. worldWith (made-view i) (a i) (b i)
+
+-- ---- the table of columns
+
+module _ (g : Given) (e : even g ≡ true) (z : table g .refusal ≡ 0) where
+  columns-even : length (g .«name_at») ≡ length (g .«name_len»)
+  unfolding even
+  columns-even = even-is (length (g .«name_at»)) (length (g .«name_len»)) (length (g .«rec_flags»)) (length (g .«rec_class»)) (length (g .«rec_at»)) (length (g .«rec_len»)) e .0
+
+  -- the names are taken, and then the records
+  both-taken : (nameRows (g .names) (g .«name_at») (g .«name_len») [] noTables .refusal ≡ 0)
+      × After (namedTable (g .names) (g .«name_at») (g .«name_len»)) (recordsOf (g .parents) (g .«rec_flags») (g .«rec_class») (g .«rec_at») (g .«rec_len»)) (table g .state)
+  unfolding table tableOf
+  both-taken = go (eqb (named .refusal) 0) refl z
+    where
+      named : Outcome
+      named = nameRows (g .names) (g .«name_at») (g .«name_len») [] noTables
+
+      go : (b : Bool) → eqb (named .refusal) 0 ≡ b
+          → cond {A = Ran} b (recordRows (g .parents) (g .«rec_flags») (g .«rec_class») (g .«rec_at») (g .«rec_len») (namedTable (g .names) (g .«name_at») (g .«name_len»))) (record { refusal = named .refusal; state = namedTable (g .names) (g .«name_at») (g .«name_len») }) .refusal ≡ 0
+          → (named .refusal ≡ 0) × After (namedTable (g .names) (g .«name_at») (g .«name_len»)) (recordsOf (g .parents) (g .«rec_flags») (g .«rec_class») (g .«rec_at») (g .«rec_len»)) (cond {A = Ran} b (recordRows (g .parents) (g .«rec_flags») (g .«rec_class») (g .«rec_at») (g .«rec_len») (namedTable (g .names) (g .«name_at») (g .«name_len»))) (record { refusal = named .refusal; state = namedTable (g .names) (g .«name_at») (g .«name_len») }) .state)
+      go true q r = (eqb-true (named .refusal) 0 q, records-after (g .parents) (g .«rec_flags») (g .«rec_class») (g .«rec_at») (g .«rec_len») (namedTable (g .names) (g .«name_at») (g .«name_len»)) (names-good (g .names) (g .«name_at») (g .«name_len») noMarks refl) r)
+      go false q r = absurd (eqb-false (named .refusal) 0 q r)
+
+  made : Made (table g .state)
+  made = let k = good-in g in record { ordered = k .ordered; counted = k .counted; classes = k .classes; wide = k .wide }
+
+  pub cloneable-is : table g .state .tables .cloneable ≡ numberOf (placeOf cloneableName (namesOf (g .names) (g .«name_at») (g .«name_len»)))
+  cloneable-is = named-cloneable (g .names) (g .«name_at») (g .«name_len») columns-even (both-taken .0) _ (table g .state) (both-taken .1) made
+
+  pub serializable-is : table g .state .tables .serializable ≡ numberOf (placeOf serializableName (namesOf (g .names) (g .«name_at») (g .«name_len»)))
+  serializable-is = named-serializable (g .names) (g .«name_at») (g .«name_len») columns-even (both-taken .0) _ (table g .state) (both-taken .1) made
+
+  -- THE VIEW IN THE WORDS OF THE ROWS, of every table that is taken
+  pub view-rows : viewIn g ≡ rowsView (rowsIn g)
+  unfolding viewIn rowsIn
+  view-rows = made-view (g .names) (g .«name_at») (g .«name_len») columns-even (both-taken .0) _ (table g .state) (both-taken .1) made
+
+  -- and member by member, with the parents as the rows list them: y is a parent of c exactly if some row of c lists it
+  pub parents-listed : (c y : ℕ) → List·Memᴰ y (viewIn g .parents c) ↔ List·Memᴰ y (listedParents c (rowsIn g .records))
+  unfolding viewIn rowsIn
+  parents-listed c y = parents-are (g .names) (g .«name_at») (g .«name_len») columns-even (both-taken .0) _ (table g .state) (both-taken .1) made c y
+
   -- THE WORLD IN THE WORDS OF THE ROWS: so every join, every assignability and every solve over it is that of the rows
   pub world-rows : worldIn g ≡ rowsWorld (rowsIn g)
-  unfolding worldIn rowsWorld rowsIn viewIn
-  world-rows =
-      let a = ap present cloneable-is ∙ present-number (placeOf cloneableName (namesOf (g .names) (g .«name_at») (g .«name_len»))) (placed-small cloneableName) in
-      let b = ap present serializable-is ∙ present-number (placeOf serializableName (namesOf (g .names) (g .«name_at») (g .«name_len»))) (placed-small serializableName) in
-      λ i. worldWith (view-rows i) (a i) (b i)
+  unfolding worldIn rowsIn
+  world-rows = made-world (g .names) (g .«name_at») (g .«name_len») columns-even (both-taken .0) _ (table g .state) (both-taken .1) made
