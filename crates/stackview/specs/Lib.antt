@@ -5,3 +5,4 @@ pub mod LayerViews
 pub mod LayerRefusals
 pub mod Refused
 pub mod Agrees
+pub mod OneLayer
