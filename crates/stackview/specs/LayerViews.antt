@@ -108,19 +108,19 @@ through-is v (rs ∷ layers) =
 -- ---- the layers of a row more
 
 module _ (r : Record) (rs : List Record) where
-  open-lowest : opensLayer r ≡ true → lowestLayer (r ∷ rs) ≡ []
+  pub open-lowest : opensLayer r ≡ true → lowestLayer (r ∷ rs) ≡ []
   unfolding lowestLayer
   open-lowest o = rw o
 
-  open-layers : opensLayer r ≡ true → layersAbove (r ∷ rs) ≡ lowestLayer rs ∷ layersAbove rs
+  pub open-layers : opensLayer r ≡ true → layersAbove (r ∷ rs) ≡ lowestLayer rs ∷ layersAbove rs
   unfolding layersAbove
   open-layers o = rw o
 
-  record-lowest : opensLayer r ≡ false → lowestLayer (r ∷ rs) ≡ r ∷ lowestLayer rs
+  pub record-lowest : opensLayer r ≡ false → lowestLayer (r ∷ rs) ≡ r ∷ lowestLayer rs
   unfolding lowestLayer
   record-lowest o = rw o
 
-  record-layers : opensLayer r ≡ false → layersAbove (r ∷ rs) ≡ layersAbove rs
+  pub record-layers : opensLayer r ≡ false → layersAbove (r ∷ rs) ≡ layersAbove rs
   unfolding layersAbove
   record-layers o = rw o
 

@@ -6,3 +6,4 @@ pub mod LayerRefusals
 pub mod Refused
 pub mod Agrees
 pub mod OneLayer
+pub mod Domain

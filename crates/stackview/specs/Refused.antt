@@ -32,7 +32,7 @@ use Rattle.stackview.specs.LayerRefusals.{openChecks, layersRefusal, sta
 use Rattle.stackview.specs.Taken.{opened-taken, recording, taken-upright}
 
 -- the keys of the topmost layer after a record
-top-now : (s : Stack) → Upright s → (flags class : ℕ) (parents : List ℕ) → stackRefusal s flags class parents ≡ 0 → topKeys (stackRow s flags class parents) ≡ putAll class parents (topKeys s)
+pub top-now : (s : Stack) → Upright s → (flags class : ℕ) (parents : List ℕ) → stackRefusal s flags class parents ≡ 0 → topKeys (stackRow s flags class parents) ≡ putAll class parents (topKeys s)
 unfolding withRecord
 top-now s g flags class parents z = go (eqb (s .under) 0) refl
   where
@@ -54,7 +54,7 @@ top-now s g flags class parents z = go (eqb (s .under) 0) refl
         ∙ ap (putAll class parents) (sym (top-layer s n))
 
 -- a record changes neither the names nor the layers
-numbers-kept : (s : Stack) (flags class : ℕ) (parents : List ℕ) → stackRefusal s flags class parents ≡ 0 → Upright s → (f : ℕ → ℕ → ℕ)
+pub numbers-kept : (s : Stack) (flags class : ℕ) (parents : List ℕ) → stackRefusal s flags class parents ≡ 0 → Upright s → (f : ℕ → ℕ → ℕ)
     → f (stackRow s flags class parents .top .shown .tables .names) (stackRow s flags class parents .under) ≡ f (s .top .shown .tables .names) (s .under)
 unfolding withRecord withLayerRecord
 numbers-kept s flags class parents z g f = go (eqb (s .under) 0) refl
@@ -71,7 +71,7 @@ numbers-kept s flags class parents z g f = go (eqb (s .under) 0) refl
         ∙ ap (λ (x : Layered). f (x .shown .tables .names) (s .under)) (layer-taken (s .top) flags class parents (sym (refusal-layer s flags class parents n) ∙ z))
 
 -- and of a layer just opened
-top-none : (s : Stack) → topKeys (record { top = opened (s .top .shown); under = s .under + 1 }) ≡ []
+pub top-none : (s : Stack) → topKeys (record { top = opened (s .top .shown); under = s .under + 1 }) ≡ []
 top-none s = top-layer (record { top = opened (s .top .shown); under = s .under + 1 }) (λ e. omega arith) ∙ inside-none (s .top .shown .keys)
 
 is-three : (names f c : ℕ) (ps : List ℕ) (before : List Pair) → firstRefusal (rowChecks names false f c ps before) ≡ 3

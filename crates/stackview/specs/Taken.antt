@@ -386,7 +386,7 @@ module _ (s : Stack) (g : Upright s) (flags class : ℕ) (parents : List ℕ) (z
 
 -- a row that is taken opens a layer, or is a record that is not refused
 module _ (parents : List ℕ) (f c a l : ℕ) (s : Stack) (z : placedRow parents f c a l s .refusal ≡ 0) where
-  taken-inside : inside (length parents) a l ≡ true
+  pub taken-inside : inside (length parents) a l ≡ true
   taken-inside = go (inside (length parents) a l) refl
     where
       go : (b : Bool) → inside (length parents) a l ≡ b → b ≡ true
@@ -396,6 +396,18 @@ module _ (parents : List ℕ) (f c a l : ℕ) (s : Stack) (z : placedRow parents
   module _ (e : eqb f openFlags ≡ true) where
     opening : placedRow parents f c a l s ≡ openingRow c l s
     opening = row-opens parents f c a l s taken-inside (eqb-true f openFlags e)
+
+    -- it is of class 0 and lists no parent
+    pub opened-plain : (c ≡ 0) × (l ≡ 0)
+    opened-plain = go (ℕ-discrete c 0) (ℕ-discrete l 0)
+      where
+        told : openingRow c l s .refusal ≡ 0
+        told = sym (ap (λ (x : StackRan). x .refusal) opening) ∙ z
+
+        go : Dec (c ≡ 0) → Dec (l ≡ 0) → (c ≡ 0) × (l ≡ 0)
+        go (yes p) (yes q) = (p, q)
+        go (yes p) (no q) = absurd (let k = sym (ap (λ (x : StackRan). x .refusal) (opening-listed c l s p q)) ∙ told in omega arith)
+        go (no p) q = absurd (let k = sym (ap (λ (x : StackRan). x .refusal) (opening-classed c l s p)) ∙ told in omega arith)
 
     pub opened-taken : (s .under < 3) × (placedRow parents f c a l s .state ≡ record { top = opened (s .top .shown); under = s .under + 1 })
     unfolding openRefusal openRow

@@ -108,7 +108,7 @@ even-exactly g = (
   ),
 )
 
-inside-plain : (size at len : ℕ) → (inside size at len ≡ true) ↔ (at + len ≤ size)
+pub inside-plain : (size at len : ℕ) → (inside size at len ≡ true) ↔ (at + len ≤ size)
 unfolding inside
 inside-plain size at len = (
   λ e. let i = inside-is size at len e in omega arith,
@@ -159,12 +159,12 @@ below-members n (x ∷ ps) = let ih = below-members n ps in (
   λ f. and-both (ltb x n) (allBelow n ps) (lt-ltb x n (f x (List·Memᴰ·head refl))) (ih .1 (λ p m. f p (List·Memᴰ·tail m))),
 )
 
-row : ℕ → ℕ → List ℕ → Record
+abbrev pub row : ℕ → ℕ → List ℕ → Record
 row f c ps = record { flags = f; class = c; parents = ps }
 
 -- a record is not refused exactly if it is a good row and its pairs find room
-record-exactly : (n : ℕ) (keys : List ℕ) (f c : ℕ) (ps : List ℕ) → (recordRefusal n keys f c ps ≡ 0) ↔ (GoodRow n (row f c ps) × (length (putAll c ps keys) ≤ 4096))
-unfolding recordRefusal recordChecks checks.firstRefusal row
+pub record-exactly : (n : ℕ) (keys : List ℕ) (f c : ℕ) (ps : List ℕ) → (recordRefusal n keys f c ps ≡ 0) ↔ (GoodRow n (row f c ps) × (length (putAll c ps keys) ≤ 4096))
+unfolding recordRefusal recordChecks checks.firstRefusal
 record-exactly n keys f c ps = (
   λ e. let r = record-good n keys f c ps e in (
     record {
@@ -195,7 +195,7 @@ keysOf [] = []
 keysOf (p ∷ ps) = keyOf p ∷ keysOf ps
 
 -- the keys after rows
-keysFrom : List Record → List ℕ → List ℕ
+unfoldable pub keysFrom : List Record → List ℕ → List ℕ
 keysFrom [] l = l
 keysFrom (r ∷ rs) l = keysFrom rs (putAll (r .class) (r .parents) l)
 
@@ -204,7 +204,7 @@ unfolding keysFrom
 from-sorted [] l g = g
 from-sorted (r ∷ rs) l g = from-sorted rs (putAll (r .class) (r .parents) l) (all-sorted (r .class) (r .parents) l g)
 
-from-longer : (rs : List Record) (l : List ℕ) → length l ≤ length (keysFrom rs l)
+pub from-longer : (rs : List Record) (l : List ℕ) → length l ≤ length (keysFrom rs l)
 unfolding keysFrom
 from-longer [] l = omega arith
 from-longer (r ∷ rs) l = omega (arith, all-longer (r .class) (r .parents) l, from-longer rs (putAll (r .class) (r .parents) l))
@@ -277,7 +277,7 @@ pairs-small n [] l h = λ q m. absurd (List·Memᴰ·not-nil m)
 pairs-small n (r ∷ rs) l h =
     listed-small (r .class) (r .parents) (pairsOf rs) (λ p m. let k = h r (List·Memᴰ·head refl) .parents-in p m in omega arith) (pairs-small n rs l (λ q m. h q (List·Memᴰ·tail m)))
 
-pairs-counted : (n : ℕ) (rs : List Record) → n ≤ 1024 → ((r : Record) → List·Memᴰ r rs → GoodRow n r) → length (keysFrom rs []) ≡ different (pairsOf rs)
+pub pairs-counted : (n : ℕ) (rs : List Record) → n ≤ 1024 → ((r : Record) → List·Memᴰ r rs → GoodRow n r) → length (keysFrom rs []) ≡ different (pairsOf rs)
 pairs-counted n rs l h = ap length (from-set rs) ∙ set-counted (pairsOf rs) (pairs-small n rs l h)
 
 -- ---- the columns of the records
@@ -294,7 +294,7 @@ module _ (parents : List ℕ) (f c a l : ℕ) (fs cs ats ls : List ℕ) where
 
   fit-first : (n : ℕ) (keys : List ℕ) → Fit n keys parents (f ∷ fs) (c ∷ cs) (a ∷ ats) (l ∷ ls)
       → (a + l ≤ length parents) × (recordRefusal n keys f c ps ≡ 0) × Fit n (putAll c ps keys) parents fs cs ats ls
-  unfolding recordsOf keysFrom row
+  unfolding recordsOf keysFrom
   fit-first n keys w = (
     w .placed 0 (omega arith),
     record-exactly n keys f c ps .1 (w .good (row f c ps) (List·Memᴰ·head refl), omega (arith, w .room, from-longer (recordsOf parents fs cs ats ls) (putAll c ps keys))),
@@ -303,7 +303,7 @@ module _ (parents : List ℕ) (f c a l : ℕ) (fs cs ats ls : List ℕ) where
 
   fit-more : (n : ℕ) (keys : List ℕ) → a + l ≤ length parents → recordRefusal n keys f c ps ≡ 0 → Fit n (putAll c ps keys) parents fs cs ats ls
       → Fit n keys parents (f ∷ fs) (c ∷ cs) (a ∷ ats) (l ∷ ls)
-  unfolding recordsOf keysFrom row
+  unfolding recordsOf keysFrom
   fit-more n keys h z w = record {
     placed = elim [ zero ↦ λ k. h | suc i ↦ λ k. w .placed i (omega arith) ];
     good = λ r m. ⊎-elim (λ e. subst (GoodRow n) (sym e) (record-exactly n keys f c ps .0 z .0)) (λ k. w .good r k) (List·Memᴰ·cases-cons m);
@@ -407,7 +407,7 @@ bytes-counted bytes (at ∷ ats) (len ∷ lens) e h =
     ∙ ap₂ (λ (m n : ℕ). m + n) (inside-length bytes at len (inside-plain (length bytes) at len .1 (h 0 (omega arith)))) (bytes-counted bytes ats lens (omega arith) (λ i k. h (suc i) (omega arith)))
 
 -- what a table's names must be
-record NamesFit (bytes ats lens : List ℕ) : Type 0 where
+pub record NamesFit (bytes ats lens : List ℕ) : Type 0 where
   pub placed : (i : ℕ) → i < length ats → getD ats i 0 + getD lens i 0 ≤ length bytes
   pub few : length (namesOf bytes ats lens) ≤ 1024
   pub short : length (joined (namesOf bytes ats lens)) ≤ 24576
@@ -454,7 +454,7 @@ module _ (bytes ats lens : List ℕ) (e : length lens ≡ length ats) where
       named : (i : ℕ) → i < length ats → GoodName (nameAt bytes ats lens i)
       named i h = subst GoodName (get-name bytes ats lens i e h) (w .good i (let m = many in omega arith))
 
-  names-exactly : (nameRows bytes ats lens [] noTables .refusal ≡ 0) ↔ NamesFit bytes ats lens
+  pub names-exactly : (nameRows bytes ats lens [] noTables .refusal ≡ 0) ↔ NamesFit bytes ats lens
   unfolding noTables checkNames
   names-exactly = (
     λ z. names-fit (names-checked bytes ats lens (sym e) z),
