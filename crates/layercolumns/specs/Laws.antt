@@ -290,12 +290,15 @@ module _ (bytes nameAt nameLen parents fs cs ats ls pairs marks : List ℕ) (nam
 -- ---- room for the layers that there are
 
 module _ (fs pairs : List ℕ) where
+  pub room-none : firstOpen fs ≡ length fs → length pairs ≡ 4096 → RoomFor fs pairs
+  room-none e l = record { plain = λ p. e; layered = λ n. absurd (n l) }
+
   -- no row opens one: none was found before the end
+  pub none-found : (k : ℕ) → k ≡ firstOpen fs → length fs ≤ k → firstOpen fs ≡ length fs
+  none-found k e h = let w = open-within fs in omega arith
+
   pub room-plain : (k : ℕ) → k ≡ firstOpen fs → length fs ≤ k → length pairs ≡ 4096 → RoomFor fs pairs
-  room-plain k e h l = record {
-    plain = λ p. let w = open-within fs in omega arith;
-    layered = λ n. absurd (n l);
-  }
+  room-plain k e h l = room-none (none-found k e h) l
 
   pub room-layers : length pairs ≡ layersRoom → RoomFor fs pairs
   room-layers l = record {

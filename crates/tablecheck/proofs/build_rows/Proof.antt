@@ -1,25 +1,28 @@
--- `build_rows` meets its contract: what `columns` builds in two arrays without an entry.
+-- `build_rows` meets its contract: with layers, or without.
 use borrow.Author.Needs.{needs}
-use Rattle.columns.specs.Given.{Given, given}
-use Rattle.tablecheck.specs.Steps.{built-is}
+use Rattle.layercolumns.specs.Laws.{none-found}
 use Rattle.tablecheck.proofs.build_rows.Statement.{statement}
 use Rattle.tablecheck.proofs.build_rows.Tie as tie
 
-slice-aggregate-build : tie.Need-slice-aggregate-build
-slice-aggregate-build c = search needs
+first-open-requires : tie.Need-first-open-requires
+first-open-requires c κs = search needs
 
-slice-aggregate-build-2 : tie.Need-slice-aggregate-build-2
-slice-aggregate-build-2 c = search needs
-
-build-requires : tie.Need-build-requires
-build-requires c κs = search needs
+build-layers-requires : tie.Need-build-layers-requires
+build-layers-requires c κs = c .before .before .before .before .before .before .before .before .before .before .pre
 
 returns : tie.Need-returns
-returns c =
-    let a = c .before .before .before .before .before .before .before .before .before .before .before .before .before .args in
-    let g : Given = given (a .names .now) (a .name-at .now) (a .name-len .now) (a .rec-flags .now) (a .rec-class .now) (a .rec-at .now) (a .rec-len .now) (a .parents .now) in
-    built-is g _ _ _ _ (c .before .before .build .ensures)
+returns c = c .build-layers .ensures
+
+build-plain-requires : tie.Need-build-plain-requires
+build-plain-requires c κs =
+    let s = c .before .before .before .before .before .before .before .before .before .before in
+    let found = c .before .first-open in
+    (s .pre .0, s .pre .1, none-found (s .args .rec-flags .now) (s .args .rec-flags .now) (found .result) (found .ensures) (c .if1 .left))
+
+returns-2 : tie.Need-returns-2
+returns-2 c = c .build-plain .ensures
 
 pub build-rows-spec : {M : Type 1} → statement M
 build-rows-spec =
-    tie.close (tie.spec slice-aggregate-build slice-aggregate-build-2 build-requires returns)
+    tie.close
+    (tie.spec first-open-requires build-layers-requires returns build-plain-requires returns-2)
