@@ -1,11 +1,11 @@
--- `solve_slices` meets its contract: refused by lengths, by the table, or the solve over the table that was built.
+-- `solve_slices` meets its contract: refused by lengths, or the solve with the room that the table's layers need.
 use borrow.Author.Needs.{needs}
 use Rattle.columns.specs.Given.{Given, given}
 use Rattle.problems.specs.Problems.{Columns}
 use Rattle.problemcolumns.specs.ProblemColumns.{columnsIn}
+use Rattle.layercolumns.specs.Laws.{room-plain}
 use Rattle.solves.specs.SolveResult.{Lent, lent}
-use Rattle.questions.specs.Laws.{stands}
-use Rattle.solvedoor.specs.Laws.{roomy, refused-of, table-refused, table-solved, door-long, lengths-refused, lengths-good, door-lengths}
+use Rattle.solvedoor.specs.Laws.{roomy, door-long, lengths-refused, lengths-good, door-lengths}
 use Rattle.solvedoor.proofs.solve_slices.Statement.{statement}
 use Rattle.solvedoor.proofs.solve_slices.Tie as tie
 
@@ -41,46 +41,18 @@ returns c =
     let f = c .before .before .refuse-lengths in
     door-lengths (table s) (columns s) (a .answers .now) (a .out-comp .now) (a .out-kind .now) (a .out-type .now) (a .work .now) _ (f .result) (k .result) (f .ensures .0) (f .ensures .1) (c .before .before .before .before .if1 .taken) (lengths-refused (columns s) (slices s) (k .result) (k .ensures))
 
-slice-aggregate-build-table : tie.Need-slice-aggregate-build-table
-slice-aggregate-build-table c = search needs
+first-open-requires : tie.Need-first-open-requires
+first-open-requires c κs = search needs
 
-slice-aggregate-build-table-2 : tie.Need-slice-aggregate-build-table-2
-slice-aggregate-build-table-2 c = search needs
-
-build-table-requires : tie.Need-build-table-requires
-build-table-requires c κs = (search needs, search needs)
-
-refuse-requires : tie.Need-refuse-requires
-refuse-requires c κs = search needs
+solve-layers-requires : tie.Need-solve-layers-requires
+solve-layers-requires c κs =
+    let s = c .before .before .before .before .before .before .before .before .before .before .before .before .before .before .before .before .before .before .before .before .before .before .before .before .before .before .before .before .before .before .before .before .before .before in
+    let k = c .before .before .before .before .before .before .before .before .lengths-refusal in
+    let good = lengths-good (columns s) (slices s) (k .result) (lengths-refused (columns s) (slices s) (k .result) (k .ensures)) (c .before .before .before .before .before .before .before .if1 .left) in
+    (good .1, roomy (columns s) (slices s) (good .0))
 
 same-length-2 : tie.Need-same-length-2
 same-length-2 c = search needs
-
-returns-2 : tie.Need-returns-2
-returns-2 c =
-    let s = c .before .before .before .before .before .before .before .before .before .before .before .before .before .before .before .before .before .before .before .before .before .before .before .before .before .before .before .before .before .before .before .before .before .before .before .before .before .before in
-    let a = s .args in
-    let k = c .before .before .before .before .before .before .before .before .before .before .before .before .lengths-refusal in
-    let o = c .before .before .before .before .before .before .before .before .build-table in
-    let f = c .before .before .refuse in
-    let n = c .before .before .before .before .if2 .taken in
-    let good = lengths-good (columns s) (slices s) (k .result) (lengths-refused (columns s) (slices s) (k .result) (k .ensures)) (c .before .before .before .before .before .before .before .before .before .before .before .if1 .left) in
-    door-long (table s) (columns s) (slices s) _ (f .result) (good .0) (refused-of (a .answers .now) (a .out-comp .now) (a .out-kind .now) (a .out-type .now) (a .work .now) _ (f .result) (o .result .refusal) (f .ensures .0) (f .ensures .1) (table s) (columns s) n (table-refused (table s) (columns s) (good .1) _ _ _ (o .result) (o .ensures) n))
-
-slice-aggregate-solve-rows : tie.Need-slice-aggregate-solve-rows
-slice-aggregate-solve-rows c = search needs
-
-slice-aggregate-solve-rows-2 : tie.Need-slice-aggregate-solve-rows-2
-slice-aggregate-solve-rows-2 c = search needs
-
-solve-rows-requires : tie.Need-solve-rows-requires
-solve-rows-requires c κs =
-    let s = c .before .before .before .before .before .before .before .before .before .before .before .before .before .before .before .before .before .before .before .before .before .before .before .before .before .before .before .before .before .before .before .before .before .before .before .before .before .before .before .before .before in
-    let k = c .before .before .before .before .before .before .before .before .before .before .before .before .before .before .before .lengths-refusal in
-    let o = c .before .before .before .before .before .before .before .before .before .before .before .build-table in
-    let good = lengths-good (columns s) (slices s) (k .result) (lengths-refused (columns s) (slices s) (k .result) (k .ensures)) (c .before .before .before .before .before .before .before .before .before .before .before .before .before .before .if1 .left) in
-    let t = stands (table s) _ _ _ (o .result) (o .ensures) (c .before .before .before .before .before .before .before .if2 .left) in
-    ((t .wide, t .few, t .object-in), good .1, roomy (columns s) (slices s) (good .0))
 
 same-length-3 : tie.Need-same-length-3
 same-length-3 c = search needs
@@ -94,16 +66,48 @@ same-length-5 c = search needs
 same-length-6 : tie.Need-same-length-6
 same-length-6 c = search needs
 
+returns-2 : tie.Need-returns-2
+returns-2 c =
+    let s = c .before .before .before .before .before .before .before .before .before .before .before .before .before .before .before .before .before .before .before .before .before .before .before .before .before .before .before .before .before .before .before .before .before .before .before .before .before .before .before .before .before .before .before .before .before in
+    let k = c .before .before .before .before .before .before .before .before .before .before .before .before .before .before .before .before .before .before .before .lengths-refusal in
+    let good = lengths-good (columns s) (slices s) (k .result) (lengths-refused (columns s) (slices s) (k .result) (k .ensures)) (c .before .before .before .before .before .before .before .before .before .before .before .before .before .before .before .before .before .before .if1 .left) in
+    door-long (table s) (columns s) (slices s) _ _ (good .0) (c .before .before .before .before .before .before .before .before .before .before .solve-layers .ensures)
+
+slice-aggregate-solve-over : tie.Need-slice-aggregate-solve-over
+slice-aggregate-solve-over c = search needs
+
+slice-aggregate-solve-over-2 : tie.Need-slice-aggregate-solve-over-2
+slice-aggregate-solve-over-2 c = search needs
+
+solve-over-requires : tie.Need-solve-over-requires
+solve-over-requires c κs =
+    let s = c .before .before .before .before .before .before .before .before .before .before .before .before .before .before .before .before .before .before .before .before .before .before .before .before .before .before .before .before .before .before .before .before .before .before .before .before in
+    let k = c .before .before .before .before .before .before .before .before .before .before .lengths-refusal in
+    let found = c .before .before .before .before .before .before .before .before .first-open in
+    let good = lengths-good (columns s) (slices s) (k .result) (lengths-refused (columns s) (slices s) (k .result) (k .ensures)) (c .before .before .before .before .before .before .before .before .before .if1 .left) in
+    (room-plain _ _ (found .result) (found .ensures) (c .before .before .before .before .before .before .before .if2 .left) (search needs), search needs, good .1, roomy (columns s) (slices s) (good .0))
+
 same-length-7 : tie.Need-same-length-7
 same-length-7 c = search needs
 
+same-length-8 : tie.Need-same-length-8
+same-length-8 c = search needs
+
+same-length-9 : tie.Need-same-length-9
+same-length-9 c = search needs
+
+same-length-10 : tie.Need-same-length-10
+same-length-10 c = search needs
+
+same-length-11 : tie.Need-same-length-11
+same-length-11 c = search needs
+
 returns-3 : tie.Need-returns-3
 returns-3 c =
-    let s = c .before .before .before .before .before .before .before .before .before .before .before .before .before .before .before .before .before .before .before .before .before .before .before .before .before .before .before .before .before .before .before .before .before .before .before .before .before .before .before .before .before .before .before .before .before .before .before .before .before .before .before .before in
-    let k = c .before .before .before .before .before .before .before .before .before .before .before .before .before .before .before .before .before .before .before .before .before .before .before .before .before .before .lengths-refusal in
-    let o = c .before .before .before .before .before .before .before .before .before .before .before .before .before .before .before .before .before .before .before .before .before .before .build-table in
-    let good = lengths-good (columns s) (slices s) (k .result) (lengths-refused (columns s) (slices s) (k .result) (k .ensures)) (c .before .before .before .before .before .before .before .before .before .before .before .before .before .before .before .before .before .before .before .before .before .before .before .before .before .if1 .left) in
-    door-long (table s) (columns s) (slices s) _ _ (good .0) (table-solved (table s) (columns s) (good .1) _ _ _ (o .result) (o .ensures) (c .before .before .before .before .before .before .before .before .before .before .before .before .before .before .before .before .before .before .if2 .left) _ _ _ (c .before .before .before .before .before .before .before .before .before .before .solve-rows .ensures))
+    let s = c .before .before .before .before .before .before .before .before .before .before .before .before .before .before .before .before .before .before .before .before .before .before .before .before .before .before .before .before .before .before .before .before .before .before .before .before .before .before .before .before .before .before .before .before .before .before .before .before .before in
+    let k = c .before .before .before .before .before .before .before .before .before .before .before .before .before .before .before .before .before .before .before .before .before .before .before .lengths-refusal in
+    let good = lengths-good (columns s) (slices s) (k .result) (lengths-refused (columns s) (slices s) (k .result) (k .ensures)) (c .before .before .before .before .before .before .before .before .before .before .before .before .before .before .before .before .before .before .before .before .before .before .if1 .left) in
+    door-long (table s) (columns s) (slices s) _ _ (good .0) (c .before .before .before .before .before .before .before .before .before .before .before .before .solve-over .ensures)
 
 pub solve-slices-spec : {M : Type 1} → statement M
 solve-slices-spec =
@@ -113,18 +117,20 @@ solve-slices-spec =
     refuse-lengths-requires
     same-length
     returns
-    slice-aggregate-build-table
-    slice-aggregate-build-table-2
-    build-table-requires
-    refuse-requires
+    first-open-requires
+    solve-layers-requires
     same-length-2
-    returns-2
-    slice-aggregate-solve-rows
-    slice-aggregate-solve-rows-2
-    solve-rows-requires
     same-length-3
     same-length-4
     same-length-5
     same-length-6
+    returns-2
+    slice-aggregate-solve-over
+    slice-aggregate-solve-over-2
+    solve-over-requires
     same-length-7
+    same-length-8
+    same-length-9
+    same-length-10
+    same-length-11
     returns-3)
