@@ -15,19 +15,16 @@ use Rattle.columns.specs.GivenLaws.{even-is}
 use Rattle.layers.specs.Stacks.{Stack, StackRan, ground, Upright}
 use Rattle.layers.specs.StackLaws.{upright-ground}
 use Rattle.layercolumns.specs.LayerColumns.{stackRows, stackTable}
-use Rattle.tableview.specs.TableRows.{Record, Rows, rowsView, rowsWorld, namesOf, recordsOf}
+use Rattle.tableview.specs.TableRows.{rowsView, rowsWorld, rowsIn, recordsOf}
 use Rattle.tableview.specs.Taken.{After}
 use Rattle.tableview.specs.Inner.{stateView, stateWorld}
 use Rattle.tableview.specs.Agrees.{namedTable, Made, made-view, made-world}
-use Rattle.stackview.specs.LayerRows.{shownRows}
+use Rattle.stackview.specs.LayerRows.{shownRows, shownIn}
 use Rattle.stackview.specs.Taken.{rows-after, rows-upright}
 
--- what the columns come to, and the rows that its layers show
+-- what the columns come to
 unfoldable pub stackIn : Given → StackRan
 stackIn g = stackTable (nameRows (g .names) (g .«name_at») (g .«name_len») [] noTables) (g .parents) (g .«rec_flags») (g .«rec_class») (g .«rec_at») (g .«rec_len») noMarks
-
-unfoldable pub shownIn : Given → Rows
-shownIn g = record { names = namesOf (g .names) (g .«name_at») (g .«name_len»); records = shownRows (recordsOf (g .parents) (g .«rec_flags») (g .«rec_class») (g .«rec_at») (g .«rec_len»)) }
 
 upright-made : (s : Stack) → Upright s → Made (s .top .shown)
 upright-made s g = record { ordered = g .ordered; counted = g .counted; classes = g .classes; wide = g .wide }
@@ -69,9 +66,9 @@ module _ (g : Given) (e : even g ≡ true) (z : stackIn g .refusal ≡ 0) where
   stack-upright = both-taken .2
 
   pub stack-view : stateView (stackIn g .state .top .shown) ≡ rowsView (shownIn g)
-  unfolding shownIn
+  unfolding shownIn rowsIn
   stack-view = made-view (g .names) (g .«name_at») (g .«name_len») columns-even (both-taken .0) _ (stackIn g .state .top .shown) (both-taken .1) (upright-made (stackIn g .state) (both-taken .2))
 
   pub stack-world : stateWorld (stackIn g .state .top .shown) ≡ rowsWorld (shownIn g)
-  unfolding shownIn
+  unfolding shownIn rowsIn
   stack-world = made-world (g .names) (g .«name_at») (g .«name_len») columns-even (both-taken .0) _ (stackIn g .state .top .shown) (both-taken .1) (upright-made (stackIn g .state) (both-taken .2))

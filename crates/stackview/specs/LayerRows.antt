@@ -4,8 +4,9 @@ use mathlib.Core.Bool.{Bool, true, false, cond, _||_}
 use mathlib.Core.List.{List, [], _∷_}
 use Prim.Native.Nat.{ℕ}
 use lib.Dec.{eqb}
+use Rattle.columns.specs.Given.{Given}
 use Rattle.layercolumns.specs.LayerColumns.{openFlags}
-use Rattle.tableview.specs.TableRows.{Record}
+use Rattle.tableview.specs.TableRows.{Record, Rows, rowsIn}
 
 abbrev pub opensLayer : Record → Bool
 opensLayer r = eqb (r .flags) openFlags
@@ -29,3 +30,10 @@ hidden false r = r
 unfoldable pub shownRows : List Record → List Record
 shownRows [] = []
 shownRows (r ∷ rs) = cond (opensLayer r) (shownRows rs) (hidden (recordedAbove (r .class) rs) r ∷ shownRows rs)
+
+abbrev pub shownTable : Rows → Rows
+shownTable t = record { names = t .names; records = shownRows (t .records) }
+
+-- of the rows that columns hold
+unfoldable pub shownIn : Given → Rows
+shownIn g = shownTable (rowsIn g)

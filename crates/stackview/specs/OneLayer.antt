@@ -19,11 +19,11 @@ use Rattle.layercolumns.specs.Laws.{lowest-rows}
 use Rattle.tableview.specs.TableRows.{Record, Rows, recordsOf, namesOf, rowsIn}
 use Rattle.tableview.specs.RowRefusals.{tableRefusal}
 use Rattle.tableview.specs.Refused.{table-refusal}
-use Rattle.stackview.specs.LayerRows.{shownRows}
+use Rattle.stackview.specs.LayerRows.{shownRows, shownIn}
 use Rattle.stackview.specs.LayerViews.{noneOpens, one-layer}
 use Rattle.stackview.specs.LayerRefusals.{stackRefusalOf}
 use Rattle.stackview.specs.Refused.{stack-refusal}
-use Rattle.stackview.specs.Agrees.{stackIn, shownIn}
+use Rattle.stackview.specs.Agrees.{stackIn}
 
 -- all rows stand before the first that opens a layer
 rest-opens : (f : ℕ) (fs : List ℕ) → firstOpen (f ∷ fs) ≡ length (f ∷ fs) → (eqb f openFlags ≡ false) × (firstOpen fs ≡ length fs)
