@@ -7,3 +7,4 @@ pub mod Refused
 pub mod Agrees
 pub mod OneLayer
 pub mod Domain
+pub mod Canonical
