@@ -28,6 +28,7 @@ use Rattle.tableview.specs.Inner.{stateView, stateWorld}
 use Rattle.tableview.specs.TableRows.{Record, Rows, rowsView, rowsWorld}
 use Rattle.tableview.specs.Canonical.{columnsOf, namedRows, recordedRows, tableRows, columns-even}
 use Rattle.stackview.specs.LayerRows.{shownTable}
+use Rattle.stackview.specs.LayerViews.{noneOpens, one-layer}
 use Rattle.stackview.specs.Agrees.{stackIn, stack-view, stack-world}
 use Rattle.stackview.specs.Canonical.{stack-rows, shown-back}
 use Rattle.problems.specs.Problems.{ProblemRow, counted, variable, bounded, flow, upperFlow, reading, writing, noProblem, withRow, rowRefusal, problemRow, problem}
@@ -342,6 +343,13 @@ module _ (ls : List (List ℕ)) where
   reached-view =
       ap (λ (c : Stack). stateView (c .top .shown)) (sym reached-table) ∙ stack-view (columnsOf (sent ls .table)) (columns-even (sent ls .table)) reached-taken
       ∙ ap rowsView (shown-back (sent ls .table))
+
+  -- ONE LAYER IS AS BEFORE: where no frame opened another, the rows themselves
+  pub reached-plain : noneOpens (sent ls .table .records)
+      → (stateWorld (shown (after ls emptyStore)) ≡ rowsWorld (sent ls .table)) × (stateView (shown (after ls emptyStore)) ≡ rowsView (sent ls .table))
+  reached-plain n =
+      let same : shownTable (sent ls .table) ≡ sent ls .table = ap (λ (rs : List Record). record { names = sent ls .table .names; records = rs }) (one-layer (sent ls .table .records) n) in
+      (reached-world ∙ ap rowsWorld same, reached-view ∙ ap rowsView same)
 
   -- A SOLVE IS THE SOLVE OF THE ROWS AS THEY CAME
   pub reached-solve : solve (stateWorld (shown (after ls emptyStore))) (after ls emptyStore .problem) ≡ solve (rowsWorld (shownTable (sent ls .table))) (listRows (sent ls .rows) noProblem)
