@@ -26,7 +26,7 @@ pub record Store : Type 0 where
   -- the class table, in layers
   pub classes : Stack
   pub problem : Problem
-  -- the highest kind accepted; 10 for all from 0a on
+  -- the highest kind accepted; 10 for 0a to 0d, 2 for 0e
   pub rank : ℕ
 
 unfoldable pub emptyStore : Store
