@@ -18,7 +18,8 @@ use Rattle.methods.specs.Answers.{methodAnswer}
 use Rattle.view.specs.View.{relation, relationNumber, distance, numberOf, ancestors, supertype, cast}
 use Rattle.lattice.specs.Lattice.{join, isAssignable}
 use Rattle.columns.specs.Given.{Given}
-use Rattle.tableview.specs.TableRows.{rowsView, rowsWorld, rowsIn}
+use Rattle.tableview.specs.TableRows.{rowsView, rowsWorld}
+use Rattle.stackview.specs.LayerRows.{shownIn}
 use Rattle.questions.specs.declared.Question.the-variants.{Relation, Distance, Supertype, Cast, Join, Assignable}
 use Rattle.questions.specs.declared.Answer.{Answer}
 use Rattle.questions.specs.declared.Ancestors.{Ancestors}
@@ -89,7 +90,7 @@ checkAnswer c = record { refusal = c .refusal; part = c .part; row = c .row }
 abbrev pub checkTold : Given → BpTable
 checkTold g = checkAnswer (tableCheck g)
 
--- ---- what is asked, of the rows that the columns hold; the last number is the length of the work
+-- ---- what is asked, of the rows that the columns' layers show; the last number is the length of the work
 
 abbrev pub relationAnswer : Answer → BpRelation
 relationAnswer a = record { refusal = a .refusal; relation = a .value }
@@ -102,32 +103,32 @@ setAnswer a = record { refusal = a .refusal; count = a .count; lowest = a .lowes
 
 unfoldable pub relationTold : Given → ℕ → ℕ → ℕ → BpRelation
 relationTold g value expected room =
-    relationAnswer (answered (questionRefusal g Relation value expected room) (relationNumber (relation (rowsView (rowsIn g)) value expected)))
+    relationAnswer (answered (questionRefusal g Relation value expected room) (relationNumber (relation (rowsView (shownIn g)) value expected)))
 
 unfoldable pub distanceTold : Given → ℕ → ℕ → ℕ → BpAnswer
 distanceTold g value expected room =
-    numberAnswer (answered (questionRefusal g Distance value expected room) (numberOf (distance (rowsView (rowsIn g)) value expected)))
+    numberAnswer (answered (questionRefusal g Distance value expected room) (numberOf (distance (rowsView (shownIn g)) value expected)))
 
 unfoldable pub ancestorsTold : Given → ℕ → ℕ → BpSet
-ancestorsTold g class room = setAnswer (gathered (ancestorsRefusal g class room) (ancestors (rowsView (rowsIn g)) class))
+ancestorsTold g class room = setAnswer (gathered (ancestorsRefusal g class room) (ancestors (rowsView (shownIn g)) class))
 
 unfoldable pub supertypeTold : Given → ℕ → ℕ → ℕ → BpAnswer
 supertypeTold g left right room =
-    numberAnswer (answered (questionRefusal g Supertype left right room) (numberOf (supertype (rowsView (rowsIn g)) left right)))
+    numberAnswer (answered (questionRefusal g Supertype left right room) (numberOf (supertype (rowsView (shownIn g)) left right)))
 
 unfoldable pub castTold : Given → ℕ → ℕ → ℕ → BpAnswer
 castTold g source target room =
-    numberAnswer (answered (questionRefusal g Cast source target room) (cond (cast (rowsView (rowsIn g)) source target) 1 0))
+    numberAnswer (answered (questionRefusal g Cast source target room) (cond (cast (rowsView (shownIn g)) source target) 1 0))
 
 unfoldable pub joinTold : Given → ℕ → ℕ → ℕ → BpAnswer
 joinTold g left right room =
-    numberAnswer (answered (questionRefusal g Join left right room) (wordOf (join (rowsWorld (rowsIn g)) (typeOf left) (typeOf right))))
+    numberAnswer (answered (questionRefusal g Join left right room) (wordOf (join (rowsWorld (shownIn g)) (typeOf left) (typeOf right))))
 
 unfoldable pub assignableTold : Given → ℕ → ℕ → ℕ → BpAnswer
 assignableTold g value expected room =
-    numberAnswer (answered (questionRefusal g Assignable value expected room) (cond (isAssignable (rowsWorld (rowsIn g)) (typeOf value) (typeOf expected)) 1 0))
+    numberAnswer (answered (questionRefusal g Assignable value expected room) (cond (isAssignable (rowsWorld (shownIn g)) (typeOf value) (typeOf expected)) 1 0))
 
--- ---- a solve, of the rows that the columns hold
+-- ---- a solve, over the rows that the columns' layers show
 
 abbrev pub solvedAnswer : Counts → BpSolved
 solvedAnswer c = record { refusal = c .refusal; bounds = c .bounds; turns = c .turns }

@@ -15,8 +15,10 @@ use contract.Lifetimes.{Lfts}
 use Rattle.rows.specs.Rows.{allBelow}
 use Rattle.columns.specs.Given.{Given, given}
 use Rattle.tableview.specs.TableRows.{rowsView, rowsIn}
-use Rattle.tableview.specs.Domain.{InDomain, Aligned, Placed, even-exactly, table-exactly, object-there}
-use Rattle.tableview.specs.Refused.{table-refusal}
+use Rattle.stackview.specs.LayerRows.{shownIn}
+use Rattle.tableview.specs.Domain.{Aligned, Placed, even-exactly}
+use Rattle.stackview.specs.Domain.{LayersInDomain, stack-exactly, shown-object}
+use Rattle.stackview.specs.Shown.{stack-refused}
 use Rattle.questions.specs.declared.Question.the-variants.{Relation, Distance, Supertype, Cast, Join, Assignable}
 use Rattle.questions.specs.Questions.{goodNumbers}
 use Rattle.tablecheck.specs.TableCheck.{told, tableCheck}
@@ -57,18 +59,18 @@ columnsChecked κs a =
 pub record Tabled (g : Given) : Type 0 where
   pub aligned : Aligned g
   pub placed : Placed g
-  pub rows : InDomain (rowsIn g)
+  pub rows : LayersInDomain (rowsIn g)
 
 tabled-exactly : (g : Given) → (tableCheck g .refusal ≡ 0) ↔ Tabled g
 tabled-exactly g = (
   λ z. let w = zero-exactly g .0 z in
       let al = even-exactly g .0 (w .0) in
-      let t = table-exactly g al .0 (table-refusal g ∙ w .1) in
-      record { aligned = al; placed = t .0; rows = record { limits = t .1; object-named = object-there (rowsIn g) (t .1 .few-names) .0 (w .2) } },
+      let t = stack-exactly g al .0 (stack-refused g ∙ w .1) in
+      record { aligned = al; placed = t .0; rows = record { limits = t .1; object-named = shown-object g (t .1 .few-names) .0 (w .2) } },
   λ w. zero-exactly g .1 (
     even-exactly g .1 (w .aligned),
-    sym (table-refusal g) ∙ table-exactly g (w .aligned) .1 (w .placed, w .rows .limits),
-    object-there (rowsIn g) (w .rows .limits .few-names) .1 (w .rows .object-named),
+    sym (stack-refused g) ∙ stack-exactly g (w .aligned) .1 (w .placed, w .rows .limits),
+    shown-object g (w .rows .limits .few-names) .1 (w .rows .object-named),
   ),
 )
 
@@ -89,63 +91,63 @@ module _ (κs : Lfts 8) (a : Dens κs bp-check-table-kinds.ps) (r : resT bp-chec
 
   pub bp-relation-alike : (λs : Lfts 9) (b : Dens λs bp-relation-kinds.ps) (q : resT bp-relation-kinds.r λs .Denot) (y : AtExit (endedOf 9 bp-relation-kinds.ps bp-relation-kinds.r) λs)
       → bp-relation-reads.Post λs b q y → columnsAsked λs b ≡ columnsChecked κs a → 8192 ≤ roomAsked λs b
-      → NumbersIn false (length (rowsIn (columnsAsked λs b) .names)) (firstAsked λs b) (secondAsked λs b) → q .refusal ≡ r .refusal
+      → NumbersIn false (length (shownIn (columnsAsked λs b) .names)) (firstAsked λs b) (secondAsked λs b) → q .refusal ≡ r .refusal
   unfolding relationTold rowsView
   bp-relation-alike λs b q y o e h w =
       ap (λ (z : BpRelation). z .refusal) (o .0) ∙ answer-refusal _ _
-      ∙ question-alike (columnsAsked λs b) Relation (firstAsked λs b) (secondAsked λs b) (roomAsked λs b) h (numbers-good false (length (rowsIn (columnsAsked λs b) .names)) (firstAsked λs b) (secondAsked λs b) .1 w)
+      ∙ question-alike (columnsAsked λs b) Relation (firstAsked λs b) (secondAsked λs b) (roomAsked λs b) h (numbers-good false (length (shownIn (columnsAsked λs b) .names)) (firstAsked λs b) (secondAsked λs b) .1 w)
       ∙ ap (λ (g : Given). tableCheck g .refusal) e ∙ sym refusal-told
 
   pub bp-distance-alike : (λs : Lfts 9) (b : Dens λs bp-distance-kinds.ps) (q : resT bp-distance-kinds.r λs .Denot) (y : AtExit (endedOf 9 bp-distance-kinds.ps bp-distance-kinds.r) λs)
       → bp-distance-reads.Post λs b q y → columnsAsked λs b ≡ columnsChecked κs a → 8192 ≤ roomAsked λs b
-      → NumbersIn false (length (rowsIn (columnsAsked λs b) .names)) (firstAsked λs b) (secondAsked λs b) → q .refusal ≡ r .refusal
+      → NumbersIn false (length (shownIn (columnsAsked λs b) .names)) (firstAsked λs b) (secondAsked λs b) → q .refusal ≡ r .refusal
   unfolding distanceTold rowsView
   bp-distance-alike λs b q y o e h w =
       ap (λ (z : BpAnswer). z .refusal) (o .0) ∙ answer-refusal _ _
-      ∙ question-alike (columnsAsked λs b) Distance (firstAsked λs b) (secondAsked λs b) (roomAsked λs b) h (numbers-good false (length (rowsIn (columnsAsked λs b) .names)) (firstAsked λs b) (secondAsked λs b) .1 w)
+      ∙ question-alike (columnsAsked λs b) Distance (firstAsked λs b) (secondAsked λs b) (roomAsked λs b) h (numbers-good false (length (shownIn (columnsAsked λs b) .names)) (firstAsked λs b) (secondAsked λs b) .1 w)
       ∙ ap (λ (g : Given). tableCheck g .refusal) e ∙ sym refusal-told
 
   pub bp-supertype-alike : (λs : Lfts 9) (b : Dens λs bp-supertype-kinds.ps) (q : resT bp-supertype-kinds.r λs .Denot) (y : AtExit (endedOf 9 bp-supertype-kinds.ps bp-supertype-kinds.r) λs)
       → bp-supertype-reads.Post λs b q y → columnsAsked λs b ≡ columnsChecked κs a → 8192 ≤ roomAsked λs b
-      → NumbersIn false (length (rowsIn (columnsAsked λs b) .names)) (firstAsked λs b) (secondAsked λs b) → q .refusal ≡ r .refusal
+      → NumbersIn false (length (shownIn (columnsAsked λs b) .names)) (firstAsked λs b) (secondAsked λs b) → q .refusal ≡ r .refusal
   unfolding supertypeTold rowsView
   bp-supertype-alike λs b q y o e h w =
       ap (λ (z : BpAnswer). z .refusal) (o .0) ∙ answer-refusal _ _
-      ∙ question-alike (columnsAsked λs b) Supertype (firstAsked λs b) (secondAsked λs b) (roomAsked λs b) h (numbers-good false (length (rowsIn (columnsAsked λs b) .names)) (firstAsked λs b) (secondAsked λs b) .1 w)
+      ∙ question-alike (columnsAsked λs b) Supertype (firstAsked λs b) (secondAsked λs b) (roomAsked λs b) h (numbers-good false (length (shownIn (columnsAsked λs b) .names)) (firstAsked λs b) (secondAsked λs b) .1 w)
       ∙ ap (λ (g : Given). tableCheck g .refusal) e ∙ sym refusal-told
 
   pub bp-cast-alike : (λs : Lfts 9) (b : Dens λs bp-cast-kinds.ps) (q : resT bp-cast-kinds.r λs .Denot) (y : AtExit (endedOf 9 bp-cast-kinds.ps bp-cast-kinds.r) λs)
       → bp-cast-reads.Post λs b q y → columnsAsked λs b ≡ columnsChecked κs a → 8192 ≤ roomAsked λs b
-      → NumbersIn false (length (rowsIn (columnsAsked λs b) .names)) (firstAsked λs b) (secondAsked λs b) → q .refusal ≡ r .refusal
+      → NumbersIn false (length (shownIn (columnsAsked λs b) .names)) (firstAsked λs b) (secondAsked λs b) → q .refusal ≡ r .refusal
   unfolding castTold rowsView
   bp-cast-alike λs b q y o e h w =
       ap (λ (z : BpAnswer). z .refusal) (o .0) ∙ answer-refusal _ _
-      ∙ question-alike (columnsAsked λs b) Cast (firstAsked λs b) (secondAsked λs b) (roomAsked λs b) h (numbers-good false (length (rowsIn (columnsAsked λs b) .names)) (firstAsked λs b) (secondAsked λs b) .1 w)
+      ∙ question-alike (columnsAsked λs b) Cast (firstAsked λs b) (secondAsked λs b) (roomAsked λs b) h (numbers-good false (length (shownIn (columnsAsked λs b) .names)) (firstAsked λs b) (secondAsked λs b) .1 w)
       ∙ ap (λ (g : Given). tableCheck g .refusal) e ∙ sym refusal-told
 
   pub bp-join-alike : (λs : Lfts 9) (b : Dens λs bp-join-kinds.ps) (q : resT bp-join-kinds.r λs .Denot) (y : AtExit (endedOf 9 bp-join-kinds.ps bp-join-kinds.r) λs)
       → bp-join-reads.Post λs b q y → columnsAsked λs b ≡ columnsChecked κs a → 8192 ≤ roomAsked λs b
-      → NumbersIn true (length (rowsIn (columnsAsked λs b) .names)) (firstAsked λs b) (secondAsked λs b) → q .refusal ≡ r .refusal
+      → NumbersIn true (length (shownIn (columnsAsked λs b) .names)) (firstAsked λs b) (secondAsked λs b) → q .refusal ≡ r .refusal
   unfolding joinTold rowsView
   bp-join-alike λs b q y o e h w =
       ap (λ (z : BpAnswer). z .refusal) (o .0) ∙ answer-refusal _ _
-      ∙ question-alike (columnsAsked λs b) Join (firstAsked λs b) (secondAsked λs b) (roomAsked λs b) h (numbers-good true (length (rowsIn (columnsAsked λs b) .names)) (firstAsked λs b) (secondAsked λs b) .1 w)
+      ∙ question-alike (columnsAsked λs b) Join (firstAsked λs b) (secondAsked λs b) (roomAsked λs b) h (numbers-good true (length (shownIn (columnsAsked λs b) .names)) (firstAsked λs b) (secondAsked λs b) .1 w)
       ∙ ap (λ (g : Given). tableCheck g .refusal) e ∙ sym refusal-told
 
   pub bp-assignable-alike : (λs : Lfts 9) (b : Dens λs bp-assignable-kinds.ps) (q : resT bp-assignable-kinds.r λs .Denot) (y : AtExit (endedOf 9 bp-assignable-kinds.ps bp-assignable-kinds.r) λs)
       → bp-assignable-reads.Post λs b q y → columnsAsked λs b ≡ columnsChecked κs a → 8192 ≤ roomAsked λs b
-      → NumbersIn true (length (rowsIn (columnsAsked λs b) .names)) (firstAsked λs b) (secondAsked λs b) → q .refusal ≡ r .refusal
+      → NumbersIn true (length (shownIn (columnsAsked λs b) .names)) (firstAsked λs b) (secondAsked λs b) → q .refusal ≡ r .refusal
   unfolding assignableTold rowsView
   bp-assignable-alike λs b q y o e h w =
       ap (λ (z : BpAnswer). z .refusal) (o .0) ∙ answer-refusal _ _
-      ∙ question-alike (columnsAsked λs b) Assignable (firstAsked λs b) (secondAsked λs b) (roomAsked λs b) h (numbers-good true (length (rowsIn (columnsAsked λs b) .names)) (firstAsked λs b) (secondAsked λs b) .1 w)
+      ∙ question-alike (columnsAsked λs b) Assignable (firstAsked λs b) (secondAsked λs b) (roomAsked λs b) h (numbers-good true (length (shownIn (columnsAsked λs b) .names)) (firstAsked λs b) (secondAsked λs b) .1 w)
       ∙ ap (λ (g : Given). tableCheck g .refusal) e ∙ sym refusal-told
 
   pub bp-ancestors-alike : (λs : Lfts 9) (b : Dens λs bp-ancestors-kinds.ps) (q : resT bp-ancestors-kinds.r λs .Denot) (y : AtExit (endedOf 9 bp-ancestors-kinds.ps bp-ancestors-kinds.r) λs)
       → bp-ancestors-reads.Post λs b q y → columnsOfOne λs b ≡ columnsChecked κs a → 8192 ≤ roomOfOne λs b
-      → classOfOne λs b < length (rowsIn (columnsOfOne λs b) .names) → q .refusal ≡ r .refusal
+      → classOfOne λs b < length (shownIn (columnsOfOne λs b) .names) → q .refusal ≡ r .refusal
   unfolding ancestorsTold rowsView goodNumbers allBelow
   bp-ancestors-alike λs b q y o e h w =
       ap (λ (z : BpSet). z .refusal) (o .0) ∙ gathered-refusal _ _
-      ∙ ancestors-alike (columnsOfOne λs b) (classOfOne λs b) (roomOfOne λs b) h (rw (lt-ltb (classOfOne λs b) (length (rowsIn (columnsOfOne λs b) .names)) w) refl)
+      ∙ ancestors-alike (columnsOfOne λs b) (classOfOne λs b) (roomOfOne λs b) h (rw (lt-ltb (classOfOne λs b) (length (shownIn (columnsOfOne λs b) .names)) w) refl)
       ∙ ap (λ (g : Given). tableCheck g .refusal) e ∙ sym refusal-told

@@ -20,7 +20,8 @@ use Rattle.view.specs.View.{numberOf, far, distance, ancestors, relation, relat
 use Rattle.view.specs.Reach.{Good}
 use Rattle.view.specs.Relations.{relationNumber-injective}
 use Rattle.columns.specs.Given.{Given}
-use Rattle.tableview.specs.TableRows.{Rows, rowsView, rowsIn}
+use Rattle.tableview.specs.TableRows.{Rows, rowsView}
+use Rattle.stackview.specs.LayerRows.{shownIn}
 use Rattle.tableview.specs.Paths.{NoWay, Shortest, IsObject, Kind, near, top, neither, kind}
 use Rattle.tableview.specs.Answers.{Ancestor, Whole, Lacking, ByFacts, LeastCommon, yes-rows, no-rows, unknown-rows, set-rows, list-rows, lowest-rows, members-sorted, cast-rows}
 use Rattle.tableview.specs.Answers.{supertype-rows, supertype-right-rows, supertype-left-rows, supertype-nearest-rows}
@@ -155,78 +156,78 @@ gathered-refusal k s = go (eqb k 0) refl
     go false e = refl
 
 module _ (g : Given) where
-  relation-told : (x y room : ℕ) (r : BpRelation) → r ≡ relationTold g x y room → r .refusal ≡ 0 → RelationSays (rowsIn g) x y (r .relation)
+  relation-told : (x y room : ℕ) (r : BpRelation) → r ≡ relationTold g x y room → r .refusal ≡ 0 → RelationSays (shownIn g) x y (r .relation)
   unfolding relationTold rowsView
   relation-told x y room r e z =
-      let v = relationNumber (relation (rowsView (rowsIn g)) x y) in
+      let v = relationNumber (relation (rowsView (shownIn g)) x y) in
       let k = questionRefusal g Relation x y room in
       let zero-is : k ≡ 0 = sym (answer-refusal k v) ∙ sym (ap (λ (q : BpRelation). q .refusal) e) ∙ z in
       let w = accepted g Relation x y room zero-is in
-      subst (RelationSays (rowsIn g) x y) (sym (ap (λ (q : BpRelation). q .relation) e ∙ answer-is k v zero-is)) (relation-says (rowsIn g) (w .good) x y (w .numbers-in .0))
+      subst (RelationSays (shownIn g) x y) (sym (ap (λ (q : BpRelation). q .relation) e ∙ answer-is k v zero-is)) (relation-says (shownIn g) (w .good) x y (w .numbers-in .0))
 
-  distance-told : (x y room : ℕ) (r : BpAnswer) → r ≡ distanceTold g x y room → r .refusal ≡ 0 → DistanceSays (rowsIn g) x y (r .value)
+  distance-told : (x y room : ℕ) (r : BpAnswer) → r ≡ distanceTold g x y room → r .refusal ≡ 0 → DistanceSays (shownIn g) x y (r .value)
   unfolding distanceTold rowsView
   distance-told x y room r e z =
-      let v = numberOf (distance (rowsView (rowsIn g)) x y) in
+      let v = numberOf (distance (rowsView (shownIn g)) x y) in
       let k = questionRefusal g Distance x y room in
       let zero-is : k ≡ 0 = sym (answer-refusal k v) ∙ sym (ap (λ (q : BpAnswer). q .refusal) e) ∙ z in
       let w = accepted g Distance x y room zero-is in
-      subst (DistanceSays (rowsIn g) x y) (sym (ap (λ (q : BpAnswer). q .value) e ∙ answer-is k v zero-is)) (distance-says (rowsIn g) (w .good) x y (w .numbers-in .0))
+      subst (DistanceSays (shownIn g) x y) (sym (ap (λ (q : BpAnswer). q .value) e ∙ answer-is k v zero-is)) (distance-says (shownIn g) (w .good) x y (w .numbers-in .0))
 
-  supertype-told : (l m room : ℕ) (r : BpAnswer) → r ≡ supertypeTold g l m room → r .refusal ≡ 0 → SupertypeSays (rowsIn g) l m (r .value)
+  supertype-told : (l m room : ℕ) (r : BpAnswer) → r ≡ supertypeTold g l m room → r .refusal ≡ 0 → SupertypeSays (shownIn g) l m (r .value)
   unfolding supertypeTold rowsView
   supertype-told l m room r e z =
-      let v = numberOf (supertype (rowsView (rowsIn g)) l m) in
+      let v = numberOf (supertype (rowsView (shownIn g)) l m) in
       let k = questionRefusal g Supertype l m room in
       let zero-is : k ≡ 0 = sym (answer-refusal k v) ∙ sym (ap (λ (q : BpAnswer). q .refusal) e) ∙ z in
       let w = accepted g Supertype l m room zero-is in
-      subst (SupertypeSays (rowsIn g) l m) (sym (ap (λ (q : BpAnswer). q .value) e ∙ answer-is k v zero-is)) (supertype-says (rowsIn g) (w .good) l m (w .numbers-in .0) (w .numbers-in .1))
+      subst (SupertypeSays (shownIn g) l m) (sym (ap (λ (q : BpAnswer). q .value) e ∙ answer-is k v zero-is)) (supertype-says (shownIn g) (w .good) l m (w .numbers-in .0) (w .numbers-in .1))
 
-  cast-told : (x y room : ℕ) (r : BpAnswer) → r ≡ castTold g x y room → r .refusal ≡ 0 → CastSays (rowsIn g) x y (r .value)
+  cast-told : (x y room : ℕ) (r : BpAnswer) → r ≡ castTold g x y room → r .refusal ≡ 0 → CastSays (shownIn g) x y (r .value)
   unfolding castTold rowsView
   cast-told x y room r e z =
-      let v = cond {A = ℕ} (cast (rowsView (rowsIn g)) x y) 1 0 in
+      let v = cond {A = ℕ} (cast (rowsView (shownIn g)) x y) 1 0 in
       let k = questionRefusal g Cast x y room in
       let zero-is : k ≡ 0 = sym (answer-refusal k v) ∙ sym (ap (λ (q : BpAnswer). q .refusal) e) ∙ z in
       let w = accepted g Cast x y room zero-is in
-      subst (CastSays (rowsIn g) x y) (sym (ap (λ (q : BpAnswer). q .value) e ∙ answer-is k v zero-is)) (cast-says (rowsIn g) (w .good) x y (w .numbers-in .0) (w .numbers-in .1))
+      subst (CastSays (shownIn g) x y) (sym (ap (λ (q : BpAnswer). q .value) e ∙ answer-is k v zero-is)) (cast-says (shownIn g) (w .good) x y (w .numbers-in .0) (w .numbers-in .1))
 
-  ancestors-told : (c room : ℕ) (r : BpSet) → r ≡ ancestorsTold g c room → r .refusal ≡ 0 → SetSays (rowsIn g) c r
+  ancestors-told : (c room : ℕ) (r : BpSet) → r ≡ ancestorsTold g c room → r .refusal ≡ 0 → SetSays (shownIn g) c r
   unfolding ancestorsTold rowsView gathered
   ancestors-told c room r e z =
-      let s = ancestors (rowsView (rowsIn g)) c in
+      let s = ancestors (rowsView (shownIn g)) c in
       let k = ancestorsRefusal g c room in
       let zero-is : k ≡ 0 = sym (gathered-refusal k s) ∙ sym (ap (λ (q : BpSet). q .refusal) e) ∙ z in
       let w = accepted-class g c room zero-is in
-      subst (SetSays (rowsIn g) c) (sym (e ∙ ap (λ (n : ℕ). setAnswer (gathered n s)) zero-is)) (record {
-        members = set-rows (rowsIn g) (w .good) c (w .numbers-in .0);
-        listed = (members (at s) 0 1024, members-sorted (at s) 0 1024, list-rows (rowsIn g) (w .good) c (w .numbers-in .0), refl);
-        least = lowest-rows (rowsIn g) (w .good) c (w .numbers-in .0);
+      subst (SetSays (shownIn g) c) (sym (e ∙ ap (λ (n : ℕ). setAnswer (gathered n s)) zero-is)) (record {
+        members = set-rows (shownIn g) (w .good) c (w .numbers-in .0);
+        listed = (members (at s) 0 1024, members-sorted (at s) 0 1024, list-rows (shownIn g) (w .good) c (w .numbers-in .0), refl);
+        least = lowest-rows (shownIn g) (w .good) c (w .numbers-in .0);
       })
 
 -- ---- OF WHAT THE EXPORTED FUNCTIONS RETURN
 
 -- BP_RELATION TELLS WHETHER expected IS AN ANCESTOR OF value
 pub bp-relation : (κs : Lfts 9) (a : Dens κs bp-relation-kinds.ps) (r : resT bp-relation-kinds.r κs .Denot) (x : AtExit (endedOf 9 bp-relation-kinds.ps bp-relation-kinds.r) κs)
-    → bp-relation-reads.Post κs a r x → r .refusal ≡ 0 → RelationSays (rowsIn (columnsAsked κs a)) (firstAsked κs a) (secondAsked κs a) (r .relation)
+    → bp-relation-reads.Post κs a r x → r .refusal ≡ 0 → RelationSays (shownIn (columnsAsked κs a)) (firstAsked κs a) (secondAsked κs a) (r .relation)
 bp-relation κs a r x p z = relation-told (columnsAsked κs a) (firstAsked κs a) (secondAsked κs a) (roomAsked κs a) r (p .0) z
 
 -- BP_DISTANCE THE LENGTH OF A SHORTEST WAY
 pub bp-distance : (κs : Lfts 9) (a : Dens κs bp-distance-kinds.ps) (r : resT bp-distance-kinds.r κs .Denot) (x : AtExit (endedOf 9 bp-distance-kinds.ps bp-distance-kinds.r) κs)
-    → bp-distance-reads.Post κs a r x → r .refusal ≡ 0 → DistanceSays (rowsIn (columnsAsked κs a)) (firstAsked κs a) (secondAsked κs a) (r .value)
+    → bp-distance-reads.Post κs a r x → r .refusal ≡ 0 → DistanceSays (shownIn (columnsAsked κs a)) (firstAsked κs a) (secondAsked κs a) (r .value)
 bp-distance κs a r x p z = distance-told (columnsAsked κs a) (firstAsked κs a) (secondAsked κs a) (roomAsked κs a) r (p .0) z
 
 -- BP_SUPERTYPE A LEAST COMMON SUPERTYPE
 pub bp-supertype : (κs : Lfts 9) (a : Dens κs bp-supertype-kinds.ps) (r : resT bp-supertype-kinds.r κs .Denot) (x : AtExit (endedOf 9 bp-supertype-kinds.ps bp-supertype-kinds.r) κs)
-    → bp-supertype-reads.Post κs a r x → r .refusal ≡ 0 → SupertypeSays (rowsIn (columnsAsked κs a)) (firstAsked κs a) (secondAsked κs a) (r .value)
+    → bp-supertype-reads.Post κs a r x → r .refusal ≡ 0 → SupertypeSays (shownIn (columnsAsked κs a)) (firstAsked κs a) (secondAsked κs a) (r .value)
 bp-supertype κs a r x p z = supertype-told (columnsAsked κs a) (firstAsked κs a) (secondAsked κs a) (roomAsked κs a) r (p .0) z
 
 -- BP_CAST WHETHER A CAST PASSES
 pub bp-cast : (κs : Lfts 9) (a : Dens κs bp-cast-kinds.ps) (r : resT bp-cast-kinds.r κs .Denot) (x : AtExit (endedOf 9 bp-cast-kinds.ps bp-cast-kinds.r) κs)
-    → bp-cast-reads.Post κs a r x → r .refusal ≡ 0 → CastSays (rowsIn (columnsAsked κs a)) (firstAsked κs a) (secondAsked κs a) (r .value)
+    → bp-cast-reads.Post κs a r x → r .refusal ≡ 0 → CastSays (shownIn (columnsAsked κs a)) (firstAsked κs a) (secondAsked κs a) (r .value)
 bp-cast κs a r x p z = cast-told (columnsAsked κs a) (firstAsked κs a) (secondAsked κs a) (roomAsked κs a) r (p .0) z
 
 -- BP_ANCESTORS THE SET OF ANCESTORS
 pub bp-ancestors : (κs : Lfts 9) (a : Dens κs bp-ancestors-kinds.ps) (r : resT bp-ancestors-kinds.r κs .Denot) (x : AtExit (endedOf 9 bp-ancestors-kinds.ps bp-ancestors-kinds.r) κs)
-    → bp-ancestors-reads.Post κs a r x → r .refusal ≡ 0 → SetSays (rowsIn (columnsOfOne κs a)) (classOfOne κs a) r
+    → bp-ancestors-reads.Post κs a r x → r .refusal ≡ 0 → SetSays (shownIn (columnsOfOne κs a)) (classOfOne κs a) r
 bp-ancestors κs a r x p z = ancestors-told (columnsOfOne κs a) (classOfOne κs a) (roomOfOne κs a) r (p .0) z

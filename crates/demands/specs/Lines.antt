@@ -18,7 +18,8 @@ use Rattle.checks.specs.Checks.{firstRefusal}
 use Rattle.view.specs.View.{numberOf, supertype, cast}
 use Rattle.rows.specs.Rows.{filled}
 use Rattle.columns.specs.Given.{Given, even}
-use Rattle.tableview.specs.TableRows.{rowsView, rowsWorld, rowsIn}
+use Rattle.tableview.specs.TableRows.{rowsView, rowsWorld}
+use Rattle.stackview.specs.LayerRows.{shownIn}
 use Rattle.questions.specs.Questions.{refusalOf, answered}
 use Rattle.solving.specs.declared.Counts.{Counts}
 use Rattle.solving.specs.Runs.{propagate-stops}
@@ -72,11 +73,11 @@ unsolved-number : (g : Given) (c : Columns) (l : Lent) (k : ℕ) → solveIn g c
 unfolding solveIn
 unsolved-number g c l k = go (eqb (solveRefusal g c l) 0) refl
   where
-    go : (b : Bool) → eqb (solveRefusal g c l) 0 ≡ b → cond b (solve (rowsWorld (rowsIn g)) (problemOver g c .problem)) (Unsolved (solveRefusal g c l)) ≡ Unsolved k → k ≡ 0 → ⊥
+    go : (b : Bool) → eqb (solveRefusal g c l) 0 ≡ b → cond b (solve (rowsWorld (shownIn g)) (problemOver g c .problem)) (Unsolved (solveRefusal g c l)) ≡ Unsolved k → k ≡ 0 → ⊥
     go true e h z =
         let p = problemOver g c .problem in
         ⊎-elim (λ x. omega arith) (λ x. omega arith)
-        (propagate-stops (rowsWorld (rowsIn g)) (linksOf p) (p .components) (tableOf p) k (solve-stopped (rowsWorld (rowsIn g)) p k h))
+        (propagate-stops (rowsWorld (shownIn g)) (linksOf p) (p .components) (tableOf p) k (solve-stopped (rowsWorld (shownIn g)) p k h))
     go false e h z = eqb-false (solveRefusal g c l) 0 e (let q : solveRefusal g c l ≡ k = cc in q ∙ z)
 
 -- refused with k exactly if the lines say so; else they say the answers, whose words then stand at the front of the lent slice
@@ -134,7 +135,7 @@ pub record Plain (g : Given) (q : Question) (a b room : ℕ) : Type 0 where
   pub asked-fits : Fits (asking q a b)
   pub long : 8192 ≤ room
 
-plain-said : (g : Given) (q : Question) (a b room : ℕ) → Plain g q a b room → linesAsked g q a b ≡ unless (refusalOf g false (a ∷ b ∷ []) room) (answer q a b (rowsView (rowsIn g)))
+plain-said : (g : Given) (q : Question) (a b room : ℕ) → Plain g q a b room → linesAsked g q a b ≡ unless (refusalOf g false (a ∷ b ∷ []) room) (answer q a b (rowsView (shownIn g)))
 plain-said g q a b room w = query-doors g q a b room (w .table) (w .inside) (w .rows-fit) (w .asked-fits) (w .long)
 
 -- what is told beside a refusal does not matter
@@ -161,7 +162,7 @@ pub bp-supertype-lines : (κs : Lfts 9) (a : Dens κs bp-supertype-kinds.ps) (r 
     → (c : Option ℕ) × (linesAsked (columnsAsked κs a) Supertyping (firstAsked κs a) (secondAsked κs a) ≡ unless (r .refusal) (Supertyped c)) × (r .refusal ≡ 0 → r .value ≡ numberOf c)
 unfolding supertypeTold answer
 bp-supertype-lines κs a r x p w =
-    let c = supertype (rowsView (rowsIn (columnsAsked κs a))) (firstAsked κs a) (secondAsked κs a) in
+    let c = supertype (rowsView (shownIn (columnsAsked κs a))) (firstAsked κs a) (secondAsked κs a) in
     let k = refusalOf (columnsAsked κs a) false (firstAsked κs a ∷ secondAsked κs a ∷ []) (roomAsked κs a) in
     let is : r .refusal ≡ k = ap (λ (q : BpAnswer). q .refusal) (p .0) ∙ answer-refusal k (numberOf c) in (
       c,
@@ -176,7 +177,7 @@ pub bp-cast-lines : (κs : Lfts 9) (a : Dens κs bp-cast-kinds.ps) (r : resT bp-
 unfolding castTold answer
 bp-cast-lines κs a r x p w =
     plain-said (columnsAsked κs a) Casting (firstAsked κs a) (secondAsked κs a) (roomAsked κs a) w
-    ∙ ap (λ (b : Bool). unless (refusalOf (columnsAsked κs a) false (firstAsked κs a ∷ secondAsked κs a ∷ []) (roomAsked κs a)) (Castable b)) (sym (one (cast (rowsView (rowsIn (columnsAsked κs a))) (firstAsked κs a) (secondAsked κs a))))
+    ∙ ap (λ (b : Bool). unless (refusalOf (columnsAsked κs a) false (firstAsked κs a ∷ secondAsked κs a ∷ []) (roomAsked κs a)) (Castable b)) (sym (one (cast (rowsView (shownIn (columnsAsked κs a))) (firstAsked κs a) (secondAsked κs a))))
     ∙ unless-told _ _ (λ v. Castable (eqb v 1))
     ∙ ap (λ (q : BpAnswer). unless (q .refusal) (Castable (eqb (q .value) 1))) (sym (p .0))
   where

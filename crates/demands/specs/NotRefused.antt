@@ -28,10 +28,12 @@ use Rattle.writer.specs.Print.{printWord, printMethodWords}
 use Rattle.rows.specs.Rows.{allBelow}
 use Rattle.columns.specs.Given.{Given, even}
 use Rattle.tableview.specs.TableRows.{Rows, rowsView, rowsIn}
-use Rattle.tableview.specs.RowRefusals.{tableRefusal}
+use Rattle.stackview.specs.LayerRows.{shownIn}
+use Rattle.stackview.specs.LayerRefusals.{stackRefusalOf}
 use Rattle.tableview.specs.Canonical.{columnsOf, rows-back}
-use Rattle.tableview.specs.Domain.{InDomain, Aligned, Placed, even-exactly, table-exactly, object-there, rows-aligned, rows-placed}
-use Rattle.tableview.specs.Refused.{table-refusal}
+use Rattle.tableview.specs.Domain.{Aligned, Placed, even-exactly, rows-aligned, rows-placed}
+use Rattle.stackview.specs.Domain.{LayersInDomain, stack-exactly, shown-object}
+use Rattle.stackview.specs.Shown.{stack-refused}
 use Rattle.questions.specs.Questions.{goodNumbers, tableChecks, refusalOf}
 use Rattle.questions.specs.Laws.{once, are-classes, are-types}
 use Rattle.questionlaws.specs.Accepted.{NumbersIn}
@@ -84,8 +86,8 @@ pub record Asking (g : Given) (types : Bool) (a b room : ℕ) : Type 0 where
   pub room-there : 8192 ≤ room
   pub aligned : Aligned g
   pub placed : Placed g
-  pub rows : InDomain (rowsIn g)
-  pub numbers : NumbersIn types (length (rowsIn g .names)) a b
+  pub rows : LayersInDomain (rowsIn g)
+  pub numbers : NumbersIn types (length (shownIn g .names)) a b
 
 pub numbers-good : (types : Bool) (n a b : ℕ) → (goodNumbers types n (a ∷ b ∷ []) ≡ true) ↔ NumbersIn types n a b
 unfolding goodNumbers allBelow allLegal
@@ -96,51 +98,52 @@ numbers-good true n a b = (are-types n a b true refl, λ w. rw (w .0, w .1))
 pub question-exactly : (g : Given) (types : Bool) (a b room : ℕ) → (refusalOf g types (a ∷ b ∷ []) room ≡ 0) ↔ Asking g types a b room
 unfolding refusalOf tableChecks firstRefusal rowsView
 question-exactly g types a b room = (
-  λ h. to (ltb room 8192) refl (even g) refl (eqb (tableRefusal g) 0) refl (goodNumbers types (length (rowsIn g .names)) (a ∷ b ∷ [])) refl (eqb (rowsView (rowsIn g) .object) (2 ^ 64 - 1)) refl types h,
+  λ h. to (ltb room 8192) refl (even g) refl (eqb (stackRefusalOf g) 0) refl (goodNumbers types (length (shownIn g .names)) (a ∷ b ∷ [])) refl (eqb (rowsView (shownIn g) .object) (2 ^ 64 - 1)) refl types h,
   λ w. rw (
     le-ltb room 8192 (w .room-there),
     even-exactly g .1 (w .aligned),
-    sym (table-refusal g) ∙ table-exactly g (w .aligned) .1 (w .placed, w .rows .limits),
-    numbers-good types (length (rowsIn g .names)) a b .1 (w .numbers),
-    ne-eqb (rowsView (rowsIn g) .object) (2 ^ 64 - 1) (object-there (rowsIn g) (w .rows .limits .few-names) .1 (w .rows .object-named)),
+    sym (stack-refused g) ∙ stack-exactly g (w .aligned) .1 (w .placed, w .rows .limits),
+    numbers-good types (length (shownIn g .names)) a b .1 (w .numbers),
+    ne-eqb (rowsView (shownIn g) .object) (2 ^ 64 - 1) (shown-object g (w .rows .limits .few-names) .1 (w .rows .object-named)),
   ),
 )
   where
-    to : (s : Bool) → ltb room 8192 ≡ s → (e : Bool) → even g ≡ e → (c : Bool) → eqb (tableRefusal g) 0 ≡ c
-        → (d : Bool) → goodNumbers types (length (rowsIn g .names)) (a ∷ b ∷ []) ≡ d → (o : Bool) → eqb (rowsView (rowsIn g) .object) (2 ^ 64 - 1) ≡ o → (k : Bool)
-        → cond s 22 (cond (not e) 3 (cond (not c) (tableRefusal g) (cond (not d) (cond k 7 6) (cond o 9 0)))) ≡ 0 → Asking g types a b room
+    to : (s : Bool) → ltb room 8192 ≡ s → (e : Bool) → even g ≡ e → (c : Bool) → eqb (stackRefusalOf g) 0 ≡ c
+        → (d : Bool) → goodNumbers types (length (shownIn g .names)) (a ∷ b ∷ []) ≡ d → (o : Bool) → eqb (rowsView (shownIn g) .object) (2 ^ 64 - 1) ≡ o → (k : Bool)
+        → cond s 22 (cond (not e) 3 (cond (not c) (stackRefusalOf g) (cond (not d) (cond k 7 6) (cond o 9 0)))) ≡ 0 → Asking g types a b room
     to true es e ee c ec d ed o eo k q = absurd (omega arith)
     to false es false ee c ec d ed o eo k q = absurd (omega arith)
-    to false es true ee false ec d ed o eo k q = absurd (eqb-false (tableRefusal g) 0 ec q)
+    to false es true ee false ec d ed o eo k q = absurd (eqb-false (stackRefusalOf g) 0 ec q)
     to false es true ee true ec false ed o eo true q = absurd (omega arith)
     to false es true ee true ec false ed o eo false q = absurd (omega arith)
     to false es true ee true ec true ed true eo k q = absurd (omega arith)
     to false es true ee true ec true ed false eo k q =
         let al = even-exactly g .0 ee in
-        let t = table-exactly g al .0 (table-refusal g ∙ eqb-true (tableRefusal g) 0 ec) in
+        let t = stack-exactly g al .0 (stack-refused g ∙ eqb-true (stackRefusalOf g) 0 ec) in
         record {
           room-there = ltb-false room 8192 es;
           aligned = al;
           placed = t .0;
-          rows = record { limits = t .1; object-named = object-there (rowsIn g) (t .1 .few-names) .0 (eqb-false (rowsView (rowsIn g) .object) (2 ^ 64 - 1) eo) };
-          numbers = numbers-good types (length (rowsIn g .names)) a b .0 ed;
+          rows = record { limits = t .1; object-named = shown-object g (t .1 .few-names) .0 (eqb-false (rowsView (shownIn g) .object) (2 ^ 64 - 1) eo) };
+          numbers = numbers-good types (length (shownIn g .names)) a b .0 ed;
         }
 
 -- so over any rows in the domain, written as columns, every question about classes and types of theirs is answered
-pub rows-asked : (t : Rows) → InDomain t → (types : Bool) (a b room : ℕ) → 8192 ≤ room → NumbersIn types (length (t .names)) a b → refusalOf (columnsOf t) types (a ∷ b ∷ []) room ≡ 0
+pub rows-asked : (t : Rows) → LayersInDomain t → (types : Bool) (a b room : ℕ) → 8192 ≤ room → NumbersIn types (length (t .names)) a b → refusalOf (columnsOf t) types (a ∷ b ∷ []) room ≡ 0
+unfolding shownIn
 rows-asked t d types a b room h w =
     question-exactly (columnsOf t) types a b room .1 (record {
       room-there = h;
       aligned = rows-aligned t;
       placed = rows-placed t;
-      rows = subst InDomain (sym (rows-back t)) d;
+      rows = subst LayersInDomain (sym (rows-back t)) d;
       numbers = subst (λ (u : Rows). NumbersIn types (length (u .names)) a b) (sym (rows-back t)) w;
     })
 
 -- the ancestors of a class as a class against itself
 one-as-two : (g : Given) (c room : ℕ) → refusalOf g false (c ∷ []) room ≡ refusalOf g false (c ∷ c ∷ []) room
 unfolding refusalOf tableChecks
-one-as-two g c room = rw (once (rowsView (rowsIn g) .names) c)
+one-as-two g c room = rw (once (rowsView (shownIn g) .names) c)
 
 moved : {k m : ℕ} {A : Type 0} → k ≡ m → (m ≡ 0) ↔ A → (k ≡ 0) ↔ A
 moved e f = (λ z. f .0 (sym e ∙ z), λ w. e ∙ f .1 w)

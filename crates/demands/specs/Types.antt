@@ -22,7 +22,8 @@ use Rattle.lattice.specs.Jls.{widens, assignable-widens}
 use Rattle.lattice.specs.Legality.{legal-base}
 use Rattle.rows.specs.Rows.{cloneableName, serializableName}
 use Rattle.columns.specs.Given.{Given}
-use Rattle.tableview.specs.TableRows.{Rows, placeOf, rowsView, rowsWorld, rowsIn}
+use Rattle.tableview.specs.TableRows.{Rows, placeOf, rowsView, rowsWorld}
+use Rattle.stackview.specs.LayerRows.{shownIn}
 use Rattle.tableview.specs.Paths.{IsObject}
 use Rattle.tableview.specs.Answers.{Ancestor, Whole, LeastCommon, join-rows-legal, join-rows-above, join-rows-classes, assignable-rows-classes, assignable-rows-array}
 use Rattle.questions.specs.declared.Question.the-variants.{Join, Assignable}
@@ -164,34 +165,34 @@ module _ (t : Rows) (g : Good (rowsView t)) (a b : ℕ) (la : a < 2 ^ 64) (lb : 
 -- ---- of what the contracts say
 
 module _ (g : Given) (a b room : ℕ) (la : a < 2 ^ 64) (lb : b < 2 ^ 64) (r : BpAnswer) where
-  join-told : r ≡ joinTold g a b room → r .refusal ≡ 0 → JoinSays (rowsIn g) a b (r .value)
+  join-told : r ≡ joinTold g a b room → r .refusal ≡ 0 → JoinSays (shownIn g) a b (r .value)
   unfolding joinTold rowsView
   join-told e z =
-      let v = wordOf (join (rowsWorld (rowsIn g)) (typeOf a) (typeOf b)) in
+      let v = wordOf (join (rowsWorld (shownIn g)) (typeOf a) (typeOf b)) in
       let k = questionRefusal g Join a b room in
       let zero-is : k ≡ 0 = sym (answer-refusal k v) ∙ sym (ap (λ (q : BpAnswer). q .refusal) e) ∙ z in
       let w = accepted g Join a b room zero-is in
-      subst (JoinSays (rowsIn g) a b) (sym (ap (λ (q : BpAnswer). q .value) e ∙ answer-is k v zero-is)) (join-says (rowsIn g) (w .good) a b la lb (w .numbers-in .0) (w .numbers-in .1))
+      subst (JoinSays (shownIn g) a b) (sym (ap (λ (q : BpAnswer). q .value) e ∙ answer-is k v zero-is)) (join-says (shownIn g) (w .good) a b la lb (w .numbers-in .0) (w .numbers-in .1))
 
-  assignable-told : r ≡ assignableTold g a b room → r .refusal ≡ 0 → AssignableSays (rowsIn g) a b (r .value)
+  assignable-told : r ≡ assignableTold g a b room → r .refusal ≡ 0 → AssignableSays (shownIn g) a b (r .value)
   unfolding assignableTold rowsView
   assignable-told e z =
-      let v = cond {A = ℕ} (isAssignable (rowsWorld (rowsIn g)) (typeOf a) (typeOf b)) 1 0 in
+      let v = cond {A = ℕ} (isAssignable (rowsWorld (shownIn g)) (typeOf a) (typeOf b)) 1 0 in
       let k = questionRefusal g Assignable a b room in
       let zero-is : k ≡ 0 = sym (answer-refusal k v) ∙ sym (ap (λ (q : BpAnswer). q .refusal) e) ∙ z in
       let w = accepted g Assignable a b room zero-is in
-      subst (AssignableSays (rowsIn g) a b) (sym (ap (λ (q : BpAnswer). q .value) e ∙ answer-is k v zero-is)) (assignable-says (rowsIn g) (w .good) a b la lb (w .numbers-in .0) (w .numbers-in .1))
+      subst (AssignableSays (shownIn g) a b) (sym (ap (λ (q : BpAnswer). q .value) e ∙ answer-is k v zero-is)) (assignable-says (shownIn g) (w .good) a b la lb (w .numbers-in .0) (w .numbers-in .1))
 
 -- ---- OF WHAT THE EXPORTED FUNCTIONS RETURN; a word is of 64 bits
 
 -- BP_JOIN A LEGAL WORD, ABOVE BOTH WHERE THEY ARE CONCRETE
 pub bp-join : (κs : Lfts 9) (a : Dens κs bp-join-kinds.ps) (r : resT bp-join-kinds.r κs .Denot) (x : AtExit (endedOf 9 bp-join-kinds.ps bp-join-kinds.r) κs)
     → bp-join-reads.Post κs a r x → firstAsked κs a < 2 ^ 64 → secondAsked κs a < 2 ^ 64 → r .refusal ≡ 0
-    → JoinSays (rowsIn (columnsAsked κs a)) (firstAsked κs a) (secondAsked κs a) (r .value)
+    → JoinSays (shownIn (columnsAsked κs a)) (firstAsked κs a) (secondAsked κs a) (r .value)
 bp-join κs a r x p la lb z = join-told (columnsAsked κs a) (firstAsked κs a) (secondAsked κs a) (roomAsked κs a) la lb r (p .0) z
 
 -- BP_ASSIGNABLE WHETHER value IS ASSIGNABLE TO expected
 pub bp-assignable : (κs : Lfts 9) (a : Dens κs bp-assignable-kinds.ps) (r : resT bp-assignable-kinds.r κs .Denot) (x : AtExit (endedOf 9 bp-assignable-kinds.ps bp-assignable-kinds.r) κs)
     → bp-assignable-reads.Post κs a r x → firstAsked κs a < 2 ^ 64 → secondAsked κs a < 2 ^ 64 → r .refusal ≡ 0
-    → AssignableSays (rowsIn (columnsAsked κs a)) (firstAsked κs a) (secondAsked κs a) (r .value)
+    → AssignableSays (shownIn (columnsAsked κs a)) (firstAsked κs a) (secondAsked κs a) (r .value)
 bp-assignable κs a r x p la lb z = assignable-told (columnsAsked κs a) (firstAsked κs a) (secondAsked κs a) (roomAsked κs a) la lb r (p .0) z

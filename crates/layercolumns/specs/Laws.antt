@@ -7,23 +7,23 @@ use native.Mathlib.Numerals.{add-one}
 use native.Mathlib.Omega.{arith}
 use lib.Dec.{eqb}
 use lib.ListN.{length, take, drop, getD, drop-of-length-le, length-append, length-drop}
-use lib.Seq.{drop-cons, length-take-le, take-append-le}
-use borrow.Author.Tests.{eq-eqb, ne-eqb}
+use lib.Seq.{drop-cons, length-take-le, take-all, take-append-le}
+use borrow.Author.Tests.{eq-eqb, ne-eqb, eqb-true}
 use Rattle.tables.specs.declared.Tables.{Tables}
 use Rattle.tables.specs.Table.{marksRoom}
 use Rattle.rows.specs.declared.Outcome.{Outcome}
 use Rattle.rows.specs.Rows.{noTables, State, stateOf, Ran, Fills, recordRan}
 use Rattle.rows.specs.Keys.{length-filled}
 use Rattle.rows.specs.Laws.{Sound, fills-state}
-use Rattle.columns.specs.Columns.{inside, nameRows, placedRecord, recordRows}
-use Rattle.columns.specs.Laws.{names-pairs, names-leave, records-good}
+use Rattle.columns.specs.Columns.{inside, nameRows, placedRecord, recordRows, tableOf, built}
+use Rattle.columns.specs.Laws.{names-pairs, names-leave, records-good, table-good}
 use Rattle.layers.specs.declared.StackTables.{StackTables}
 use Rattle.layers.specs.declared.StackOutcome.{StackOutcome}
 use Rattle.layers.specs.Layers.{layersRoom, layerKeys}
 use Rattle.layers.specs.Laws.{inside-none}
 use Rattle.layers.specs.Stacks.{Upright, Stack, StackRan, ground, stackRefusal, stackRow, stackRan, openRan, stackOf, Holds, FillsStack, openedTables}
 use Rattle.layers.specs.StackLaws.{upright-ground, upright-row, holds-after, opened-is, holds-open}
-use Rattle.layercolumns.specs.LayerColumns.{openFlags, openingRow, placedRow, stackRows, firstOpen, grounded, lowestThen, lowestTables, Lowest, stackTable, Keeps}
+use Rattle.layercolumns.specs.LayerColumns.{openFlags, openingRow, placedRow, stackRows, firstOpen, grounded, lowestThen, lowestTables, Lowest, stackTable, Keeps, RoomFor, Shows}
 
 -- ---- one row
 
@@ -138,6 +138,36 @@ module _ (parents : List ℕ) where
       go true e ih = refl
       go false e ih = rw (placed-lowest f c a l s e) (step ih (eqb (one .refusal) 0) refl)
 
+  module _ (fs cs ats ls : List ℕ) (s : State) (hc : length fs ≡ length cs) (ha : length fs ≡ length ats) (hl : length fs ≡ length ls) (e : firstOpen fs ≡ length fs) where
+    -- where no layer is opened they are all rows
+    pub all-lowest : stackRows parents fs cs ats ls (ground s) ≡ grounded (recordRows parents fs cs ats ls s)
+    unfolding stackRows
+    all-lowest =
+        lowest-rows fs cs ats ls s hc ha hl ∙ ap (λ (k : ℕ). lowestThen k parents fs cs ats ls s) e
+        ∙ rw (take-all (length fs) fs (omega arith), take-all (length fs) cs (omega arith), take-all (length fs) ats (omega arith), take-all (length fs) ls (omega arith), drop-of-length-le fs {i = length fs} (omega arith))
+        (go (eqb (ran .refusal) 0) refl)
+      where
+        ran : Ran
+        ran = recordRows parents fs cs ats ls s
+
+        go : (b : Bool) → eqb (ran .refusal) 0 ≡ b → cond {A = StackRan} b (record { refusal = 0; state = ground (ran .state) }) (grounded ran) ≡ grounded ran
+        go true q = λ i. record { refusal = sym (eqb-true (ran .refusal) 0 q) i; state = ground (ran .state) }
+        go false q = refl
+
+-- A TABLE WITHOUT LAYERS IS THE PLAIN ONE
+pub table-lowest : (named : Outcome) (parents fs cs ats ls marks : List ℕ) → length fs ≡ length cs → length fs ≡ length ats → length fs ≡ length ls → firstOpen fs ≡ length fs
+    → stackTable named parents fs cs ats ls marks ≡ grounded (tableOf named parents fs cs ats ls marks)
+unfolding stackTable tableOf
+table-lowest named parents fs cs ats ls marks hc ha hl e = go (eqb (named .refusal) 0)
+  where
+    first : State
+    first = record { tables = named .tables; keys = []; marks = marks }
+
+    go : (b : Bool) → cond {A = StackRan} b (stackRows parents fs cs ats ls (ground first)) (record { refusal = named .refusal; state = ground first })
+        ≡ grounded (cond {A = Ran} b (recordRows parents fs cs ats ls first) (record { refusal = named .refusal; state = first }))
+    go true = all-lowest parents fs cs ats ls first hc ha hl e
+    go false = refl
+
 -- ---- counting the rows before it
 
 module _ (fs : List ℕ) (i : ℕ) where
@@ -162,6 +192,14 @@ open-within (f ∷ fs) = go (eqb f openFlags) (open-within fs)
     go true h = omega arith
     go false h = omega arith
 
+-- slices that hold a plain table hold it as the lowest layer
+pub holds-lowest : (pairs marks : List ℕ) (t : Tables) → length pairs ≡ layersRoom → Sound (stateOf pairs marks t) → Holds pairs marks (lowestTables t)
+holds-lowest pairs marks t l g = record {
+  long = l;
+  upright = upright-ground (stateOf pairs marks t) g;
+  layer-counted = sym (ap length (inside-none (take (t .pairs) pairs)));
+}
+
 -- ---- the lowest layer in the front of the pairs
 
 -- without pairs the front holds what the whole holds
@@ -184,11 +222,7 @@ lowest-keeps parents fs cs ats ls pairs marks t w g z part′ marks′ o f =
     record {
       refusal-is = ap (λ (x : Outcome). x .refusal) (fills .outcome-is);
       stack-is = ap ground is;
-      holds = record {
-        long = length-append part′ (drop 4096 pairs) ∙ (let d = length-drop 4096 pairs in omega arith);
-        upright = subst (λ (x : State). Upright (ground x)) (sym is) (upright-ground (ran .state) sound);
-        layer-counted = sym (ap length (inside-none (take (o .tables .pairs) (part′ ++ drop 4096 pairs))));
-      };
+      holds = holds-lowest (part′ ++ drop 4096 pairs) marks′ (o .tables) (length-append part′ (drop 4096 pairs) ∙ (let d = length-drop 4096 pairs in omega arith)) (subst Sound (sym is) sound);
     }
 
 -- ---- all rows: those of the lowest layer, then the others
@@ -243,11 +277,7 @@ module _ (bytes nameAt nameLen parents fs cs ats ls pairs marks : List ℕ) (nam
       (record {
         refusal-is = refl;
         stack-is = ap (λ (k : StackTables). stackOf pairs marks k) is ∙ ap ground no-key;
-        holds = subst (Holds pairs marks) (sym is) (record {
-          long = w;
-          upright = upright-ground (stateOf pairs marks (named .tables)) named-sound;
-          layer-counted = sym (ap length (inside-none (take (named .tables .pairs) pairs)));
-        });
+        holds = subst (Holds pairs marks) (sym is) (holds-lowest pairs marks (named .tables) w named-sound);
       }))
 
   pub named-rows : named .refusal ≡ 0 → (pairs′ marks′ : List ℕ) (r : StackOutcome) → Keeps (stackRows parents fs cs ats ls (ground (stateOf pairs marks (named .tables)))) pairs′ marks′ r
@@ -256,6 +286,46 @@ module _ (bytes nameAt nameLen parents fs cs ats ls pairs marks : List ℕ) (nam
   named-rows z pairs′ marks′ r k =
       subst (λ (o : Outcome). Keeps (stackTable o parents fs cs ats ls marks) pairs′ marks′ r) e
       (rw z (subst (λ (x : State). Keeps (stackRows parents fs cs ats ls (ground x)) pairs′ marks′ r) no-key k))
+
+-- ---- room for the layers that there are
+
+module _ (fs pairs : List ℕ) where
+  -- no row opens one: none was found before the end
+  pub room-plain : (k : ℕ) → k ≡ firstOpen fs → length fs ≤ k → length pairs ≡ 4096 → RoomFor fs pairs
+  room-plain k e h l = record {
+    plain = λ p. let w = open-within fs in omega arith;
+    layered = λ n. absurd (n l);
+  }
+
+  pub room-layers : length pairs ≡ layersRoom → RoomFor fs pairs
+  room-layers l = record {
+    plain = λ p. absurd (omega arith);
+    layered = λ n. l;
+  }
+
+-- ---- what the layers together show
+
+module _ (bytes nameAt nameLen parents fs cs ats ls pairs marks pairs′ marks′ : List ℕ) where
+  abbrev table : StackRan
+  table = stackTable (nameRows bytes nameAt nameLen [] noTables) parents fs cs ats ls marks
+
+  -- of a plain table
+  pub plain-shows : length fs ≡ length cs → length fs ≡ length ats → length fs ≡ length ls → firstOpen fs ≡ length fs → length marks ≡ marksRoom
+      → (o : Outcome) → Fills (built bytes nameAt nameLen fs cs ats ls parents marks) pairs pairs′ marks′ o → Shows table pairs′ marks′ o
+  plain-shows hc ha hl e m o f =
+      let same = sym (table-lowest (nameRows bytes nameAt nameLen [] noTables) parents fs cs ats ls marks hc ha hl e) in
+      let ran : Ran = built bytes nameAt nameLen fs cs ats ls parents marks in
+      record {
+        refusal-is = ap (λ (x : Outcome). x .refusal) (f .outcome-is) ∙ ap (λ (x : StackRan). x .refusal) same;
+        shown-is = fills-state ran pairs pairs′ marks′ o f (table-good bytes nameAt nameLen parents fs cs ats ls marks m .counted) ∙ ap (λ (x : StackRan). x .state .top .shown) same;
+      }
+
+  -- of a stack
+  pub kept-shows : (r : StackOutcome) (o : Outcome) → o ≡ record { refusal = r .refusal; tables = r .stack .tables } → Keeps table pairs′ marks′ r → Shows table pairs′ marks′ o
+  kept-shows r o e k = record {
+    refusal-is = ap (λ (x : Outcome). x .refusal) e ∙ k .refusal-is;
+    shown-is = ap (λ (x : Outcome). stateOf pairs′ marks′ (x .tables)) e ∙ ap (λ (x : Stack). x .top .shown) (k .stack-is);
+  }
 
 -- ---- one outcome
 
@@ -274,4 +344,14 @@ keeps-one after p₁ m₁ p₂ m₂ r₁ r₂ k q =
       },
       ap (λ (s : Stack). s .top .shown .marks) same,
       ap (λ (s : Stack). s .top .shown .keys) same,
+    )
+
+-- and what is shown: of the pairs as far as there are keys
+pub shows-one : (after : StackRan) (p₁ m₁ p₂ m₂ : List ℕ) (r₁ r₂ : Outcome) → Shows after p₁ m₁ r₁ → Shows after p₂ m₂ r₂
+    → (r₁ ≡ r₂) × (m₁ ≡ m₂) × (take (r₁ .tables .pairs) p₁ ≡ take (r₂ .tables .pairs) p₂)
+shows-one after p₁ m₁ p₂ m₂ r₁ r₂ k q =
+    let same = k .shown-is ∙ sym (q .shown-is) in (
+      λ i. record { refusal = (k .refusal-is ∙ sym (q .refusal-is)) i; tables = same i .tables },
+      ap (λ (s : State). s .marks) same,
+      ap (λ (s : State). s .keys) same,
     )

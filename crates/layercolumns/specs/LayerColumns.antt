@@ -6,6 +6,7 @@ use Prim.Native.Nat.{ℕ, suc}
 use lib.Dec.{eqb}
 use lib.ListN.{length, take, drop, replicate}
 use Rattle.tables.specs.declared.Tables.{Tables}
+use Rattle.tables.specs.Table.{pairsRoom}
 use Rattle.rows.specs.declared.Outcome.{Outcome}
 use Rattle.rows.specs.Rows.{State, Ran, stateOf}
 use Rattle.rows.specs.Laws.{Sound}
@@ -75,3 +76,15 @@ unfoldable pub stackTable : Outcome → List ℕ → List ℕ → List ℕ → L
 stackTable named parents fs cs ats ls marks =
     let s : Stack = ground (record { tables = named .tables; keys = []; marks = marks }) in
     cond (eqb (named .refusal) 0) (stackRows parents fs cs ats ls s) (record { refusal = named .refusal; state = s })
+
+-- ---- with room for the layers that there are
+
+-- 4,096 words are enough where no row opens a layer, 16,384 for all rows
+pub record RoomFor (fs pairs : List ℕ) : Type 0 where
+  pub plain : length pairs ≡ pairsRoom → firstOpen fs ≡ length fs
+  pub layered : (length pairs ≡ pairsRoom → ⊥) → length pairs ≡ layersRoom
+
+-- what a result and two slices hold after rows: what the layers together show. What stands past its keys is not told
+pub record Shows (after : StackRan) (pairs′ marks′ : List ℕ) (r : Outcome) : Type 0 where
+  pub refusal-is : r .refusal ≡ after .refusal
+  pub shown-is : stateOf pairs′ marks′ (r .tables) ≡ after .state .top .shown

@@ -3,6 +3,7 @@
 use mathlib.Core.Path.{_≡_, refl}
 use mathlib.Core.List.{List, [], _∷_}
 use Prim.Native.Nat.{ℕ, _-_, _^_}
+use lib.ListN.{replicate}
 use Rattle.text.specs.Text.{ascii}
 use Rattle.order.specs.Lists.{elem}
 use Rattle.order.specs.Compare.{compareNumbers, compareLists}
@@ -21,7 +22,9 @@ use Rattle.columns.specs.Columns.{inside}
 use Rattle.columns.specs.Examples.{bytes}
 use Rattle.columns.specs.Given.{Given, given, evenLengths, even}
 use Rattle.tableview.specs.TableRows.{isRecorded, listedParents, setOf, lastDeclared, placeOf, rowsView, rowsWorld, namesOf, recordsOf, rowsIn}
-use Rattle.tableview.specs.RowRefusals.{listed, hasPair, different, rowChecks, recordsRefusal, tableRefusal}
+use Rattle.tableview.specs.RowRefusals.{listed, hasPair, different, rowChecks}
+use Rattle.stackview.specs.LayerRows.{hasRecord, recordedAbove, shownRows, shownIn}
+use Rattle.stackview.specs.LayerRefusals.{openChecks, layerRowRefusal, layersRefusal, stackRefusalOf}
 use Rattle.questions.specs.declared.Question.{Question}
 use Rattle.questions.specs.declared.Question.the-variants.{Relation, Distance, Supertype, Cast, Join, Assignable}
 use Rattle.questions.specs.declared.Answer.{Answer}
@@ -53,6 +56,18 @@ single flags start size = recording (flags ∷ []) (0 ∷ []) (start ∷ []) (si
 -- a/Probe alone
 abbrev pub objectless : Given
 objectless = given bytes (0 ∷ []) (7 ∷ []) [] [] [] [] []
+
+-- over `declaring 1` a layer in which a/TrussA has no parent any more, and no fact is declared
+abbrev pub layered : Given
+layered = recording (0 ∷ 3 ∷ 1 ∷ 0 ∷ 142 ∷ 0 ∷ []) (0 ∷ 1 ∷ 2 ∷ 3 ∷ 0 ∷ 1 ∷ []) (0 ∷ 1 ∷ 1 ∷ 2 ∷ 0 ∷ 0 ∷ []) (1 ∷ 1 ∷ 1 ∷ 0 ∷ 0 ∷ 0 ∷ [])
+
+-- a row that opens a layer with this class and so many parents
+abbrev pub opening : ℕ → ℕ → Given
+opening class size = recording (142 ∷ []) (class ∷ []) (0 ∷ []) (size ∷ [])
+
+-- so many layers above the lowest
+abbrev pub towering : ℕ → Given
+towering n = recording (replicate n 142) (replicate n 0) (replicate n 0) (replicate n 0)
 
 -- ---- one list
 
@@ -106,9 +121,21 @@ examples =
     ∷ refused whole Join 5 0x0001000000000004 8192 7
     ∷ refused objectless Join 5 0x0001000000000004 8192 7
     ∷ refused objectless Assignable 5 0x0001000000000000 8192 9
+    -- a layer: a/TrussA to a/Probe was Yes, and is No; the first class above the Trusses is Object; a/TrussA is still an interface
+    ∷ value (declaring 1) Relation 1 0 0
+    ∷ value layered Relation 1 0 1
+    ∷ value layered Relation 2 0 0
+    ∷ value layered Supertype 1 2 3
+    ∷ value layered Cast 1 2 1
+    ∷ value layered Cast 1 0 0
+    -- a row that opens a layer with a class, with a parent; three layers above the lowest, and four
+    ∷ refused (opening 1 0) Relation 0 1 8192 3
+    ∷ refused (opening 0 1) Relation 0 1 8192 3
+    ∷ value (towering 3) Relation 0 1 2
+    ∷ refused (towering 4) Relation 0 1 8192 8
     ∷ []
 
 -- EVERY EXAMPLE HOLDS
 pub all-hold : All holds examples
-unfolding answerOf answered refusalOf tableChecks goodNumbers valueOf tableRefusal recordsRefusal rowChecks different hasPair listed evenLengths even rowsView rowsWorld rowsIn namesOf recordsOf isRecorded listedParents setOf lastDeclared placeOf allLegal legalWord legalBase goodUnknown goodDigits unpack typeOf arrays baseOf listOf wordOf pack compare categories sameType hasAll unknownAccepts inEither unknownUnion primitiveAssignable assignableApart isAssignable narrow underDouble joinPrimitive joinKnown joinApart join arrayParent joinArrayClass firstRefusal inside ascii objectName cloneableName serializableName goodFlags allBelow checkRows checkRow placeGood nameChecks compareLists compareNumbers table within matches firstMatch sequence scan validPrefix wellFormed insert elem insertSorted put bit at member members sets.first insertAll withParents grow level reached reach steps distance numberOf ancestor allRecorded complete relation relationNumber castByFacts cast common below anyBelow lowest nearer nearest numbers candidates supertype
-all-hold = (refl, (refl, (refl, (refl, (refl, (refl, (refl, (refl, (refl, (refl, (refl, (refl, (refl, (refl, (refl, (refl, (refl, (refl, (refl, (refl, (refl, (refl, tt))))))))))))))))))))))
+unfolding answerOf answered refusalOf tableChecks goodNumbers valueOf stackRefusalOf layersRefusal layerRowRefusal openChecks rowChecks different hasPair listed evenLengths even rowsView rowsWorld shownIn shownRows recordedAbove hasRecord rowsIn namesOf recordsOf isRecorded listedParents setOf lastDeclared placeOf allLegal legalWord legalBase goodUnknown goodDigits unpack typeOf arrays baseOf listOf wordOf pack compare categories sameType hasAll unknownAccepts inEither unknownUnion primitiveAssignable assignableApart isAssignable narrow underDouble joinPrimitive joinKnown joinApart join arrayParent joinArrayClass firstRefusal inside ascii objectName cloneableName serializableName goodFlags allBelow checkRows checkRow placeGood nameChecks compareLists compareNumbers table within matches firstMatch sequence scan validPrefix wellFormed insert elem insertSorted put bit at member members sets.first insertAll withParents grow level reached reach steps distance numberOf ancestor allRecorded complete relation relationNumber castByFacts cast common below anyBelow lowest nearer nearest numbers candidates supertype
+all-hold = (refl, (refl, (refl, (refl, (refl, (refl, (refl, (refl, (refl, (refl, (refl, (refl, (refl, (refl, (refl, (refl, (refl, (refl, (refl, (refl, (refl, (refl, (refl, (refl, (refl, (refl, (refl, (refl, (refl, (refl, (refl, (refl, tt))))))))))))))))))))))))))))))))

@@ -2,7 +2,7 @@
 -- itself and by the rows before it, by their numbers, not by going through them.
 use mathlib.Core.Path.{_≡_, refl, sym, ap, ap₂, _∙_, subst}
 use mathlib.Core.Bool.{Bool, true, false, cond, not, false≢true}
-use mathlib.Core.List.{List, [], _∷_, _++_}
+use mathlib.Core.List.{List, [], _∷_}
 use mathlib.Core.Logic.{_↔_}
 use Prim.Native.Nat.{ℕ, zero, suc, _+_, _-_, _^_, _≤_, _<_}
 use native.Mathlib.Omega.{arith}
@@ -10,13 +10,14 @@ use native.Mathlib.Decide.{decLt}
 use lib.Dec.{eqb}
 use lib.ListN.{length, take, drop, getD}
 use borrow.Author.Tests.{ne-eqb, eqb-true, eqb-false}
-use Rattle.checks.specs.Checks.{firstRefusal, orElse}
+use Rattle.checks.specs.Checks.{orElse}
 use Rattle.names.specs.Names.{nameOf, nameAt, checkRow, checkRows}
-use Rattle.columns.specs.Columns.{inside}
 use Rattle.columns.specs.Given.{Given, even}
 use Rattle.columns.specs.GivenLaws.{even-is}
-use Rattle.tableview.specs.TableRows.{rowsView, rowsIn, namesOf}
-use Rattle.tableview.specs.RowRefusals.{Pair, listed, rowChecks, recordsRefusal}
+use Rattle.tableview.specs.TableRows.{rowsView}
+use Rattle.tableview.specs.RowRefusals.{Pair}
+use Rattle.stackview.specs.LayerRows.{shownIn}
+use Rattle.stackview.specs.LayerRefusals.{layerRowRefusal, underAfter, pairsAfter, layersRefusal}
 use Rattle.tablecheck.specs.declared.TableCheck.{TableCheck}
 use Rattle.tablecheck.specs.TableCheck.{namesTaken, recordsTaken, namesRefused, nameStopped, namesMany, recordsRefused, recordStopped, told, rowsCheck, tableCheck}
 
@@ -40,16 +41,21 @@ nameRefusal g i =
 abbrev pub parentsAt : List ℕ → List ℕ → List ℕ → ℕ → List ℕ
 parentsAt parents ats ls j = take (getD ls j 0) (drop (getD ats j 0) parents)
 
--- the pairs of the records before record j
-unfoldable pub pairsBefore : List ℕ → List ℕ → List ℕ → List ℕ → List Pair → ℕ → List Pair
-pairsBefore parents cs ats ls first zero = first
-pairsBefore parents cs ats ls first (suc j) = listed (getD cs j 0) (parentsAt parents ats ls j) ++ pairsBefore parents cs ats ls first j
+-- how many layers lie below the topmost where record j comes
+unfoldable pub underBefore : List ℕ → ℕ → ℕ → ℕ
+underBefore fs first zero = first
+underBefore fs first (suc j) = underAfter (getD fs j 0) (underBefore fs first j)
 
--- WHAT RECORD j IS REFUSED WITH: by its place, its flags, its classes, and the pairs of the records before it
+-- the pairs of the records before record j in its layer
+unfoldable pub pairsBefore : List ℕ → List ℕ → List ℕ → List ℕ → List ℕ → List Pair → ℕ → List Pair
+pairsBefore parents fs cs ats ls first zero = first
+pairsBefore parents fs cs ats ls first (suc j) = pairsAfter (getD fs j 0) (getD cs j 0) (parentsAt parents ats ls j) (pairsBefore parents fs cs ats ls first j)
+
+-- WHAT RECORD j IS REFUSED WITH: by its place, its flags, its classes, the pairs of the records before it in its layer, and the layers below
 abbrev pub recordRefusal : Given → ℕ → ℕ
 recordRefusal g j =
-    firstRefusal (rowChecks (namesMany g) (inside (length (g .parents)) (getD (g .«rec_at») j 0) (getD (g .«rec_len») j 0)) (getD (g .«rec_flags») j 0) (getD (g .«rec_class») j 0)
-    (parentsAt (g .parents) (g .«rec_at») (g .«rec_len») j) (pairsBefore (g .parents) (g .«rec_class») (g .«rec_at») (g .«rec_len») [] j))
+    layerRowRefusal (namesMany g) (g .parents) (underBefore (g .«rec_flags») 0 j) (pairsBefore (g .parents) (g .«rec_flags») (g .«rec_class») (g .«rec_at») (g .«rec_len») [] j)
+    (getD (g .«rec_flags») j 0) (getD (g .«rec_class») j 0) (getD (g .«rec_at») j 0) (getD (g .«rec_len») j 0)
 
 -- ---- the first row, of n rows with these refusals
 
@@ -140,36 +146,44 @@ names-say bytes (at ∷ ats) (len ∷ lens) last count sum e =
 
 -- ---- records
 
-recordsFrom : ℕ → List ℕ → List ℕ → List ℕ → List ℕ → List ℕ → List Pair → ℕ → ℕ
-recordsFrom names parents fs cs ats ls before j =
-    firstRefusal (rowChecks names (inside (length parents) (getD ats j 0) (getD ls j 0)) (getD fs j 0) (getD cs j 0) (parentsAt parents ats ls j) (pairsBefore parents cs ats ls before j))
+recordsFrom : ℕ → List ℕ → List ℕ → List ℕ → List ℕ → List ℕ → ℕ → List Pair → ℕ → ℕ
+recordsFrom names parents fs cs ats ls under before j =
+    layerRowRefusal names parents (underBefore fs under j) (pairsBefore parents fs cs ats ls before j) (getD fs j 0) (getD cs j 0) (getD ats j 0) (getD ls j 0)
 
-pairs-later : (parents : List ℕ) (c : ℕ) (cs : List ℕ) (a : ℕ) (ats : List ℕ) (l : ℕ) (ls : List ℕ) (before : List Pair) (j : ℕ)
-    → pairsBefore parents (c ∷ cs) (a ∷ ats) (l ∷ ls) before (suc j) ≡ pairsBefore parents cs ats ls (listed c (take l (drop a parents)) ++ before) j
+under-later : (f : ℕ) (fs : List ℕ) (under j : ℕ) → underBefore (f ∷ fs) under (suc j) ≡ underBefore fs (underAfter f under) j
+unfolding underBefore
+under-later f fs under zero = refl
+under-later f fs under (suc j) = ap (underAfter (getD fs j 0)) (under-later f fs under j)
+
+pairs-later : (parents : List ℕ) (f : ℕ) (fs : List ℕ) (c : ℕ) (cs : List ℕ) (a : ℕ) (ats : List ℕ) (l : ℕ) (ls : List ℕ) (before : List Pair) (j : ℕ)
+    → pairsBefore parents (f ∷ fs) (c ∷ cs) (a ∷ ats) (l ∷ ls) before (suc j) ≡ pairsBefore parents fs cs ats ls (pairsAfter f c (take l (drop a parents)) before) j
 unfolding pairsBefore
-pairs-later parents c cs a ats l ls before zero = refl
-pairs-later parents c cs a ats l ls before (suc j) = ap (λ (ps : List Pair). listed (getD cs j 0) (parentsAt parents ats ls j) ++ ps) (pairs-later parents c cs a ats l ls before j)
+pairs-later parents f fs c cs a ats l ls before zero = refl
+pairs-later parents f fs c cs a ats l ls before (suc j) = ap (pairsAfter (getD fs j 0) (getD cs j 0) (parentsAt parents ats ls j)) (pairs-later parents f fs c cs a ats l ls before j)
 
-records-say : (names : ℕ) (parents fs cs ats ls : List ℕ) (before : List Pair) → length fs ≡ length cs → length fs ≡ length ats → length fs ≡ length ls
-    → Says (recordsFrom names parents fs cs ats ls before) (length fs) (recordsRefusal names parents fs cs ats ls before) (recordsTaken names parents fs cs ats ls before)
-unfolding recordsRefusal recordsTaken recordsFrom pairsBefore
-records-say names parents [] cs ats ls before p q r = says-none (recordsFrom names parents [] cs ats ls before)
-records-say names parents (f ∷ fs) [] ats ls before p q r = absurd (omega arith)
-records-say names parents (f ∷ fs) (c ∷ cs) [] ls before p q r = absurd (omega arith)
-records-say names parents (f ∷ fs) (c ∷ cs) (a ∷ ats) [] before p q r = absurd (omega arith)
-records-say names parents (f ∷ fs) (c ∷ cs) (a ∷ ats) (l ∷ ls) before p q r =
-    says-more (recordsFrom names parents (f ∷ fs) (c ∷ cs) (a ∷ ats) (l ∷ ls) before) (length fs) (recordsFrom names parents (f ∷ fs) (c ∷ cs) (a ∷ ats) (l ∷ ls) before 0)
-    (recordsRefusal names parents fs cs ats ls more) (recordsTaken names parents fs cs ats ls more) refl
-    (says-same (recordsFrom names parents fs cs ats ls more) (λ j. recordsFrom names parents (f ∷ fs) (c ∷ cs) (a ∷ ats) (l ∷ ls) before (suc j)) (length fs)
-    (recordsRefusal names parents fs cs ats ls more) (recordsTaken names parents fs cs ats ls more) later (records-say names parents fs cs ats ls more (omega arith) (omega arith) (omega arith)))
+records-say : (names : ℕ) (parents fs cs ats ls : List ℕ) (under : ℕ) (before : List Pair) → length fs ≡ length cs → length fs ≡ length ats → length fs ≡ length ls
+    → Says (recordsFrom names parents fs cs ats ls under before) (length fs) (layersRefusal names parents fs cs ats ls under before) (recordsTaken names parents fs cs ats ls under before)
+unfolding layersRefusal recordsTaken recordsFrom pairsBefore underBefore
+records-say names parents [] cs ats ls under before p q r = says-none (recordsFrom names parents [] cs ats ls under before)
+records-say names parents (f ∷ fs) [] ats ls under before p q r = absurd (omega arith)
+records-say names parents (f ∷ fs) (c ∷ cs) [] ls under before p q r = absurd (omega arith)
+records-say names parents (f ∷ fs) (c ∷ cs) (a ∷ ats) [] under before p q r = absurd (omega arith)
+records-say names parents (f ∷ fs) (c ∷ cs) (a ∷ ats) (l ∷ ls) under before p q r =
+    says-more (recordsFrom names parents (f ∷ fs) (c ∷ cs) (a ∷ ats) (l ∷ ls) under before) (length fs) (recordsFrom names parents (f ∷ fs) (c ∷ cs) (a ∷ ats) (l ∷ ls) under before 0)
+    (layersRefusal names parents fs cs ats ls below more) (recordsTaken names parents fs cs ats ls below more) refl
+    (says-same (recordsFrom names parents fs cs ats ls below more) (λ j. recordsFrom names parents (f ∷ fs) (c ∷ cs) (a ∷ ats) (l ∷ ls) under before (suc j)) (length fs)
+    (layersRefusal names parents fs cs ats ls below more) (recordsTaken names parents fs cs ats ls below more) later (records-say names parents fs cs ats ls below more (omega arith) (omega arith) (omega arith)))
   where
-    more : List Pair
-    more = listed c (take l (drop a parents)) ++ before
+    below : ℕ
+    below = underAfter f under
 
-    later : (j : ℕ) → recordsFrom names parents (f ∷ fs) (c ∷ cs) (a ∷ ats) (l ∷ ls) before (suc j) ≡ recordsFrom names parents fs cs ats ls more j
+    more : List Pair
+    more = pairsAfter f c (take l (drop a parents)) before
+
+    later : (j : ℕ) → recordsFrom names parents (f ∷ fs) (c ∷ cs) (a ∷ ats) (l ∷ ls) under before (suc j) ≡ recordsFrom names parents fs cs ats ls below more j
     later j =
-        ap (λ (ps : List Pair). firstRefusal (rowChecks names (inside (length parents) (getD ats j 0) (getD ls j 0)) (getD fs j 0) (getD cs j 0) (parentsAt parents ats ls j) ps))
-        (pairs-later parents c cs a ats l ls before j)
+        ap₂ (λ (u : ℕ) (ps : List Pair). layerRowRefusal names parents u ps (getD fs j 0) (getD cs j 0) (getD ats j 0) (getD ls j 0))
+        (under-later f fs under j) (pairs-later parents f fs c cs a ats l ls before j)
 
 -- ---- THE TABLE
 
@@ -182,10 +196,10 @@ pub data Finds (g : Given) : TableCheck → Type 0 where
   -- a record, after names that are all taken
   in-records : even g ≡ true → AllTaken (nameRefusal g) (length (g .«name_at»)) → (row k : ℕ) → FirstRow (recordRefusal g) (length (g .«rec_flags»)) row k → Finds g (told k 2 row)
   -- no name is java/lang/Object, and every row is taken
-  no-object : even g ≡ true → AllTaken (nameRefusal g) (length (g .«name_at»)) → AllTaken (recordRefusal g) (length (g .«rec_flags»)) → rowsView (rowsIn g) .object ≡ 2 ^ 64 - 1
+  no-object : even g ≡ true → AllTaken (nameRefusal g) (length (g .«name_at»)) → AllTaken (recordRefusal g) (length (g .«rec_flags»)) → rowsView (shownIn g) .object ≡ 2 ^ 64 - 1
       → Finds g (told 9 3 0)
   -- nothing
-  nothing : even g ≡ true → AllTaken (nameRefusal g) (length (g .«name_at»)) → AllTaken (recordRefusal g) (length (g .«rec_flags»)) → (rowsView (rowsIn g) .object ≡ 2 ^ 64 - 1 → ⊥)
+  nothing : even g ≡ true → AllTaken (nameRefusal g) (length (g .«name_at»)) → AllTaken (recordRefusal g) (length (g .«rec_flags»)) → (rowsView (shownIn g) .object ≡ 2 ^ 64 - 1 → ⊥)
       → Finds g (told 0 0 0)
 
 module _ (g : Given) (e : even g ≡ true) where
@@ -202,20 +216,20 @@ module _ (g : Given) (e : even g ≡ true) where
 
   records-told : Says (recordRefusal g) (length (g .«rec_flags»)) (recordsRefused g) (recordStopped g)
   unfolding recordsFrom
-  records-told = records-say (namesMany g) (g .parents) (g .«rec_flags») (g .«rec_class») (g .«rec_at») (g .«rec_len») [] (equal .1) (equal .2) (equal .3)
+  records-told = records-say (namesMany g) (g .parents) (g .«rec_flags») (g .«rec_class») (g .«rec_at») (g .«rec_len») 0 [] (equal .1) (equal .2) (equal .3)
 
   rows-find : Finds g (rowsCheck g)
   unfolding rowsCheck
-  rows-find = go (eqb (namesRefused g) 0) refl (eqb (recordsRefused g) 0) refl (eqb (rowsView (rowsIn g) .object) (2 ^ 64 - 1)) refl
+  rows-find = go (eqb (namesRefused g) 0) refl (eqb (recordsRefused g) 0) refl (eqb (rowsView (shownIn g) .object) (2 ^ 64 - 1)) refl
     where
-      go : (n : Bool) → eqb (namesRefused g) 0 ≡ n → (r : Bool) → eqb (recordsRefused g) 0 ≡ r → (o : Bool) → eqb (rowsView (rowsIn g) .object) (2 ^ 64 - 1) ≡ o
+      go : (n : Bool) → eqb (namesRefused g) 0 ≡ n → (r : Bool) → eqb (recordsRefused g) 0 ≡ r → (o : Bool) → eqb (rowsView (shownIn g) .object) (2 ^ 64 - 1) ≡ o
           → Finds g (cond (not n) (told (namesRefused g) 1 (nameStopped g)) (cond (not r) (told (recordsRefused g) 2 (recordStopped g)) (cond o (told 9 3 0) (told 0 0 0))))
       go false en r er o eo = in-names e (nameStopped g) (namesRefused g) (names-told .first (eqb-false (namesRefused g) 0 en))
       go true en false er o eo = in-records e (names-told .taken (eqb-true (namesRefused g) 0 en)) (recordStopped g) (recordsRefused g) (records-told .first (eqb-false (recordsRefused g) 0 er))
       go true en true er true eo =
-          no-object e (names-told .taken (eqb-true (namesRefused g) 0 en)) (records-told .taken (eqb-true (recordsRefused g) 0 er)) (eqb-true (rowsView (rowsIn g) .object) (2 ^ 64 - 1) eo)
+          no-object e (names-told .taken (eqb-true (namesRefused g) 0 en)) (records-told .taken (eqb-true (recordsRefused g) 0 er)) (eqb-true (rowsView (shownIn g) .object) (2 ^ 64 - 1) eo)
       go true en true er false eo =
-          nothing e (names-told .taken (eqb-true (namesRefused g) 0 en)) (records-told .taken (eqb-true (recordsRefused g) 0 er)) (eqb-false (rowsView (rowsIn g) .object) (2 ^ 64 - 1) eo)
+          nothing e (names-told .taken (eqb-true (namesRefused g) 0 en)) (records-told .taken (eqb-true (recordsRefused g) 0 er)) (eqb-false (rowsView (shownIn g) .object) (2 ^ 64 - 1) eo)
 
 -- WHAT THE CHECK TELLS OF ANY TABLE IS SO
 pub check-finds : (g : Given) → Finds g (tableCheck g)
@@ -259,7 +273,7 @@ pub record Clean (g : Given) : Type 0 where
   pub columns : even g ≡ true
   pub names : AllTaken (nameRefusal g) (length (g .«name_at»))
   pub records : AllTaken (recordRefusal g) (length (g .«rec_flags»))
-  pub object-there : rowsView (rowsIn g) .object ≡ 2 ^ 64 - 1 → ⊥
+  pub object-there : rowsView (shownIn g) .object ≡ 2 ^ 64 - 1 → ⊥
 
 pub clean-exactly : (g : Given) → ((tableCheck g .refusal ≡ 0) ↔ Clean g) × (Clean g → tableCheck g ≡ told 0 0 0)
 clean-exactly g = ((λ z. go (tableCheck g) (check-finds g) z, λ c. ap (λ (t : TableCheck). t .refusal) (all-zero c)), all-zero)

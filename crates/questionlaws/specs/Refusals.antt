@@ -17,7 +17,9 @@ use Rattle.rows.specs.Rows.{goodFlags, allBelow}
 use Rattle.columns.specs.Columns.{inside}
 use Rattle.columns.specs.Given.{Given}
 use Rattle.tableview.specs.TableRows.{namesOf}
-use Rattle.tableview.specs.RowRefusals.{Pair, listed, different, rowChecks, recordsRefusal, tableRefusal}
+use Rattle.tableview.specs.RowRefusals.{Pair, listed, different, rowChecks}
+use Rattle.layercolumns.specs.LayerColumns.{openFlags}
+use Rattle.stackview.specs.LayerRefusals.{openChecks, layerRowRefusal, underAfter, pairsAfter, layersRefusal, stackRefusalOf}
 use Rattle.questions.specs.Questions.{tableChecks, refusalOf, workAfter}
 
 -- ---- one row
@@ -49,6 +51,24 @@ record-22 names is-inside flags class parents before =
     go false false false true e = omega arith
     go false false false false e = omega arith
 
+open-22 : (under : ℕ) (is-inside : Bool) (class len : ℕ) → checks.firstRefusal (openChecks under is-inside class len) ≡ 22 → ⊥
+unfolding openChecks checks.firstRefusal
+open-22 under is-inside class len = go (not is-inside) (not (eqb class 0 && eqb len 0)) (leb 3 under)
+  where
+    go : (p a b : Bool) → cond {A = ℕ} p 3 (cond a 3 (cond b 8 0)) ≡ 22 → ⊥
+    go true a b e = omega arith
+    go false true b e = omega arith
+    go false false true e = omega arith
+    go false false false e = omega arith
+
+row-22 : (names : ℕ) (parents : List ℕ) (under : ℕ) (before : List Pair) (f c a l : ℕ) → layerRowRefusal names parents under before f c a l ≡ 22 → ⊥
+unfolding layerRowRefusal
+row-22 names parents under before f c a l = go (eqb f openFlags)
+  where
+    go : (o : Bool) → cond o (checks.firstRefusal (openChecks under (inside (length parents) a l) c l)) (checks.firstRefusal (rowChecks names (inside (length parents) a l) f c (take l (drop a parents)) before)) ≡ 22 → ⊥
+    go true = open-22 under (inside (length parents) a l) c l
+    go false = record-22 names (inside (length parents) a l) f c (take l (drop a parents)) before
+
 -- ---- all rows
 
 either-22 : (k r : ℕ) → (k ≡ 22 → ⊥) → (r ≡ 22 → ⊥) → orElse k r ≡ 22 → ⊥
@@ -63,26 +83,25 @@ names-22 bytes (at ∷ ats) (len ∷ lens) last count total e =
     either-22 (checkRow bytes at len last count total) (checkRows bytes ats lens (nameOf bytes at len) (suc count) (total + len)) (name-22 bytes at len last count total)
     (names-22 bytes ats lens (nameOf bytes at len) (suc count) (total + len)) e
 
-records-22 : (names : ℕ) (parents fs cs ats ls : List ℕ) (before : List Pair) → recordsRefusal names parents fs cs ats ls before ≡ 22 → ⊥
-unfolding recordsRefusal
-records-22 names parents [] cs ats ls before e = omega arith
-records-22 names parents (f ∷ fs) [] ats ls before e = omega arith
-records-22 names parents (f ∷ fs) (c ∷ cs) [] ls before e = omega arith
-records-22 names parents (f ∷ fs) (c ∷ cs) (a ∷ ats) [] before e = omega arith
-records-22 names parents (f ∷ fs) (c ∷ cs) (a ∷ ats) (l ∷ ls) before e =
-    let ps = take l (drop a parents) in
-    let row = checks.firstRefusal (rowChecks names (inside (length parents) a l) f c ps before) in
-    either-22 row (recordsRefusal names parents fs cs ats ls (listed c ps ++ before)) (record-22 names (inside (length parents) a l) f c ps before)
-    (records-22 names parents fs cs ats ls (listed c ps ++ before)) e
+records-22 : (names : ℕ) (parents fs cs ats ls : List ℕ) (under : ℕ) (before : List Pair) → layersRefusal names parents fs cs ats ls under before ≡ 22 → ⊥
+unfolding layersRefusal
+records-22 names parents [] cs ats ls under before e = omega arith
+records-22 names parents (f ∷ fs) [] ats ls under before e = omega arith
+records-22 names parents (f ∷ fs) (c ∷ cs) [] ls under before e = omega arith
+records-22 names parents (f ∷ fs) (c ∷ cs) (a ∷ ats) [] under before e = omega arith
+records-22 names parents (f ∷ fs) (c ∷ cs) (a ∷ ats) (l ∷ ls) under before e =
+    let more = pairsAfter f c (take l (drop a parents)) before in
+    either-22 (layerRowRefusal names parents under before f c a l) (layersRefusal names parents fs cs ats ls (underAfter f under) more) (row-22 names parents under before f c a l)
+    (records-22 names parents fs cs ats ls (underAfter f under) more) e
 
-table-22 : (g : Given) → tableRefusal g ≡ 22 → ⊥
-unfolding tableRefusal
+table-22 : (g : Given) → stackRefusalOf g ≡ 22 → ⊥
+unfolding stackRefusalOf
 table-22 g =
     let names = length (namesOf (g .names) (g .«name_at») (g .«name_len»)) in
     either-22 (checkRows (g .names) (g .«name_at») (g .«name_len») [] 0 0)
-    (recordsRefusal names (g .parents) (g .«rec_flags») (g .«rec_class») (g .«rec_at») (g .«rec_len») [])
+    (layersRefusal names (g .parents) (g .«rec_flags») (g .«rec_class») (g .«rec_at») (g .«rec_len») 0 [])
     (names-22 (g .names) (g .«name_at») (g .«name_len») [] 0 0)
-    (records-22 names (g .parents) (g .«rec_flags») (g .«rec_class») (g .«rec_at») (g .«rec_len») [])
+    (records-22 names (g .parents) (g .«rec_flags») (g .«rec_class») (g .«rec_at») (g .«rec_len») 0 [])
 
 -- ---- the work, of every question
 
@@ -91,9 +110,9 @@ module _ (g : Given) (types : Bool) (numbers work : List ℕ) where
   unfolding free tableChecks
   others = go types
     where
-      go : (t : Bool) → (not (eqb 3 22) && (not (eqb (tableRefusal g) 22) && (not (eqb (cond t 7 6) 22) && (not (eqb 9 22) && true)))) ≡ true
-      go true = rw (ne-eqb (tableRefusal g) 22 (table-22 g))
-      go false = rw (ne-eqb (tableRefusal g) 22 (table-22 g))
+      go : (t : Bool) → (not (eqb 3 22) && (not (eqb (stackRefusalOf g) 22) && (not (eqb (cond t 7 6) 22) && (not (eqb 9 22) && true)))) ≡ true
+      go true = rw (ne-eqb (stackRefusalOf g) 22 (table-22 g))
+      go false = rw (ne-eqb (stackRefusalOf g) 22 (table-22 g))
 
   -- 22 EXACTLY IF THE WORK IS TOO SHORT
   pub short-exactly : (refusalOf g types numbers (length work) ≡ 22) ↔ (length work < 8192)

@@ -9,20 +9,23 @@ use Rattle.checks.specs.Checks.{Check, check, firstRefusal}
 use Rattle.view.specs.View.{ancestors}
 use Rattle.tables.specs.declared.Tables.{Tables}
 use Rattle.tables.specs.Table.{marksRoom, viewOf}
+use Rattle.prepared.specs.Prepared.{tableRoom}
 use Rattle.lattice.specs.World.{worldOf}
 use Rattle.joins.specs.Joins.{Fits}
 use Rattle.rows.specs.declared.Outcome.{Outcome}
-use Rattle.rows.specs.Rows.{Fills}
-use Rattle.columns.specs.Given.{Given, checkedTable}
-use Rattle.tableview.specs.TableRows.{rowsView, rowsWorld, rowsIn}
+use Rattle.columns.specs.Given.{Given}
+use Rattle.layercolumns.specs.LayerColumns.{Shows}
+use Rattle.tableview.specs.TableRows.{rowsView, rowsWorld}
+use Rattle.stackview.specs.LayerRows.{shownIn}
+use Rattle.stackview.specs.Shown.{checkedStack}
 use Rattle.questions.specs.declared.Question.{Question}
 use Rattle.questions.specs.declared.Answer.{Answer}
 use Rattle.questions.specs.declared.Ancestors.{Ancestors}
 use Rattle.questions.specs.Questions.{ofTypes, goodNumbers, tableChecks, valueOf, answered, gathered}
 
 -- what the table of the columns leaves in two slices
-abbrev pub Builds : Given → List ℕ → List ℕ → List ℕ → Outcome → Type 0
-Builds g pairs pairs′ marks′ r = Fills (checkedTable g) pairs pairs′ marks′ r
+abbrev pub Builds : Given → List ℕ → List ℕ → Outcome → Type 0
+Builds g pairs′ marks′ r = Shows (checkedStack g) pairs′ marks′ r
 
 -- the checks after the rows: their own, the numbers', that of Object
 unfoldable pub ranChecks : ℕ → Tables → Bool → List ℕ → List Check
@@ -34,18 +37,18 @@ ranChecks refusal t types numbers =
 
 -- answers where the work was long enough
 unfoldable pub tableAnswer : Given → Question → ℕ → ℕ → Answer
-tableAnswer g q a b = answered (firstRefusal (tableChecks g (ofTypes q) (a ∷ b ∷ []))) (valueOf (rowsView (rowsIn g)) (rowsWorld (rowsIn g)) q a b)
+tableAnswer g q a b = answered (firstRefusal (tableChecks g (ofTypes q) (a ∷ b ∷ []))) (valueOf (rowsView (shownIn g)) (rowsWorld (shownIn g)) q a b)
 
 unfoldable pub tableAncestors : Given → ℕ → Ancestors
-tableAncestors g class = gathered (firstRefusal (tableChecks g false (class ∷ []))) (ancestors (rowsView (rowsIn g)) class)
+tableAncestors g class = gathered (firstRefusal (tableChecks g false (class ∷ []))) (ancestors (rowsView (shownIn g)) class)
 
 abbrev pub noAncestors : ℕ → Ancestors
 noAncestors refusal = record { refusal = refusal; count = 0; lowest = 0; set = record { words = replicate 16 0 } }
 
 -- the slices hold the view and the world of the rows, and both numbers are classes, or types
 pub record Ready (g : Given) (types : Bool) (a b : ℕ) (pairs marks : List ℕ) (t : Tables) : Type 0 where
-  pub view-is : viewOf pairs marks t ≡ rowsView (rowsIn g)
-  pub world-is : worldOf pairs marks t ≡ rowsWorld (rowsIn g)
+  pub view-is : viewOf pairs marks t ≡ rowsView (shownIn g)
+  pub world-is : worldOf pairs marks t ≡ rowsWorld (shownIn g)
   pub wide : length marks ≡ marksRoom
   pub fits : Fits t
   pub numbers-in : goodNumbers types (t .names) (a ∷ b ∷ []) ≡ true
@@ -54,3 +57,11 @@ pub record Ready (g : Given) (types : Bool) (a b : ℕ) (pairs marks : List ℕ)
 pub record Opens (g : Given) (types : Bool) (a b : ℕ) (pairs marks : List ℕ) (r : Outcome) : Type 0 where
   pub refusal-is : r .refusal ≡ firstRefusal (tableChecks g types (a ∷ b ∷ []))
   pub ready : r .refusal ≡ 0 → Ready g types a b pairs marks (r .tables)
+
+-- a slice of keys alone
+abbrev pub NoRows : List ℕ → Type 0
+NoRows pairs = length pairs ≡ tableRoom → ⊥
+
+-- what is told of a table with layers: the ancestors of the first number, or the answer
+abbrev pub Tells : Given → Bool → Question → ℕ → ℕ → Answer → Ancestors → Type 0
+Tells g set q a b answer ancestors = (set ≡ false → answer ≡ tableAnswer g q a b) × (set ≡ true → ancestors ≡ tableAncestors g a)

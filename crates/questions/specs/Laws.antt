@@ -1,13 +1,12 @@
 -- Laws of the questions over slices, as the code meets them: what the checks say, that the slices hold what the rows say, and what an answer
 -- is.
 use mathlib.Core.Path.{_≡_, refl, sym, ap, ap₂, _∙_, subst}
-use mathlib.Core.Bool.{Bool, true, false, cond, not, _&&_}
+use mathlib.Core.Bool.{Bool, true, false, cond, not, _&&_, false≢true}
 use mathlib.Core.List.{List, [], _∷_}
 use Prim.Native.Nat.{ℕ, _-_, _^_, _≤_, _<_}
 use native.Mathlib.Omega.{arith}
 use lib.Dec.{eqb, ltb}
 use lib.ListN.{length, replicate}
-use lib.Seq.{take-all}
 use borrow.Author.Tests.{eq-eqb, ne-eqb, lt-ltb, le-ltb, eqb-true, eqb-false, ltb-true}
 use Rattle.order.specs.Truth.{both}
 use Rattle.checks.specs.Checks.{check, firstRefusal, first-hit, first-miss}
@@ -16,40 +15,45 @@ use Rattle.ty.specs.Round.{legal-more}
 use Rattle.view.specs.declared.Relation as declared
 use Rattle.view.specs.View.{View, relation, relationNumber, distance, numberOf, ancestors, supertype, cast}
 use Rattle.tables.specs.declared.Tables.{Tables}
-use Rattle.tables.specs.Table.{marksRoom, parentsOf, viewOf}
+use Rattle.tables.specs.Table.{marksRoom, viewOf}
 use Rattle.lattice.specs.Lattice.{World, join, isAssignable}
-use Rattle.lattice.specs.World.{present, worldWith, worldOf}
+use Rattle.lattice.specs.World.{worldOf}
 use Rattle.rows.specs.declared.Outcome.{Outcome}
-use Rattle.rows.specs.Rows.{noTables, allBelow, Ran, Fills}
-use Rattle.rows.specs.Keys.{take-filled}
-use Rattle.columns.specs.Columns.{nameRows, tableOf}
-use Rattle.columns.specs.Given.{Given, evenLengths, even, noMarks, table, checkedTable}
-use Rattle.columns.specs.GivenLaws.{checked-even, checked-uneven, good-in, object-known}
-use Rattle.tableview.specs.TableRows.{rowsView, rowsWorld, rowsIn}
-use Rattle.tableview.specs.RowRefusals.{tableRefusal}
-use Rattle.tableview.specs.Inner.{viewIn, worldIn}
-use Rattle.tableview.specs.Agrees.{view-rows, world-rows}
-use Rattle.tableview.specs.Refused.{table-refusal}
+use Rattle.rows.specs.Rows.{noTables, allBelow, State, stateOf}
+use Rattle.columns.specs.Columns.{nameRows}
+use Rattle.columns.specs.Given.{Given, evenLengths, even, noMarks}
+use Rattle.layers.specs.Stacks.{StackRan}
+use Rattle.layercolumns.specs.LayerColumns.{stackTable, RoomFor, Shows}
+use Rattle.tableview.specs.TableRows.{rowsView, rowsWorld}
+use Rattle.stackview.specs.LayerRows.{shownIn}
+use Rattle.stackview.specs.LayerRefusals.{stackRefusalOf}
+use Rattle.stackview.specs.Agrees.{stackIn, stack-view}
+use Rattle.stackview.specs.Shown.{checkedStack, checked-even, checked-uneven, stack-refused, shows-view, shows-world, shows-wide, shows-few, shows-object}
 use Rattle.questions.specs.declared.Question.{Question}
 use Rattle.questions.specs.declared.Question.the-variants.{Relation, Distance, Supertype, Cast, Join, Assignable}
 use Rattle.questions.specs.declared.Answer.{Answer}
 use Rattle.questions.specs.declared.Ancestors.{Ancestors}
 use Rattle.questions.specs.Questions.{ofTypes, goodNumbers, tableChecks, refusalOf, valueOf, answered, gathered, answerOf, ancestorsOf, workAfter, Asked, Gathers}
-use Rattle.questions.specs.Inside.{ranChecks, tableAnswer, tableAncestors, noAncestors, Ready, Opens}
+use Rattle.questions.specs.Inside.{ranChecks, tableAnswer, tableAncestors, noAncestors, Ready, Opens, NoRows, Tells}
 
 -- ---- the table: what the rows leave; of unequal columns no entry is made
 
 module _ (g : Given) (pairs marks pairs′ marks′ : List ℕ) (m : marks ≡ noMarks) (r : Outcome) where
-  pub even-fills : evenLengths (length (g .«name_at»)) (length (g .«name_len»)) (length (g .«rec_flags»)) (length (g .«rec_class»)) (length (g .«rec_at»)) (length (g .«rec_len»)) ≡ true
-      → Fills (tableOf (nameRows (g .names) (g .«name_at») (g .«name_len») [] noTables) (g .parents) (g .«rec_flags») (g .«rec_class») (g .«rec_at») (g .«rec_len») marks) pairs pairs′ marks′ r
-      → Fills (checkedTable g) pairs pairs′ marks′ r
-  unfolding table even
-  even-fills e f = rw (checked-even g e, ← m) f
+  pub even-shows : evenLengths (length (g .«name_at»)) (length (g .«name_len»)) (length (g .«rec_flags»)) (length (g .«rec_class»)) (length (g .«rec_at»)) (length (g .«rec_len»)) ≡ true
+      → Shows (stackTable (nameRows (g .names) (g .«name_at») (g .«name_len») [] noTables) (g .parents) (g .«rec_flags») (g .«rec_class») (g .«rec_at») (g .«rec_len») marks) pairs′ marks′ r
+      → Shows (checkedStack g) pairs′ marks′ r
+  unfolding stackIn even
+  even-shows e f = rw (checked-even g e, ← m) f
 
-  pub uneven-fills : evenLengths (length (g .«name_at»)) (length (g .«name_len»)) (length (g .«rec_flags»)) (length (g .«rec_class»)) (length (g .«rec_at»)) (length (g .«rec_len»)) ≡ false
-      → r ≡ record { refusal = 3; tables = noTables } → Fills (checkedTable g) pairs pairs marks r
-  unfolding even
-  uneven-fills e o = rw (checked-uneven g e) (record { outcome-is = o; pairs-are = refl; marks-are = m })
+  pub uneven-shows : evenLengths (length (g .«name_at»)) (length (g .«name_len»)) (length (g .«rec_flags»)) (length (g .«rec_class»)) (length (g .«rec_at»)) (length (g .«rec_len»)) ≡ false
+      → r ≡ record { refusal = 3; tables = noTables } → Shows (checkedStack g) pairs marks r
+  unfolding even noTables
+  uneven-shows e o =
+      rw (checked-uneven g e)
+      (record {
+        refusal-is = ap (λ (u : Outcome). u .refusal) o;
+        shown-is = ap (λ (u : Outcome). stateOf pairs marks (u .tables)) o ∙ ap (λ (l : List ℕ). record { tables = noTables; keys = []; marks = l }) m;
+      })
 
 -- ---- two numbers
 
@@ -150,108 +154,84 @@ once names x = go (ltb x names)
 
 pub checks-once : (g : Given) (x : ℕ) → firstRefusal (tableChecks g false (x ∷ x ∷ [])) ≡ firstRefusal (tableChecks g false (x ∷ []))
 unfolding tableChecks
-checks-once g x = rw (once (rowsView (rowsIn g) .names) x)
+checks-once g x = rw (once (rowsView (shownIn g) .names) x)
 
--- ---- the table in the words of its rows
+-- ---- the table in the words of the rows that its layers show
 
-module _ (g : Given) (e : even g ≡ true) (z : table g .refusal ≡ 0) where
-  names-rows : table g .state .tables .names ≡ rowsView (rowsIn g) .names
-  unfolding viewIn
-  names-rows = ap (λ (v : View). v .names) (view-rows g e z)
+module _ (g : Given) (e : even g ≡ true) (z : stackIn g .refusal ≡ 0) where
+  names-rows : stackIn g .state .top .shown .tables .names ≡ rowsView (shownIn g) .names
+  names-rows = ap (λ (v : View). v .names) (stack-view g e z)
 
-  object-rows : table g .state .tables .object ≡ rowsView (rowsIn g) .object
-  unfolding viewIn
-  object-rows = ap (λ (v : View). v .object) (view-rows g e z)
+  object-rows : stackIn g .state .top .shown .tables .object ≡ rowsView (shownIn g) .object
+  object-rows = ap (λ (v : View). v .object) (stack-view g e z)
 
 -- THE CHECKS AFTER THE ROWS, with the test of the columns among them and in the words of the rows
 pub checks-ran : (g : Given) (types : Bool) (numbers : List ℕ)
-    → firstRefusal (ranChecks (checkedTable g .refusal) (checkedTable g .state .tables) types numbers) ≡ firstRefusal (tableChecks g types numbers)
+    → firstRefusal (ranChecks (checkedStack g .refusal) (checkedStack g .state .top .shown .tables) types numbers) ≡ firstRefusal (tableChecks g types numbers)
 unfolding tableChecks ranChecks firstRefusal
-checks-ran g types numbers = go (even g) refl (eqb (tableRefusal g) 0) refl
+checks-ran g types numbers = go (even g) refl (eqb (stackRefusalOf g) 0) refl
   where
-    go : (b : Bool) → even g ≡ b → (c : Bool) → eqb (tableRefusal g) 0 ≡ c
-        → firstRefusal (ranChecks (checkedTable g .refusal) (checkedTable g .state .tables) types numbers) ≡ firstRefusal (tableChecks g types numbers)
+    go : (b : Bool) → even g ≡ b → (c : Bool) → eqb (stackRefusalOf g) 0 ≡ c
+        → firstRefusal (ranChecks (checkedStack g .refusal) (checkedStack g .state .top .shown .tables) types numbers) ≡ firstRefusal (tableChecks g types numbers)
     go false e c d = rw (checked-uneven g e, e)
-    go true e false d = rw (checked-even g e, e, table-refusal g, d)
+    go true e false d = rw (checked-even g e, e, stack-refused g, d)
     go true e true d =
-        let z = table-refusal g ∙ eqb-true (tableRefusal g) 0 d in
-        rw (checked-even g e, e, table-refusal g, d, names-rows g e z, object-rows g e z)
-
--- ---- the slices hold the view and the world
-
-module _ (g : Given) (pairs pairs′ marks′ : List ℕ) (o : Outcome) (f : Fills (table g) pairs pairs′ marks′ o) where
-  view-filled : viewOf pairs′ marks′ (o .tables) ≡ viewIn g
-  unfolding viewIn
-  view-filled =
-      let s = table g .state in
-      let n = good-in g .counted in
-      ap (λ (u : Outcome). viewOf pairs′ marks′ (u .tables)) (f .outcome-is)
-      ∙ ap₂ (λ (p m : List ℕ). viewOf p m (s .tables)) (f .pairs-are) (f .marks-are)
-      ∙ ap (λ (k : List ℕ). record { names = s .tables .names; object = s .tables .object; recorded = viewIn g .recorded; parents = parentsOf (s .tables .names) k; declared = viewIn g .declared; interface = viewIn g .interface; final = viewIn g .final })
-      (take-filled (s .keys) pairs (s .tables .pairs) n ∙ sym (take-all (s .tables .pairs) (s .keys) (omega arith)))
-
-  worldBy : View → Tables → World
-  worldBy v t = worldWith v (present (t .cloneable)) (present (t .serializable))
-
-  world-filled : worldOf pairs′ marks′ (o .tables) ≡ worldIn g
-  unfolding worldIn viewIn worldBy
-  world-filled = ap₂ worldBy view-filled (ap (λ (u : Outcome). u .tables) (f .outcome-is))
+        let z = stack-refused g ∙ eqb-true (stackRefusalOf g) 0 d in
+        rw (checked-even g e, e, stack-refused g, d, names-rows g e z, object-rows g e z)
 
 -- A BUILT TABLE that is not refused: even columns, rows that are taken, and slices that hold what these say
 pub record Stands (g : Given) (pairs marks : List ℕ) (t : Tables) : Type 0 where
   pub even-is : even g ≡ true
-  pub rows-taken : tableRefusal g ≡ 0
-  pub view-is : viewOf pairs marks t ≡ rowsView (rowsIn g)
-  pub world-is : worldOf pairs marks t ≡ rowsWorld (rowsIn g)
+  pub rows-taken : stackRefusalOf g ≡ 0
+  pub view-is : viewOf pairs marks t ≡ rowsView (shownIn g)
+  pub world-is : worldOf pairs marks t ≡ rowsWorld (shownIn g)
   pub wide : length marks ≡ marksRoom
   pub few : t .names ≤ 1024
   pub object-in : (t .object ≡ 2 ^ 64 - 1 → ⊥) → t .object < t .names
 
-module _ (g : Given) (pairs pairs′ marks′ : List ℕ) (o : Outcome) (f : Fills (checkedTable g) pairs pairs′ marks′ o) where
+module _ (g : Given) (pairs′ marks′ : List ℕ) (o : Outcome) (f : Shows (checkedStack g) pairs′ marks′ o) where
   is-even : o .refusal ≡ 0 → even g ≡ true
   is-even z = go (even g) refl
     where
       go : (t : Bool) → even g ≡ t → t ≡ true
       go true q = refl
-      go false q = absurd (let w = sym (ap (λ (u : Ran). u .refusal) (checked-uneven g q)) ∙ sym (ap (λ (u : Outcome). u .refusal) (f .outcome-is)) ∙ z in omega arith)
+      go false q = absurd (let w = sym (ap (λ (u : StackRan). u .refusal) (checked-uneven g q)) ∙ sym (f .refusal-is) ∙ z in omega arith)
 
   pub stands : o .refusal ≡ 0 → Stands g pairs′ marks′ (o .tables)
   stands z =
       let ev = is-even z in
-      let t : Fills (table g) pairs pairs′ marks′ o = subst (λ (u : Ran). Fills u pairs pairs′ marks′ o) (checked-even g ev) f in
-      let taken : table g .refusal ≡ 0 = sym (ap (λ (u : Outcome). u .refusal) (t .outcome-is)) ∙ z in
-      let good = good-in g in
-      let same : o .tables ≡ table g .state .tables = ap (λ (u : Outcome). u .tables) (t .outcome-is) in
+      let t : Shows (stackIn g) pairs′ marks′ o = subst (λ (u : StackRan). Shows u pairs′ marks′ o) (checked-even g ev) f in
+      let taken : stackIn g .refusal ≡ 0 = sym (t .refusal-is) ∙ z in
       record {
         even-is = ev;
-        rows-taken = sym (table-refusal g) ∙ taken;
-        view-is = view-filled g pairs pairs′ marks′ o t ∙ view-rows g ev taken;
-        world-is = world-filled g pairs pairs′ marks′ o t ∙ world-rows g ev taken;
-        wide = ap length (t .marks-are) ∙ good .wide;
-        few = subst (λ (u : Tables). u .names ≤ 1024) (sym same) (good .few);
-        object-in = subst (λ (u : Tables). (u .object ≡ 2 ^ 64 - 1 → ⊥) → u .object < u .names) (sym same) (object-known g);
+        rows-taken = sym (stack-refused g) ∙ taken;
+        view-is = shows-view g ev taken pairs′ marks′ o t;
+        world-is = shows-world g ev taken pairs′ marks′ o t;
+        wide = shows-wide g ev taken pairs′ marks′ o t;
+        few = shows-few g ev taken pairs′ marks′ o t;
+        object-in = shows-object g ev taken pairs′ marks′ o t;
       }
 
   -- its refusal: of the columns, then of the rows
-  pub built-refusal : o .refusal ≡ firstRefusal (check (not (even g)) 3 ∷ check (not (eqb (tableRefusal g) 0)) (tableRefusal g) ∷ [])
+  pub built-refusal : o .refusal ≡ firstRefusal (check (not (even g)) 3 ∷ check (not (eqb (stackRefusalOf g) 0)) (stackRefusalOf g) ∷ [])
   unfolding firstRefusal
-  built-refusal = go (even g) refl (eqb (tableRefusal g) 0) refl
+  built-refusal = go (even g) refl (eqb (stackRefusalOf g) 0) refl
     where
-      refusal-is : o .refusal ≡ checkedTable g .refusal
-      refusal-is = ap (λ (u : Outcome). u .refusal) (f .outcome-is)
+      go : (b : Bool) → even g ≡ b → (c : Bool) → eqb (stackRefusalOf g) 0 ≡ c → o .refusal ≡ cond (not b) 3 (cond (not c) (stackRefusalOf g) 0)
+      go false e c d = f .refusal-is ∙ ap (λ (u : StackRan). u .refusal) (checked-uneven g e)
+      go true e false d = f .refusal-is ∙ ap (λ (u : StackRan). u .refusal) (checked-even g e) ∙ stack-refused g
+      go true e true d = f .refusal-is ∙ ap (λ (u : StackRan). u .refusal) (checked-even g e) ∙ stack-refused g ∙ eqb-true (stackRefusalOf g) 0 d
 
-      go : (b : Bool) → even g ≡ b → (c : Bool) → eqb (tableRefusal g) 0 ≡ c → o .refusal ≡ cond (not b) 3 (cond (not c) (tableRefusal g) 0)
-      go false e c d = refusal-is ∙ ap (λ (u : Ran). u .refusal) (checked-uneven g e)
-      go true e false d = refusal-is ∙ ap (λ (u : Ran). u .refusal) (checked-even g e) ∙ table-refusal g
-      go true e true d = refusal-is ∙ ap (λ (u : Ran). u .refusal) (checked-even g e) ∙ table-refusal g ∙ eqb-true (tableRefusal g) 0 d
+  shown-tables : o .tables ≡ checkedStack g .state .top .shown .tables
+  shown-tables = ap (λ (s : State). s .tables) (f .shown-is)
 
 -- AN OPENED TABLE IS READY where nothing is refused
-module _ (g : Given) (types : Bool) (a b : ℕ) (pairs pairs′ marks′ : List ℕ) (o : Outcome) (f : Fills (checkedTable g) pairs pairs′ marks′ o) (r : Outcome)
+module _ (g : Given) (types : Bool) (a b : ℕ) (pairs′ marks′ : List ℕ) (o : Outcome) (f : Shows (checkedStack g) pairs′ marks′ o) (r : Outcome)
     (e : r .refusal ≡ firstRefusal (ranChecks (o .refusal) (o .tables) types (a ∷ b ∷ []))) (k : r .tables ≡ o .tables) where
   ready : r .refusal ≡ 0 → Ready g types a b pairs′ marks′ (r .tables)
   ready z =
       let p = passed (o .refusal) (o .tables) types (a ∷ b ∷ []) (sym e ∙ z) in
-      let s = stands g pairs pairs′ marks′ o f (p .taken) in
+      let s = stands g pairs′ marks′ o f (p .taken) in
       rw k (record {
         view-is = s .view-is;
         world-is = s .world-is;
@@ -262,9 +242,13 @@ module _ (g : Given) (types : Bool) (a b : ℕ) (pairs pairs′ marks′ : List 
 
   pub opens : Opens g types a b pairs′ marks′ r
   opens = record {
-    refusal-is = e ∙ ap (λ (u : Outcome). firstRefusal (ranChecks (u .refusal) (u .tables) types (a ∷ b ∷ []))) (f .outcome-is) ∙ checks-ran g types (a ∷ b ∷ []);
+    refusal-is = e ∙ ap₂ (λ (n : ℕ) (u : Tables). firstRefusal (ranChecks n u types (a ∷ b ∷ []))) (f .refusal-is) (shown-tables g pairs′ marks′ o f) ∙ checks-ran g types (a ∷ b ∷ []);
     ready = ready;
   }
+
+-- a slice with room for a table has keys alone
+pub no-rows : (fs pairs pairs′ : List ℕ) → RoomFor fs pairs → length pairs′ ≡ length pairs → NoRows pairs′
+no-rows fs pairs pairs′ r e h = let l = r .layered (λ k. omega arith) in omega arith
 
 -- ---- what is asked, by what the crates below answer over the slices
 
@@ -328,7 +312,7 @@ module _ (g : Given) (q : Question) (types : Bool) (t : types ≡ ofTypes q) (a 
 
   pub asked-none : (o .refusal ≡ 0 → ⊥) → record { refusal = o .refusal; value = 0 } ≡ tableAnswer g q a b
   unfolding tableAnswer
-  asked-none n = answered-none (o .refusal) _ refusal-asked (valueOf (rowsView (rowsIn g)) (rowsWorld (rowsIn g)) q a b) n
+  asked-none n = answered-none (o .refusal) _ refusal-asked (valueOf (rowsView (shownIn g)) (rowsWorld (shownIn g)) q a b) n
 
   module _ (z : o .refusal ≡ 0) where
     pub numbers-asked : goodNumbers (ofTypes q) (o .tables .names) (a ∷ b ∷ []) ≡ true
@@ -339,20 +323,29 @@ module _ (g : Given) (q : Question) (types : Bool) (t : types ≡ ofTypes q) (a 
     unfolding tableAnswer
     asked-value x e =
         let r = p .ready z in
-        answered-value (o .refusal) _ refusal-asked x (valueOf (rowsView (rowsIn g)) (rowsWorld (rowsIn g)) q a b) z
+        answered-value (o .refusal) _ refusal-asked x (valueOf (rowsView (shownIn g)) (rowsWorld (shownIn g)) q a b) z
         (e ∙ ap₂ (λ (y : View) (u : World). valueOf y u q a b) (r .view-is) (r .world-is))
 
 module _ (g : Given) (class : ℕ) (pairs marks : List ℕ) (o : Outcome) (p : Opens g false class class pairs marks o) where
   pub ancestors-none : (r : Ancestors) → r ≡ noAncestors (o .refusal) → (o .refusal ≡ 0 → ⊥) → r ≡ tableAncestors g class
   unfolding tableAncestors
-  ancestors-none r e n = e ∙ gathered-none (o .refusal) _ (p .refusal-is ∙ checks-once g class) (ancestors (rowsView (rowsIn g)) class) n
+  ancestors-none r e n = e ∙ gathered-none (o .refusal) _ (p .refusal-is ∙ checks-once g class) (ancestors (rowsView (shownIn g)) class) n
 
   pub ancestors-all : (words : List ℕ) (r : Ancestors) → r ≡ gathered 0 words → o .refusal ≡ 0
       → words ≡ ancestors (viewOf pairs marks (o .tables)) class → r ≡ tableAncestors g class
   unfolding tableAncestors
   ancestors-all words r e z w =
-      e ∙ gathered-all (o .refusal) _ (p .refusal-is ∙ checks-once g class) words (ancestors (rowsView (rowsIn g)) class) z
+      e ∙ gathered-all (o .refusal) _ (p .refusal-is ∙ checks-once g class) words (ancestors (rowsView (shownIn g)) class) z
       (w ∙ ap (λ (y : View). ancestors y class) (p .ready z .view-is))
+
+-- ---- of a table with layers
+
+module _ (g : Given) (set : Bool) (q : Question) (a b : ℕ) (answer : Answer) (ancestors : Ancestors) where
+  pub tells-answer : set ≡ false → answer ≡ tableAnswer g q a b → Tells g set q a b answer ancestors
+  tells-answer e h = (λ f. h, λ f. absurd (false≢true (sym e ∙ f)))
+
+  pub tells-ancestors : set ≡ true → ancestors ≡ tableAncestors g a → Tells g set q a b answer ancestors
+  tells-ancestors e h = (λ f. absurd (false≢true (sym f ∙ e)), λ f. h)
 
 -- ---- the work
 
@@ -380,14 +373,14 @@ module _ (g : Given) (q : Question) (a b : ℕ) (work : List ℕ) where
   pub asked-short : length work < 8192 → Asked g q a b work work (record { refusal = 22; value = 0 })
   unfolding answerOf
   asked-short h = record {
-    result = answered-none 22 _ (short-refusal g (ofTypes q) (a ∷ b ∷ []) work h) (valueOf (rowsView (rowsIn g)) (rowsWorld (rowsIn g)) q a b) (λ z. omega arith);
+    result = answered-none 22 _ (short-refusal g (ofTypes q) (a ∷ b ∷ []) work h) (valueOf (rowsView (shownIn g)) (rowsWorld (shownIn g)) q a b) (λ z. omega arith);
     memory = short-work g (ofTypes q) (a ∷ b ∷ []) work h;
   }
 
   pub asked-long : 8192 ≤ length work → (work′ : List ℕ) → work′ ≡ replicate (length work) 0 → (r : Answer) → r ≡ tableAnswer g q a b → Asked g q a b work work′ r
   unfolding answerOf tableAnswer
   asked-long h work′ z r e = record {
-    result = e ∙ ap (λ (k : ℕ). answered k (valueOf (rowsView (rowsIn g)) (rowsWorld (rowsIn g)) q a b)) (long-refusal g (ofTypes q) (a ∷ b ∷ []) work h);
+    result = e ∙ ap (λ (k : ℕ). answered k (valueOf (rowsView (shownIn g)) (rowsWorld (shownIn g)) q a b)) (long-refusal g (ofTypes q) (a ∷ b ∷ []) work h);
     memory = long-work g (ofTypes q) (a ∷ b ∷ []) work h work′ z;
   }
 
@@ -395,13 +388,13 @@ module _ (g : Given) (class : ℕ) (work : List ℕ) where
   pub gathers-short : length work < 8192 → (r : Ancestors) → r ≡ noAncestors 22 → Gathers g class work work r
   unfolding ancestorsOf
   gathers-short h r e = record {
-    result = e ∙ gathered-none 22 _ (short-refusal g false (class ∷ []) work h) (ancestors (rowsView (rowsIn g)) class) (λ z. omega arith);
+    result = e ∙ gathered-none 22 _ (short-refusal g false (class ∷ []) work h) (ancestors (rowsView (shownIn g)) class) (λ z. omega arith);
     memory = short-work g false (class ∷ []) work h;
   }
 
   pub gathers-long : 8192 ≤ length work → (work′ : List ℕ) → work′ ≡ replicate (length work) 0 → (r : Ancestors) → r ≡ tableAncestors g class → Gathers g class work work′ r
   unfolding ancestorsOf tableAncestors
   gathers-long h work′ z r e = record {
-    result = e ∙ ap (λ (k : ℕ). gathered k (ancestors (rowsView (rowsIn g)) class)) (long-refusal g false (class ∷ []) work h);
+    result = e ∙ ap (λ (k : ℕ). gathered k (ancestors (rowsView (shownIn g)) class)) (long-refusal g false (class ∷ []) work h);
     memory = long-work g false (class ∷ []) work h work′ z;
   }

@@ -1,4 +1,4 @@
--- What a question over slices comes to: its refusals in order, its answer in the words of the table's rows, and the work at exit. All that
+-- What a question over slices comes to: its refusals in order, its answer in the words of the rows that the table's layers show, and the work at exit. All that
 -- a caller must believe.
 use mathlib.Core.Path.{_≡_}
 use mathlib.Core.Bool.{Bool, true, false, cond, not}
@@ -13,8 +13,9 @@ use Rattle.view.specs.View.{View, relation, relationNumber, distance, numberOf,
 use Rattle.lattice.specs.Lattice.{World, join, isAssignable}
 use Rattle.rows.specs.Rows.{allBelow}
 use Rattle.columns.specs.Given.{Given, even}
-use Rattle.tableview.specs.TableRows.{rowsView, rowsWorld, rowsIn}
-use Rattle.tableview.specs.RowRefusals.{tableRefusal}
+use Rattle.tableview.specs.TableRows.{rowsView, rowsWorld}
+use Rattle.stackview.specs.LayerRows.{shownIn}
+use Rattle.stackview.specs.LayerRefusals.{stackRefusalOf}
 use Rattle.questions.specs.declared.Question.{Question}
 use Rattle.questions.specs.declared.Question.the-variants.{Relation, Distance, Supertype, Cast, Join, Assignable}
 use Rattle.questions.specs.declared.Answer.{Answer}
@@ -40,9 +41,9 @@ goodNumbers types names numbers = cond types (allLegal names numbers) (allBelow 
 unfoldable pub tableChecks : Given → Bool → List ℕ → List Check
 tableChecks g types numbers =
     check (not (even g)) 3
-    ∷ check (not (eqb (tableRefusal g) 0)) (tableRefusal g)
-    ∷ check (not (goodNumbers types (rowsView (rowsIn g) .names) numbers)) (cond types 7 6)
-    ∷ check (eqb (rowsView (rowsIn g) .object) (2 ^ 64 - 1)) 9
+    ∷ check (not (eqb (stackRefusalOf g) 0)) (stackRefusalOf g)
+    ∷ check (not (goodNumbers types (rowsView (shownIn g) .names) numbers)) (cond types 7 6)
+    ∷ check (eqb (rowsView (shownIn g) .object) (2 ^ 64 - 1)) 9
     ∷ []
 
 -- before all, a work of `room` words that is too short
@@ -76,12 +77,12 @@ gathered refusal words =
     (record { refusal = 0; count = length (members (at words) 0 1024); lowest = first (at words) 1024; set = record { words = words } })
     (record { refusal = refusal; count = 0; lowest = 0; set = record { words = replicate 16 0 } })
 
--- OF THE ROWS THAT THE COLUMNS HOLD
+-- OF THE ROWS THAT THE COLUMNS' LAYERS SHOW
 unfoldable pub answerOf : Given → Question → ℕ → ℕ → ℕ → Answer
-answerOf g q a b room = answered (questionRefusal g q a b room) (valueOf (rowsView (rowsIn g)) (rowsWorld (rowsIn g)) q a b)
+answerOf g q a b room = answered (questionRefusal g q a b room) (valueOf (rowsView (shownIn g)) (rowsWorld (shownIn g)) q a b)
 
 unfoldable pub ancestorsOf : Given → ℕ → ℕ → Ancestors
-ancestorsOf g class room = gathered (ancestorsRefusal g class room) (ancestors (rowsView (rowsIn g)) class)
+ancestorsOf g class room = gathered (ancestorsRefusal g class room) (ancestors (rowsView (shownIn g)) class)
 
 -- ---- the work at exit: zero, but as it came where it is too short
 

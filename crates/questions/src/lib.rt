@@ -1,6 +1,10 @@
-// Questions over slices: the class table is built from its columns, its pairs in the work that a caller lends; the two numbers are checked
-// over its names, and the question is put to the crate that answers it. The work may come with any words, and is zero afterwards.
+// Questions over slices: the class table is built from its columns, its pairs in the work that a caller lends, or, where a row opens a layer, in a
+// local array with room for four layers; the two numbers are checked over its names, and the question is put to the crate that answers it. The work
+// may come with any words, and is zero afterwards.
 use clearing::clear;
+use layercolumns::build_shown;
+use layercolumns::first_open;
+use layers::SHOWN;
 use rows::Outcome;
 use sets::Set;
 use tables::MARKS;
@@ -16,13 +20,14 @@ ghost use lib.ListN.{length};
 ghost use Rattle.checks.specs.Checks.{firstRefusal};
 ghost use Rattle.ty.specs.Words.{allLegal};
 ghost use Rattle.view.specs.View.{relationNumber};
-ghost use Rattle.tables.specs.Table.{pairsRoom, marksRoom, viewOf};
+ghost use Rattle.tables.specs.Table.{marksRoom, viewOf};
 ghost use Rattle.lattice.specs.World.{worldOf};
 ghost use Rattle.joins.specs.Joins.{Fits};
 ghost use Rattle.rows.specs.Rows.{noTables, allBelow};
 ghost use Rattle.columns.specs.Given.{given, evenLengths, noMarks};
+ghost use Rattle.layercolumns.specs.LayerColumns.{RoomFor};
 ghost use Rattle.questions.specs.Questions.{ofTypes, goodNumbers, valueOf, gathered, Asked, Gathers};
-ghost use Rattle.questions.specs.Inside.{Builds, ranChecks, tableAnswer, tableAncestors, noAncestors, Opens};
+ghost use Rattle.questions.specs.Inside.{Builds, ranChecks, tableAnswer, tableAncestors, noAncestors, Opens, NoRows, Tells};
 
 // The least length of the work.
 const ROOM: usize = 8192;
@@ -49,6 +54,12 @@ pub struct Ancestors {
     pub count: u64,
     pub lowest: u64,
     pub set: Set,
+}
+
+// One of the two, by what was asked.
+struct Told {
+    answer: Answer,
+    ancestors: Ancestors,
 }
 
 // ---- the table
@@ -94,7 +105,7 @@ fn no_table() -> Outcome
     }
 }
 
-// The table from columns of any length, into two slices without entries: 3, or what the rows come to.
+// The table from columns of any length, into two slices without entries that have room for its layers: 3, or what the rows come to.
 pub fn build_table(
     names: &[u8],
     name_at: &[u64],
@@ -107,8 +118,8 @@ pub fn build_table(
     pairs: &mut [u64],
     marks: &mut [u64],
 ) -> Outcome
-    requires { ⌜ (length (now pairs) ≡ pairsRoom) × (now marks ≡ noMarks) ⌝ }
-    ensures { λ r. ⌜ Builds (given (now (names .entry)) (now («name_at» .entry)) (now («name_len» .entry)) (now («rec_flags» .entry)) (now («rec_class» .entry)) (now («rec_at» .entry)) (now («rec_len» .entry)) (now (parents .entry))) (now (pairs .entry)) (now (pairs .exit)) (now (marks .exit)) r ⌝ }
+    requires { ⌜ RoomFor (now «rec_flags») (now pairs) × (now marks ≡ noMarks) ⌝ }
+    ensures { λ r. ⌜ Builds (given (now (names .entry)) (now («name_at» .entry)) (now («name_len» .entry)) (now («rec_flags» .entry)) (now («rec_class» .entry)) (now («rec_at» .entry)) (now («rec_len» .entry)) (now (parents .entry))) (now (pairs .exit)) (now (marks .exit)) r ⌝ }
 {
     if is_even(
         name_at.len(),
@@ -118,7 +129,7 @@ pub fn build_table(
         rec_at.len(),
         rec_len.len(),
     ) {
-        return columns::build(
+        return build_shown(
             names,
             name_at,
             name_len,
@@ -225,7 +236,7 @@ fn open_table(
     pairs: &mut [u64],
     marks: &mut [u64],
 ) -> Outcome
-    requires { ⌜ (length (now pairs) ≡ pairsRoom) × (now marks ≡ noMarks) ⌝ }
+    requires { ⌜ RoomFor (now «rec_flags») (now pairs) × (now marks ≡ noMarks) ⌝ }
     ensures { λ r. ⌜ Opens (given (now (names .entry)) (now («name_at» .entry)) (now («name_len» .entry)) (now («rec_flags» .entry)) (now («rec_class» .entry)) (now («rec_at» .entry)) (now («rec_len» .entry)) (now (parents .entry))) types a b (now (pairs .exit)) (now (marks .exit)) r ⌝ }
 {
     let o = build_table(
@@ -271,7 +282,7 @@ fn number(t: TypeWord) -> u64
 }
 
 fn value_of(pairs: &[u64], marks: &[u64], t: Tables, q: Question, a: u64, b: u64) -> u64
-    requires { ⌜ (length (now marks) ≡ marksRoom) × Fits t × (goodNumbers (ofTypes q) (t .names) (a ∷ b ∷ []) ≡ true) × (length (now pairs) ≡ pairsRoom) ⌝ }
+    requires { ⌜ (length (now marks) ≡ marksRoom) × Fits t × (goodNumbers (ofTypes q) (t .names) (a ∷ b ∷ []) ≡ true) × NoRows (now pairs) ⌝ }
     ensures { λ r. ⌜ r ≡ valueOf (viewOf (now (pairs .entry)) (now (marks .entry)) t) (worldOf (now (pairs .entry)) (now (marks .entry)) t) q a b ⌝ }
 {
     let l = TypeWord { word: a };
@@ -302,7 +313,7 @@ fn ask_over(
     pairs: &mut [u64],
     marks: &mut [u64],
 ) -> Answer
-    requires { ⌜ (length (now pairs) ≡ pairsRoom) × (now marks ≡ noMarks) ⌝ }
+    requires { ⌜ RoomFor (now «rec_flags») (now pairs) × (now marks ≡ noMarks) ⌝ }
     ensures { λ r. ⌜ r ≡ tableAnswer (given (now (names .entry)) (now («name_at» .entry)) (now («name_len» .entry)) (now («rec_flags» .entry)) (now («rec_class» .entry)) (now («rec_at» .entry)) (now («rec_len» .entry)) (now (parents .entry))) q a b ⌝ }
 {
     let types = of_types(q);
@@ -332,49 +343,6 @@ fn ask_over(
         refusal: 0,
         value: value,
     }
-}
-
-// The answer to a question about two classes, or two types.
-pub fn ask(
-    names: &[u8],
-    name_at: &[u64],
-    name_len: &[u64],
-    rec_flags: &[u64],
-    rec_class: &[u64],
-    rec_at: &[u64],
-    rec_len: &[u64],
-    parents: &[u64],
-    q: Question,
-    a: u64,
-    b: u64,
-    work: &mut [u64],
-) -> Answer
-    ensures { λ r. ⌜ Asked (given (now (names .entry)) (now («name_at» .entry)) (now («name_len» .entry)) (now («rec_flags» .entry)) (now («rec_class» .entry)) (now («rec_at» .entry)) (now («rec_len» .entry)) (now (parents .entry))) q a b (now (work .entry)) (now (work .exit)) r ⌝ }
-{
-    if work.len() < ROOM {
-        return Answer {
-            refusal: 22,
-            value: 0,
-        };
-    }
-    let mut marks = [0u64; MARKS];
-    let answer = ask_over(
-        names,
-        name_at,
-        name_len,
-        rec_flags,
-        rec_class,
-        rec_at,
-        rec_len,
-        parents,
-        q,
-        a,
-        b,
-        &mut work[0..PAIRS],
-        &mut marks,
-    );
-    clear(work);
-    answer
 }
 
 // ---- the ancestors of a class
@@ -415,7 +383,7 @@ fn ancestors_over(
     pairs: &mut [u64],
     marks: &mut [u64],
 ) -> Ancestors
-    requires { ⌜ (length (now pairs) ≡ pairsRoom) × (now marks ≡ noMarks) ⌝ }
+    requires { ⌜ RoomFor (now «rec_flags») (now pairs) × (now marks ≡ noMarks) ⌝ }
     ensures { λ r. ⌜ r ≡ tableAncestors (given (now (names .entry)) (now («name_at» .entry)) (now («name_len» .entry)) (now («rec_flags» .entry)) (now («rec_class» .entry)) (now («rec_at» .entry)) (now («rec_len» .entry)) (now (parents .entry))) class ⌝ }
 {
     let o = open_table(
@@ -439,6 +407,132 @@ fn ancestors_over(
     gather(hierarchy::ancestors(pairs, marks, o.tables, class))
 }
 
+// ---- both, over what there is of layers
+
+// Over a table with layers. One function for both, so that it stands by itself and its array is in no other's frame.
+fn ask_layers(
+    names: &[u8],
+    name_at: &[u64],
+    name_len: &[u64],
+    rec_flags: &[u64],
+    rec_class: &[u64],
+    rec_at: &[u64],
+    rec_len: &[u64],
+    parents: &[u64],
+    set: bool,
+    q: Question,
+    a: u64,
+    b: u64,
+) -> Told
+    ensures { λ r. ⌜ Tells (given (now (names .entry)) (now («name_at» .entry)) (now («name_len» .entry)) (now («rec_flags» .entry)) (now («rec_class» .entry)) (now («rec_at» .entry)) (now («rec_len» .entry)) (now (parents .entry))) set q a b (r .answer) (r .ancestors) ⌝ }
+{
+    let mut pairs = [0u64; SHOWN];
+    let mut marks = [0u64; MARKS];
+    if set {
+        let found = ancestors_over(
+            names,
+            name_at,
+            name_len,
+            rec_flags,
+            rec_class,
+            rec_at,
+            rec_len,
+            parents,
+            a,
+            &mut pairs,
+            &mut marks,
+        );
+        let none = Answer {
+            refusal: 0,
+            value: 0,
+        };
+        return Told {
+            answer: none,
+            ancestors: found,
+        };
+    }
+    let answer = ask_over(
+        names,
+        name_at,
+        name_len,
+        rec_flags,
+        rec_class,
+        rec_at,
+        rec_len,
+        parents,
+        q,
+        a,
+        b,
+        &mut pairs,
+        &mut marks,
+    );
+    Told {
+        answer: answer,
+        ancestors: none_gathered(0),
+    }
+}
+
+// The answer to a question about two classes, or two types.
+pub fn ask(
+    names: &[u8],
+    name_at: &[u64],
+    name_len: &[u64],
+    rec_flags: &[u64],
+    rec_class: &[u64],
+    rec_at: &[u64],
+    rec_len: &[u64],
+    parents: &[u64],
+    q: Question,
+    a: u64,
+    b: u64,
+    work: &mut [u64],
+) -> Answer
+    ensures { λ r. ⌜ Asked (given (now (names .entry)) (now («name_at» .entry)) (now («name_len» .entry)) (now («rec_flags» .entry)) (now («rec_class» .entry)) (now («rec_at» .entry)) (now («rec_len» .entry)) (now (parents .entry))) q a b (now (work .entry)) (now (work .exit)) r ⌝ }
+{
+    if work.len() < ROOM {
+        return Answer {
+            refusal: 22,
+            value: 0,
+        };
+    }
+    if first_open(rec_flags) < rec_flags.len() {
+        let told = ask_layers(
+            names,
+            name_at,
+            name_len,
+            rec_flags,
+            rec_class,
+            rec_at,
+            rec_len,
+            parents,
+            false,
+            q,
+            a,
+            b,
+        );
+        clear(work);
+        return told.answer;
+    }
+    let mut marks = [0u64; MARKS];
+    let answer = ask_over(
+        names,
+        name_at,
+        name_len,
+        rec_flags,
+        rec_class,
+        rec_at,
+        rec_len,
+        parents,
+        q,
+        a,
+        b,
+        &mut work[0..PAIRS],
+        &mut marks,
+    );
+    clear(work);
+    answer
+}
+
 // The ancestors of a class.
 pub fn ancestors_of(
     names: &[u8],
@@ -456,6 +550,24 @@ pub fn ancestors_of(
 {
     if work.len() < ROOM {
         return none_gathered(22);
+    }
+    if first_open(rec_flags) < rec_flags.len() {
+        let told = ask_layers(
+            names,
+            name_at,
+            name_len,
+            rec_flags,
+            rec_class,
+            rec_at,
+            rec_len,
+            parents,
+            true,
+            Question::Relation,
+            class,
+            class,
+        );
+        clear(work);
+        return told.ancestors;
     }
     let mut marks = [0u64; MARKS];
     let found = ancestors_over(

@@ -11,10 +11,12 @@ use Rattle.checks.specs.Checks.{check, firstRefusal}
 use Rattle.view.specs.View.{View}
 use Rattle.lattice.specs.World.{worldOf}
 use Rattle.rows.specs.declared.Outcome.{Outcome}
-use Rattle.rows.specs.Rows.{Fills}
-use Rattle.columns.specs.Given.{Given, even, checkedTable}
-use Rattle.tableview.specs.TableRows.{rowsView, rowsIn}
-use Rattle.tableview.specs.RowRefusals.{tableRefusal}
+use Rattle.columns.specs.Given.{Given, even}
+use Rattle.layercolumns.specs.LayerColumns.{Shows}
+use Rattle.tableview.specs.TableRows.{rowsView}
+use Rattle.stackview.specs.LayerRows.{shownIn}
+use Rattle.stackview.specs.LayerRefusals.{stackRefusalOf}
+use Rattle.stackview.specs.Shown.{checkedStack}
 use Rattle.solving.specs.declared.Counts.{Counts}
 use Rattle.solving.specs.Solving.{Solution, Unsolved, solve}
 use Rattle.problems.specs.Problems.{Columns, evenProblem}
@@ -74,27 +76,27 @@ uneven-problem g c e = go (even g) refl
 
 -- ---- over the table that was built
 
-module _ (g : Given) (c : Columns) (even-c : evenProblem c ≡ true) (pairs pairs′ marks′ : List ℕ) (o : Outcome) (f : Fills (checkedTable g) pairs pairs′ marks′ o) where
+module _ (g : Given) (c : Columns) (even-c : evenProblem c ≡ true) (pairs′ marks′ : List ℕ) (o : Outcome) (f : Shows (checkedStack g) pairs′ marks′ o) where
   pub table-refused : (o .refusal ≡ 0 → ⊥) → firstRefusal (solveChecks g c) ≡ o .refusal
   unfolding solveChecks firstRefusal
-  table-refused n = go (even g) refl (eqb (tableRefusal g) 0) refl
+  table-refused n = go (even g) refl (eqb (stackRefusalOf g) 0) refl
     where
-      is : o .refusal ≡ cond (not (even g)) 3 (cond (not (eqb (tableRefusal g) 0)) (tableRefusal g) 0)
-      is = built-refusal g pairs pairs′ marks′ o f
+      is : o .refusal ≡ cond (not (even g)) 3 (cond (not (eqb (stackRefusalOf g) 0)) (stackRefusalOf g) 0)
+      is = built-refusal g pairs′ marks′ o f
 
-      go : (b : Bool) → even g ≡ b → (d : Bool) → eqb (tableRefusal g) 0 ≡ d → firstRefusal (solveChecks g c) ≡ o .refusal
+      go : (b : Bool) → even g ≡ b → (d : Bool) → eqb (stackRefusalOf g) 0 ≡ d → firstRefusal (solveChecks g c) ≡ o .refusal
       go false x d y = rw (is, x)
       go true x false y = rw (is, x, even-c, y)
-      go true x true y = absurd (n (is ∙ ap₂ (λ (p q : Bool). cond (not p) 3 (cond (not q) (tableRefusal g) 0)) x y))
+      go true x true y = absurd (n (is ∙ ap₂ (λ (p q : Bool). cond (not p) 3 (cond (not q) (stackRefusalOf g) 0)) x y))
 
   module _ (z : o .refusal ≡ 0) where
     abbrev s : Stands g pairs′ marks′ (o .tables)
-    s = stands g pairs pairs′ marks′ o f z
+    s = stands g pairs′ marks′ o f z
 
-    names-are : o .tables .names ≡ rowsView (rowsIn g) .names
+    names-are : o .tables .names ≡ rowsView (shownIn g) .names
     names-are = ap (λ (v : View). v .names) (s .view-is)
 
-    object-is : o .tables .object ≡ rowsView (rowsIn g) .object
+    object-is : o .tables .object ≡ rowsView (shownIn g) .object
     object-is = ap (λ (v : View). v .object) (s .view-is)
 
     checks-are : columnsRefusal (o .tables) c ≡ firstRefusal (solveChecks g c)

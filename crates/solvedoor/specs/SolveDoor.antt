@@ -8,8 +8,9 @@ use lib.Dec.{eqb, ltb}
 use lib.ListN.{length, replicate}
 use Rattle.checks.specs.Checks.{Check, check, firstRefusal}
 use Rattle.columns.specs.Given.{Given, even}
-use Rattle.tableview.specs.TableRows.{rowsView, rowsWorld, rowsIn}
-use Rattle.tableview.specs.RowRefusals.{tableRefusal}
+use Rattle.tableview.specs.TableRows.{rowsView, rowsWorld}
+use Rattle.stackview.specs.LayerRows.{shownIn}
+use Rattle.stackview.specs.LayerRefusals.{stackRefusalOf}
 use Rattle.solving.specs.declared.Counts.{Counts}
 use Rattle.solving.specs.Solving.{Solution, Unsolved, solve}
 use Rattle.problems.specs.Problems.{Columns, Placed, evenProblem, problem}
@@ -23,25 +24,25 @@ tooShort c l =
 
 -- the problem of the columns over the names of the table: its refusal, and what its rows have made
 unfoldable pub problemOver : Given → Columns → Placed
-problemOver g c = problem (rowsView (rowsIn g) .names) c
+problemOver g c = problem (rowsView (shownIn g) .names) c
 
 -- in order: columns of unequal length, of the table, then of the problem; the table's rows; the problem's rows; no java/lang/Object
 unfoldable pub solveChecks : Given → Columns → List Check
 solveChecks g c =
     check (not (even g)) 3
     ∷ check (not (evenProblem c)) 3
-    ∷ check (not (eqb (tableRefusal g) 0)) (tableRefusal g)
+    ∷ check (not (eqb (stackRefusalOf g) 0)) (stackRefusalOf g)
     ∷ check (not (eqb (problemOver g c .refusal) 0)) (problemOver g c .refusal)
-    ∷ check (eqb (rowsView (rowsIn g) .object) (2 ^ 64 - 1)) 9
+    ∷ check (eqb (rowsView (shownIn g) .object) (2 ^ 64 - 1)) 9
     ∷ []
 
 -- before all, a slice that is too short
 unfoldable pub solveRefusal : Given → Columns → Lent → ℕ
 solveRefusal g c l = firstRefusal (check (tooShort c l) 22 ∷ solveChecks g c)
 
--- WHAT A SOLVE OVER SLICES COMES TO: a refusal, or the solve of the rows over the world of the table's rows. 20 and 21 come from the run
+-- WHAT A SOLVE OVER SLICES COMES TO: a refusal, or the solve of the rows over the world of the rows that the table's layers show. 20 and 21 come from the run
 unfoldable pub solveIn : Given → Columns → Lent → Solution
-solveIn g c l = cond (eqb (solveRefusal g c l) 0) (solve (rowsWorld (rowsIn g)) (problemOver g c .problem)) (Unsolved (solveRefusal g c l))
+solveIn g c l = cond (eqb (solveRefusal g c l) 0) (solve (rowsWorld (shownIn g)) (problemOver g c .problem)) (Unsolved (solveRefusal g c l))
 
 -- the work at exit: zero everywhere, but as it came where a slice is too short
 unfoldable pub solveWork : Columns → Lent → List ℕ

@@ -20,7 +20,8 @@ use Rattle.lattice.specs.Lattice.{World}
 use Rattle.rows.specs.Rows.{filled}
 use Rattle.rows.specs.Keys.{take-filled}
 use Rattle.columns.specs.Given.{Given}
-use Rattle.tableview.specs.TableRows.{rowsWorld, rowsIn}
+use Rattle.tableview.specs.TableRows.{rowsWorld}
+use Rattle.stackview.specs.LayerRows.{shownIn}
 use Rattle.solving.specs.declared.Counts.{Counts}
 use Rattle.solving.specs.Ordered.{Ascending}
 use Rattle.solving.specs.Runs.{propagate-stops}
@@ -42,7 +43,7 @@ use Rattle.solvelaws.specs.RowNumbers.{RowChain, bound-at, chain-of, row
 
 -- the world of the table's rows
 abbrev pub worldIn : Given → World
-worldIn g = rowsWorld (rowsIn g)
+worldIn g = rowsWorld (shownIn g)
 
 -- the final rows: as many as were counted, of the three columns
 abbrev pub finalRows : Counts → Lent → List Bound

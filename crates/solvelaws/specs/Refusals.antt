@@ -18,9 +18,13 @@ use Rattle.rows.specs.Rows.{goodFlags, allBelow}
 use Rattle.columns.specs.Columns.{inside}
 use Rattle.columns.specs.Given.{Given, even}
 use Rattle.tableview.specs.TableRows.{namesOf, rowsView, rowsWorld, rowsIn}
-use Rattle.tableview.specs.RowRefusals.{Pair, listed, different, rowChecks as recordChecks, recordsRefusal, tableRefusal}
-use Rattle.tableview.specs.Domain.{InDomain, Aligned, Placed, even-exactly, table-exactly, object-there}
-use Rattle.tableview.specs.Refused.{table-refusal}
+use Rattle.stackview.specs.LayerRows.{shownIn}
+use Rattle.tableview.specs.RowRefusals.{Pair, listed, different, rowChecks as recordChecks}
+use Rattle.layercolumns.specs.LayerColumns.{openFlags}
+use Rattle.stackview.specs.LayerRefusals.{openChecks, layerRowRefusal, underAfter, pairsAfter, layersRefusal, stackRefusalOf}
+use Rattle.tableview.specs.Domain.{Aligned, Placed, even-exactly}
+use Rattle.stackview.specs.Domain.{LayersInDomain, stack-exactly, shown-object}
+use Rattle.stackview.specs.Shown.{stack-refused}
 use Rattle.ty.specs.Words.{legalWord, typeOf}
 use Rattle.solving.specs.declared.Counts.{Counts}
 use Rattle.solving.specs.Ordered.{insert}
@@ -38,7 +42,7 @@ use Rattle.solvelaws.specs.Gives.{Equal, equal-lengths}
 
 -- the run of the rows as they stand, over the world of the table's rows
 abbrev pub runIn : Given → Columns → Finish
-runIn g c = propagate (rowsWorld (rowsIn g)) (linksOf (plainProblem c)) (c .components) (tableOf (plainProblem c))
+runIn g c = propagate (rowsWorld (shownIn g)) (linksOf (plainProblem c)) (c .components) (tableOf (plainProblem c))
 
 -- what a run stops with: 20 or 21, or 0 where it ends
 abbrev pub runRefusal : Finish → ℕ
@@ -78,6 +82,24 @@ record-most names is-inside flags class parents before =
     go false false false true = omega arith
     go false false false false = omega arith
 
+open-most : (under : ℕ) (is-inside : Bool) (class len : ℕ) → firstRefusal (openChecks under is-inside class len) ≤ 10
+unfolding openChecks firstRefusal
+open-most under is-inside class len = go (not is-inside) (not (eqb class 0 && eqb len 0)) (leb 3 under)
+  where
+    go : (p a b : Bool) → cond {A = ℕ} p 3 (cond a 3 (cond b 8 0)) ≤ 10
+    go true a b = omega arith
+    go false true b = omega arith
+    go false false true = omega arith
+    go false false false = omega arith
+
+row-most : (names : ℕ) (parents : List ℕ) (under : ℕ) (before : List Pair) (f c a l : ℕ) → layerRowRefusal names parents under before f c a l ≤ 10
+unfolding layerRowRefusal
+row-most names parents under before f c a l = go (eqb f openFlags)
+  where
+    go : (o : Bool) → cond o (firstRefusal (openChecks under (inside (length parents) a l) c l)) (firstRefusal (recordChecks names (inside (length parents) a l) f c (take l (drop a parents)) before)) ≤ 10
+    go true = open-most under (inside (length parents) a l) c l
+    go false = record-most names (inside (length parents) a l) f c (take l (drop a parents)) before
+
 names-most : (bytes ats lens last : List ℕ) (count total : ℕ) → checkRows bytes ats lens last count total ≤ 10
 unfolding checkRows
 names-most bytes [] lens last count total = omega arith
@@ -86,23 +108,23 @@ names-most bytes (at ∷ ats) (len ∷ lens) last count total =
     up-to 10 (checkRow bytes at len last count total) (checkRows bytes ats lens (nameOf bytes at len) (suc count) (total + len)) (name-most bytes at len last count total)
     (names-most bytes ats lens (nameOf bytes at len) (suc count) (total + len))
 
-records-most : (names : ℕ) (parents fs cs ats ls : List ℕ) (before : List Pair) → recordsRefusal names parents fs cs ats ls before ≤ 10
-unfolding recordsRefusal
-records-most names parents [] cs ats ls before = omega arith
-records-most names parents (f ∷ fs) [] ats ls before = omega arith
-records-most names parents (f ∷ fs) (c ∷ cs) [] ls before = omega arith
-records-most names parents (f ∷ fs) (c ∷ cs) (a ∷ ats) [] before = omega arith
-records-most names parents (f ∷ fs) (c ∷ cs) (a ∷ ats) (l ∷ ls) before =
-    let ps = take l (drop a parents) in
-    up-to 10 (firstRefusal (recordChecks names (inside (length parents) a l) f c ps before)) (recordsRefusal names parents fs cs ats ls (listed c ps ++ before))
-    (record-most names (inside (length parents) a l) f c ps before) (records-most names parents fs cs ats ls (listed c ps ++ before))
+records-most : (names : ℕ) (parents fs cs ats ls : List ℕ) (under : ℕ) (before : List Pair) → layersRefusal names parents fs cs ats ls under before ≤ 10
+unfolding layersRefusal
+records-most names parents [] cs ats ls under before = omega arith
+records-most names parents (f ∷ fs) [] ats ls under before = omega arith
+records-most names parents (f ∷ fs) (c ∷ cs) [] ls under before = omega arith
+records-most names parents (f ∷ fs) (c ∷ cs) (a ∷ ats) [] under before = omega arith
+records-most names parents (f ∷ fs) (c ∷ cs) (a ∷ ats) (l ∷ ls) under before =
+    let more = pairsAfter f c (take l (drop a parents)) before in
+    up-to 10 (layerRowRefusal names parents under before f c a l) (layersRefusal names parents fs cs ats ls (underAfter f under) more)
+    (row-most names parents under before f c a l) (records-most names parents fs cs ats ls (underAfter f under) more)
 
-table-most : (g : Given) → tableRefusal g ≤ 10
-unfolding tableRefusal
+table-most : (g : Given) → stackRefusalOf g ≤ 10
+unfolding stackRefusalOf
 table-most g =
     let names = length (namesOf (g .names) (g .«name_at») (g .«name_len»)) in
-    up-to 10 (checkRows (g .names) (g .«name_at») (g .«name_len») [] 0 0) (recordsRefusal names (g .parents) (g .«rec_flags») (g .«rec_class») (g .«rec_at») (g .«rec_len») [])
-    (names-most (g .names) (g .«name_at») (g .«name_len») [] 0 0) (records-most names (g .parents) (g .«rec_flags») (g .«rec_class») (g .«rec_at») (g .«rec_len») [])
+    up-to 10 (checkRows (g .names) (g .«name_at») (g .«name_len») [] 0 0) (layersRefusal names (g .parents) (g .«rec_flags») (g .«rec_class») (g .«rec_at») (g .«rec_len») 0 [])
+    (names-most (g .names) (g .«name_at») (g .«name_len») [] 0 0) (records-most names (g .parents) (g .«rec_flags») (g .«rec_class») (g .«rec_at») (g .«rec_len») 0 [])
 
 -- a row of a problem
 module _ (names : ℕ) where
@@ -147,7 +169,7 @@ module _ (names : ℕ) where
 
 problem-most : (g : Given) (c : Columns) → problemOver g c .refusal ≤ 10
 unfolding problemOver problem
-problem-most g c = rows-most (rowsView (rowsIn g) .names) (problemIn c) noProblem
+problem-most g c = rows-most (rowsView (shownIn g) .names) (problemIn c) noProblem
 
 -- so are the checks after the first
 checks-most : (g : Given) (c : Columns) → firstRefusal (solveChecks g c) ≤ 10
@@ -155,10 +177,10 @@ unfolding solveChecks firstRefusal
 checks-most g c =
     let a = table-most g in
     let b = problem-most g c in
-    go (not (even g)) (not (evenProblem c)) (not (eqb (tableRefusal g) 0)) (not (eqb (problemOver g c .refusal) 0)) (eqb (rowsView (rowsIn g) .object) (2 ^ 64 - 1)) a b
+    go (not (even g)) (not (evenProblem c)) (not (eqb (stackRefusalOf g) 0)) (not (eqb (problemOver g c .refusal) 0)) (eqb (rowsView (shownIn g) .object) (2 ^ 64 - 1)) a b
   where
-    go : (p q x y z : Bool) → tableRefusal g ≤ 10 → problemOver g c .refusal ≤ 10
-        → cond p 3 (cond q 3 (cond x (tableRefusal g) (cond y (problemOver g c .refusal) (cond z 9 0)))) ≤ 10
+    go : (p q x y z : Bool) → stackRefusalOf g ≤ 10 → problemOver g c .refusal ≤ 10
+        → cond p 3 (cond q 3 (cond x (stackRefusalOf g) (cond y (problemOver g c .refusal) (cond z 9 0)))) ≤ 10
     go true q x y z a b = omega arith
     go false true x y z a b = omega arith
     go false false true y z a b = a
@@ -205,11 +227,11 @@ short-exactly c l = (
 -- ---- THE REFUSAL
 
 -- what a solve counts as its refusal is what its run stops with
-solve-refusal : (g : Given) (c : Columns) → countsOf (solve (rowsWorld (rowsIn g)) (plainProblem c)) .refusal ≡ runRefusal (runIn g c)
+solve-refusal : (g : Given) (c : Columns) → countsOf (solve (rowsWorld (shownIn g)) (plainProblem c)) .refusal ≡ runRefusal (runIn g c)
 unfolding solve countsOf plainProblem
 solve-refusal g c = go (runIn g c)
   where
-    go : (f : Finish) → countsOf (solution (rowsWorld (rowsIn g)) (c .variables) f) .refusal ≡ runRefusal f
+    go : (f : Finish) → countsOf (solution (rowsWorld (shownIn g)) (c .variables) f) .refusal ≡ runRefusal f
     go (Stopped k) = refl
     go (Ended t q n) = refl
 
@@ -222,7 +244,7 @@ run-numbers : (g : Given) (c : Columns) → (runRefusal (runIn g c) ≡ 0) ⊎ (
 run-numbers g c = go (runIn g c) refl
   where
     go : (f : Finish) → runIn g c ≡ f → (runRefusal f ≡ 0) ⊎ ((runRefusal f ≡ 20) ⊎ (runRefusal f ≡ 21))
-    go (Stopped k) e = inr (propagate-stops (rowsWorld (rowsIn g)) (linksOf (plainProblem c)) (c .components) (tableOf (plainProblem c)) k e)
+    go (Stopped k) e = inr (propagate-stops (rowsWorld (shownIn g)) (linksOf (plainProblem c)) (c .components) (tableOf (plainProblem c)) k e)
     go (Ended t q n) e = inl refl
 
 -- the number that it stops with is not 0
@@ -352,9 +374,9 @@ pub record Solvable (g : Given) (c : Columns) (l : Lent) : Type 0 where
   pub long : Short c l → ⊥
   pub aligned : Aligned g
   pub placed : Placed g
-  pub rows : InDomain (rowsIn g)
+  pub rows : LayersInDomain (rowsIn g)
   pub equal : Equal c
-  pub allowed : Allowed (length (rowsIn g .names)) c
+  pub allowed : Allowed (length (shownIn g .names)) c
 
 even-back : (c : Columns) → Equal c → evenProblem c ≡ true
 unfolding evenProblem
@@ -382,22 +404,22 @@ domain-exactly g c l w = (
   λ h.
       let o = opened g c l h in
       let al = even-exactly g .0 (o .columns) in
-      let t = table-exactly g al .0 (table-refusal g ∙ o .table-taken) in
+      let t = stack-exactly g al .0 (stack-refused g ∙ o .table-taken) in
       record {
         long = λ q. false≢true (sym (o .long) ∙ short-exactly c l .1 q);
         aligned = al;
         placed = t .0;
-        rows = record { limits = t .1; object-named = object-there (rowsIn g) (t .1 .few-names) .0 (o .object-there) };
+        rows = record { limits = t .1; object-named = shown-object g (t .1 .few-names) .0 (o .object-there) };
         equal = equal-lengths c (o .rows);
-        allowed = taken-allowed (length (rowsIn g .names)) c w (o .problem-taken);
+        allowed = taken-allowed (length (shownIn g .names)) c w (o .problem-taken);
       },
   λ d. rw (
     long-enough c l (d .long),
     even-exactly g .1 (d .aligned),
     even-back c (d .equal),
-    sym (table-refusal g) ∙ table-exactly g (d .aligned) .1 (d .placed, d .rows .limits),
-    allowed-taken (length (rowsIn g .names)) c (d .allowed),
-    ne-eqb (rowsView (rowsIn g) .object) (2 ^ 64 - 1) (object-there (rowsIn g) (d .rows .limits .few-names) .1 (d .rows .object-named)),
+    sym (stack-refused g) ∙ stack-exactly g (d .aligned) .1 (d .placed, d .rows .limits),
+    allowed-taken (length (shownIn g .names)) c (d .allowed),
+    ne-eqb (rowsView (shownIn g) .object) (2 ^ 64 - 1) (shown-object g (d .rows .limits .few-names) .1 (d .rows .object-named)),
   ),
 )
 

@@ -4,7 +4,7 @@ use mathlib.Core.Path.{_≡_, refl, sym, ap, _∙_, subst}
 use mathlib.Core.Bool.{Bool, true, false, cond, true≢false}
 use mathlib.Core.List.{List, [], _∷_, List·Memᴰ, List·Memᴰ·head, List·Memᴰ·tail, List·Memᴰ·not-nil, List·Memᴰ·cases-cons}
 use mathlib.Core.Logic.{_↔_, ⊎-elim}
-use Prim.Native.Nat.{ℕ, zero, suc, _+_, _≤_, _<_}
+use Prim.Native.Nat.{ℕ, zero, suc, _+_, _-_, _^_, _≤_, _<_}
 use native.Mathlib.Omega.{arith}
 use lib.Dec.{eqb, leb}
 use lib.ListN.{length, take, drop, getD, length-take, length-drop}
@@ -12,7 +12,7 @@ use borrow.Author.Tests.{eqb-true, eqb-false, lt-leb}
 use Rattle.order.specs.Compare.{compareLists}
 use Rattle.order.specs.declared.Order.the-variants.{Less}
 use Rattle.rows.specs.declared.Outcome.{Outcome}
-use Rattle.rows.specs.Rows.{noTables, State, recordRefusal, putAll}
+use Rattle.rows.specs.Rows.{objectName, noTables, State, recordRefusal, putAll}
 use Rattle.columns.specs.Columns.{inside, nameRows}
 use Rattle.columns.specs.Laws.{names-good}
 use Rattle.columns.specs.Names.{names-counted}
@@ -22,12 +22,12 @@ use Rattle.layers.specs.Stacks.{Stack, StackRan, ground, topKeys, stackRefusal,
 use Rattle.layers.specs.StackLaws.{upright-ground, upright-row, refusal-top}
 use Rattle.layercolumns.specs.LayerColumns.{openFlags, openingRow, placedRow, stackRows, stackTable}
 use Rattle.layercolumns.specs.Laws.{row-opens, row-records, opening-good}
-use Rattle.tableview.specs.TableRows.{Record, Rows, namesOf, recordsOf}
+use Rattle.tableview.specs.TableRows.{Record, Rows, rowsView, namesOf, recordsOf, rowsIn}
 use Rattle.tableview.specs.RowRefusals.{different}
 use Rattle.tableview.specs.Canonical.{joined}
 use Rattle.tableview.specs.Agrees.{names-length}
-use Rattle.tableview.specs.Domain.{GoodName, GoodRow, pairsOf, Aligned, Placed, inside-plain, row, record-exactly, keysFrom, from-longer, pairs-counted, NamesFit, names-exactly}
-use Rattle.stackview.specs.LayerRows.{opensLayer}
+use Rattle.tableview.specs.Domain.{GoodName, GoodRow, pairsOf, Aligned, Placed, inside-plain, row, record-exactly, keysFrom, from-longer, pairs-counted, NamesFit, names-exactly, object-there}
+use Rattle.stackview.specs.LayerRows.{opensLayer, shownTable, shownIn}
 use Rattle.stackview.specs.LayerViews.{lowestLayer, layersAbove, open-lowest, open-layers, record-lowest, record-layers}
 use Rattle.stackview.specs.Taken.{taken-inside, opened-plain, opened-taken, recording, taken-upright}
 use Rattle.stackview.specs.Refused.{top-now, top-none, numbers-kept}
@@ -46,8 +46,13 @@ pub record LayersInLimits (t : Rows) : Type 0 where
   pub few-layers : length (layersAbove (t .records)) ≤ 3
   pub few-pairs : (layer : List Record) → List·Memᴰ layer (lowestLayer (t .records) ∷ layersAbove (t .records)) → different (pairsOf layer) ≤ 4096
 
+-- THE DOMAIN: and java/lang/Object among the names
+pub record LayersInDomain (t : Rows) : Type 0 where
+  pub limits : LayersInLimits t
+  pub object-named : List·Memᴰ objectName (t .names)
+
 -- the rows that columns hold, those that open a layer among them
-abbrev pub givenRows : Given → Rows
+abbrev givenRows : Given → Rows
 givenRows g = record { names = namesOf (g .names) (g .«name_at») (g .«name_len»); records = recordsOf (g .parents) (g .«rec_flags») (g .«rec_class») (g .«rec_at») (g .«rec_len») }
 
 -- ---- the columns of the records
@@ -331,9 +336,8 @@ module _ (g : Given) (aligned : Aligned g) where
       subst (λ (k : List ℕ). StackFit (start .tables .names) 0 k (g .parents) (g .«rec_flags») (g .«rec_class») (g .«rec_at») (g .«rec_len»)) no-keys
       (stack-fit (g .parents) (g .«rec_flags») (g .«rec_class») (g .«rec_at») (g .«rec_len») (ground start) upright (aligned .classes-as) (aligned .starts-as) (aligned .sizes-as) (both-taken .0 z .1))
 
-  -- A TABLE OF LAYERS IS TAKEN EXACTLY IF EACH ROW LIES INSIDE ITS SLICE AND THE ROWS ARE WITHIN THE LIMITS
-  pub stack-exactly : (stackIn g .refusal ≡ 0) ↔ (Placed g × LayersInLimits (givenRows g))
-  stack-exactly = (to, from)
+  given-exactly : (stackIn g .refusal ≡ 0) ↔ (Placed g × LayersInLimits (givenRows g))
+  given-exactly = (to, from)
     where
       good-rows : (z : stackIn g .refusal ≡ 0) (r : Record) → List·Memᴰ r (givenRows g .records) → opensLayer r ≡ false → GoodRow (length (givenRows g .names)) r
       good-rows z r m o = subst (λ (k : ℕ). GoodRow k r) (many-names (both-taken .0 z .0)) (all-fit z .good r m o)
@@ -383,3 +387,13 @@ module _ (g : Given) (aligned : Aligned g) where
                   rooms = λ layer m. room layer (List·Memᴰ·tail m);
                 })),
           )
+
+  -- A TABLE OF LAYERS IS TAKEN EXACTLY IF EACH ROW LIES INSIDE ITS SLICE AND THE ROWS ARE WITHIN THE LIMITS
+  pub stack-exactly : (stackIn g .refusal ≡ 0) ↔ (Placed g × LayersInLimits (rowsIn g))
+  unfolding rowsIn
+  stack-exactly = given-exactly
+
+-- OBJECT'S NUMBER IS NOT ALL ONES EXACTLY IF ITS NAME IS THERE
+pub shown-object : (g : Given) → length (rowsIn g .names) ≤ 1024 → (rowsView (shownIn g) .object ≡ 2 ^ 64 - 1 → ⊥) ↔ List·Memᴰ objectName (rowsIn g .names)
+unfolding shownIn
+shown-object g few = object-there (shownTable (rowsIn g)) few

@@ -18,17 +18,27 @@ use Rattle.tableview.specs.RowRefusals.{Pair, listed, rowChecks}
 unfoldable pub openChecks : ℕ → Bool → ℕ → ℕ → List Check
 openChecks under is-inside class len = check (not is-inside) 3 ∷ check (not (eqb class 0 && eqb len 0)) 3 ∷ check (leb 3 under) 8 ∷ []
 
--- row by row: a record after the pairs of those before it in its layer, as in a table of one; the first refusal ends
+-- what a row is refused with; `before`: the pairs of the rows before it in its layer
+unfoldable pub layerRowRefusal : ℕ → List ℕ → ℕ → List Pair → ℕ → ℕ → ℕ → ℕ → ℕ
+layerRowRefusal names parents under before f c a l =
+    cond (eqb f openFlags) (firstRefusal (openChecks under (inside (length parents) a l) c l))
+    (firstRefusal (rowChecks names (inside (length parents) a l) f c (take l (drop a parents)) before))
+
+-- what the next row finds: a layer that is opened has no pairs
+abbrev pub underAfter : ℕ → ℕ → ℕ
+underAfter f under = cond (eqb f openFlags) (under + 1) under
+
+abbrev pub pairsAfter : ℕ → ℕ → List ℕ → List Pair → List Pair
+pairsAfter f c ps before = cond (eqb f openFlags) [] (listed c ps ++ before)
+
+-- row by row; the first refusal ends
 unfoldable pub layersRefusal : ℕ → List ℕ → List ℕ → List ℕ → List ℕ → List ℕ → ℕ → List Pair → ℕ
 layersRefusal names parents [] cs ats ls under before = 0
 layersRefusal names parents (f ∷ fs) [] ats ls under before = 0
 layersRefusal names parents (f ∷ fs) (c ∷ cs) [] ls under before = 0
 layersRefusal names parents (f ∷ fs) (c ∷ cs) (a ∷ ats) [] under before = 0
 layersRefusal names parents (f ∷ fs) (c ∷ cs) (a ∷ ats) (l ∷ ls) under before =
-    let ps : List ℕ = take l (drop a parents) in
-    cond (eqb f openFlags)
-    (orElse (firstRefusal (openChecks under (inside (length parents) a l) c l)) (layersRefusal names parents fs cs ats ls (under + 1) []))
-    (orElse (firstRefusal (rowChecks names (inside (length parents) a l) f c ps before)) (layersRefusal names parents fs cs ats ls under (listed c ps ++ before)))
+    orElse (layerRowRefusal names parents under before f c a l) (layersRefusal names parents fs cs ats ls (underAfter f under) (pairsAfter f c (take l (drop a parents)) before))
 
 -- ---- THE REFUSAL OF A TABLE: the names', else the rows'
 

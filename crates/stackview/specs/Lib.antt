@@ -5,6 +5,7 @@ pub mod LayerViews
 pub mod LayerRefusals
 pub mod Refused
 pub mod Agrees
+pub mod Shown
 pub mod OneLayer
 pub mod Domain
 pub mod Canonical

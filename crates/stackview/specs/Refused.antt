@@ -1,5 +1,5 @@
 -- A TABLE OF LAYERS IS REFUSED AS ITS ROWS ARE.
-use mathlib.Core.Path.{_≡_, refl, sym, ap, _∙_, subst}
+use mathlib.Core.Path.{_≡_, refl, sym, ap, ap₂, _∙_, subst}
 use mathlib.Core.Bool.{Bool, true, false, cond, not, _&&_}
 use mathlib.Core.List.{List, [], _∷_, _++_}
 use Prim.Native.Nat.{ℕ, suc, _+_, _≤_, _<_}
@@ -28,7 +28,7 @@ use Rattle.tableview.specs.RowRefusals.{Pair, listed, rowChecks}
 use Rattle.tableview.specs.Taken.{elem-below}
 use Rattle.tableview.specs.Agrees.{member-elem}
 use Rattle.tableview.specs.Refused.{Holds, row-holds, row-refused, none-held, names-many}
-use Rattle.stackview.specs.LayerRefusals.{openChecks, layersRefusal, stackRefusalOf}
+use Rattle.stackview.specs.LayerRefusals.{openChecks, layerRowRefusal, underAfter, pairsAfter, layersRefusal, stackRefusalOf}
 use Rattle.stackview.specs.Taken.{opened-taken, recording, taken-upright}
 
 -- the keys of the topmost layer after a record
@@ -105,6 +105,56 @@ module _ (parents : List ℕ) (f c a l : ℕ) (s : Stack) where
           ∙ row-refused (s .top .shown .tables .names) (topKeys s) before few h c (take l (drop a parents)) f
       go false e = ap (λ (x : StackRan). x .refusal) (row-outside parents f c a l s e) ∙ sym outside
 
+-- ---- one row and the next
+
+module _ (parents : List ℕ) (f c a l : ℕ) (s : Stack) (before : List Pair) (g : Upright s) (h : Holds (topKeys s) before) where
+  abbrev one : StackRan
+  one = placedRow parents f c a l s
+
+  abbrev part : List ℕ
+  part = take l (drop a parents)
+
+  -- A ROW IS REFUSED AS IN THE WORDS OF ROWS
+  pub placed-refused : one .refusal ≡ layerRowRefusal (s .top .shown .tables .names) parents (s .under) before f c a l
+  unfolding layerRowRefusal
+  placed-refused = go (eqb f openFlags) refl
+    where
+      go : (o : Bool) → eqb f openFlags ≡ o
+          → one .refusal ≡ cond o (firstRefusal (openChecks (s .under) (inside (length parents) a l) c l)) (firstRefusal (rowChecks (s .top .shown .tables .names) (inside (length parents) a l) f c part before))
+      go true o = open-refused parents f c a l s o
+      go false o = record-refused parents f c a l s o before (g .few) h
+
+  -- what the next row finds
+  pub record GoesOn : Type 0 where
+    pub upright : Upright (one .state)
+    pub holds : Holds (topKeys (one .state)) (pairsAfter f c part before)
+    pub as-many : one .state .top .shown .tables .names ≡ s .top .shown .tables .names
+    pub under-is : one .state .under ≡ underAfter f (s .under)
+
+  pub goes-on : one .refusal ≡ 0 → GoesOn
+  goes-on z = go (eqb f openFlags) refl
+    where
+      go : (o : Bool) → eqb f openFlags ≡ o → GoesOn
+      go true o =
+          let is = opened-taken parents f c a l s z o .1 in
+          record {
+            upright = taken-upright parents f c a l s z g;
+            holds = rw o (subst (λ (x : Stack). Holds (topKeys x) []) (sym is) (subst (λ (k : List ℕ). Holds k []) (sym (top-none s)) none-held));
+            as-many = ap (λ (x : Stack). x .top .shown .tables .names) is;
+            under-is = rw o (ap (λ (x : Stack). x .under) is);
+          }
+      go false o =
+          let is = recording parents f c a l s z o in
+          let names = s .top .shown .tables .names in
+          let good = record-good names (topKeys s) f c part (sym (refusal-top s f c part) ∙ is .0) in
+          let held = row-holds names (topKeys s) before (g .few) h c part (λ p m. elem-below names p part (good .parents-in) (member-elem p part m)) in
+          record {
+            upright = taken-upright parents f c a l s z g;
+            holds = rw o (subst (λ (x : Stack). Holds (topKeys x) (listed c part ++ before)) (sym (is .1)) (subst (λ (k : List ℕ). Holds k (listed c part ++ before)) (sym (top-now s g f c part (is .0))) held));
+            as-many = ap (λ (x : Stack). x .top .shown .tables .names) (is .1) ∙ numbers-kept s f c part (is .0) g (λ (n u : ℕ). n);
+            under-is = rw o (ap (λ (x : Stack). x .under) (is .1) ∙ numbers-kept s f c part (is .0) g (λ (n u : ℕ). u));
+          }
+
 -- ---- all rows
 
 pub rows-refused : (parents fs cs ats ls : List ℕ) (s : Stack) (before : List Pair) → Upright s → Holds (topKeys s) before
@@ -114,48 +164,35 @@ rows-refused parents [] cs ats ls s before g h = refl
 rows-refused parents (f ∷ fs) [] ats ls s before g h = refl
 rows-refused parents (f ∷ fs) (c ∷ cs) [] ls s before g h = refl
 rows-refused parents (f ∷ fs) (c ∷ cs) (a ∷ ats) [] s before g h = refl
-rows-refused parents (f ∷ fs) (c ∷ cs) (a ∷ ats) (l ∷ ls) s before g h = go (eqb f openFlags) refl (rows-refused parents fs cs ats ls (one .state))
+rows-refused parents (f ∷ fs) (c ∷ cs) (a ∷ ats) (l ∷ ls) s before g h =
+    go (eqb (placedRow parents f c a l s .refusal) 0) refl (rows-refused parents fs cs ats ls (placedRow parents f c a l s .state) after)
   where
-    names : ℕ
-    names = s .top .shown .tables .names
+    row : StackRan
+    row = placedRow parents f c a l s
 
-    one : StackRan
-    one = placedRow parents f c a l s
+    after : List Pair
+    after = pairsAfter f c (take l (drop a parents)) before
 
     rest : StackRan
-    rest = stackRows parents fs cs ats ls (one .state)
+    rest = stackRows parents fs cs ats ls (row .state)
 
-    part : List ℕ
-    part = take l (drop a parents)
+    first : ℕ
+    first = layerRowRefusal (s .top .shown .tables .names) parents (s .under) before f c a l
 
-    -- the first refusal, and what the rest is refused with where there is none
-    chain : (first : ℕ) (more : ℕ) → one .refusal ≡ first → (one .refusal ≡ 0 → rest .refusal ≡ more) → cond (eqb (one .refusal) 0) rest one .refusal ≡ orElse first more
-    chain first more e ih = by (eqb (one .refusal) 0) refl
-      where
-        by : (t : Bool) → eqb (one .refusal) 0 ≡ t → cond t rest one .refusal ≡ orElse first more
-        by true q = let z = eqb-true (one .refusal) 0 q in ih z ∙ sym (else-none first more (sym e ∙ z))
-        by false q = e ∙ sym (else-some first more (λ z. eqb-false (one .refusal) 0 q (e ∙ z)))
+    more : ℕ → ℕ → ℕ
+    more n u = layersRefusal n parents fs cs ats ls u after
 
-    go : (o : Bool) → eqb f openFlags ≡ o
-        → ((b : List Pair) → Upright (one .state) → Holds (topKeys (one .state)) b → rest .refusal ≡ layersRefusal (one .state .top .shown .tables .names) parents fs cs ats ls (one .state .under) b)
-        → cond (eqb (one .refusal) 0) rest one .refusal
-        ≡ cond o (orElse (firstRefusal (openChecks (s .under) (inside (length parents) a l) c l)) (layersRefusal names parents fs cs ats ls (s .under + 1) []))
-        (orElse (firstRefusal (rowChecks names (inside (length parents) a l) f c part before)) (layersRefusal names parents fs cs ats ls (s .under) (listed c part ++ before)))
-    go true o ih =
-        chain (firstRefusal (openChecks (s .under) (inside (length parents) a l) c l)) (layersRefusal names parents fs cs ats ls (s .under + 1) []) (open-refused parents f c a l s o)
-        (λ z. let is = opened-taken parents f c a l s z o .1 in
-        ih [] (taken-upright parents f c a l s z g) (subst (λ (x : Stack). Holds (topKeys x) []) (sym is) (subst (λ (k : List ℕ). Holds k []) (sym (top-none s)) none-held))
-        ∙ ap (λ (x : Stack). layersRefusal (x .top .shown .tables .names) parents fs cs ats ls (x .under) []) is)
-    go false o ih =
-        chain (firstRefusal (rowChecks names (inside (length parents) a l) f c part before)) (layersRefusal names parents fs cs ats ls (s .under) (listed c part ++ before)) (record-refused parents f c a l s o before (g .few) h)
-        (λ z. let is = recording parents f c a l s z o in
-        let taken = sym (refusal-top s f c part) ∙ is .0 in
-        let good = record-good names (topKeys s) f c part taken in
-        let held = row-holds names (topKeys s) before (g .few) h c part (λ p m. elem-below names p part (good .parents-in) (member-elem p part m)) in
-        ih (listed c part ++ before) (taken-upright parents f c a l s z g)
-        (subst (λ (x : Stack). Holds (topKeys x) (listed c part ++ before)) (sym (is .1)) (subst (λ (k : List ℕ). Holds k (listed c part ++ before)) (sym (top-now s g f c part (is .0))) held))
-        ∙ ap (λ (x : Stack). layersRefusal (x .top .shown .tables .names) parents fs cs ats ls (x .under) (listed c part ++ before)) (is .1)
-        ∙ numbers-kept s f c part (is .0) g (λ (n u : ℕ). layersRefusal n parents fs cs ats ls u (listed c part ++ before)))
+    is : row .refusal ≡ first
+    is = placed-refused parents f c a l s before g h
+
+    go : (b : Bool) → eqb (row .refusal) 0 ≡ b
+        → (Upright (row .state) → Holds (topKeys (row .state)) after → rest .refusal ≡ more (row .state .top .shown .tables .names) (row .state .under))
+        → cond b rest row .refusal ≡ orElse first (more (s .top .shown .tables .names) (underAfter f (s .under)))
+    go true q ih =
+        let z = eqb-true (row .refusal) 0 q in
+        let n = goes-on parents f c a l s before g h z in
+        ih (n .upright) (n .holds) ∙ ap₂ more (n .as-many) (n .under-is) ∙ sym (else-none first (more (s .top .shown .tables .names) (underAfter f (s .under))) (sym is ∙ z))
+    go false q ih = is ∙ sym (else-some first (more (s .top .shown .tables .names) (underAfter f (s .under))) (λ z. eqb-false (row .refusal) 0 q (is ∙ z)))
 
 -- ---- the table
 

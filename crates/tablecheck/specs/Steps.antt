@@ -14,17 +14,27 @@ use Rattle.names.specs.Names.{nameOf, checkName, checkRow, checkRows}
 use Rattle.view.specs.View.{View}
 use Rattle.tables.specs.declared.Tables.{Tables}
 use Rattle.rows.specs.declared.Outcome.{Outcome}
-use Rattle.rows.specs.Rows.{noTables, withName, nameRow, State, stateOf, Ran, Fills}
+use Rattle.rows.specs.Rows.{noTables, withName, nameRow, State, stateOf}
 use Rattle.rows.specs.Laws.{Sound, name-refused}
-use Rattle.columns.specs.Columns.{inside, placedName, nameRows, placedRecord, recordRows, tableOf, built}
-use Rattle.columns.specs.Laws.{name-inside, name-outside, name-placed, names-good, names-pairs, records-end, records-stop, records-step}
+use Rattle.columns.specs.Columns.{inside, placedName, nameRows}
+use Rattle.columns.specs.Laws.{name-inside, name-outside, name-placed, names-good, names-pairs}
 use Rattle.columns.specs.Names.{inside-length, row-agrees, row-adds, names-agree}
-use Rattle.columns.specs.Given.{Given, evenLengths, even, noMarks, table}
-use Rattle.tableview.specs.TableRows.{rowsView, rowsIn, namesOf}
-use Rattle.tableview.specs.RowRefusals.{Pair, listed, rowChecks, recordsRefusal, tableRefusal}
-use Rattle.tableview.specs.Inner.{viewIn}
-use Rattle.tableview.specs.Agrees.{view-rows}
-use Rattle.tableview.specs.Refused.{table-refusal, Holds, none-held, placed-refused, placed-holds}
+use Rattle.columns.specs.Given.{Given, evenLengths, even, noMarks}
+use Rattle.layers.specs.declared.StackTables.{StackTables}
+use Rattle.layers.specs.Layers.{layersRoom}
+use Rattle.layers.specs.Stacks as layers
+use Rattle.layers.specs.Stacks.{Stack, StackRan, ground, topKeys, Upright, stackOf}
+use Rattle.layers.specs.StackLaws.{upright-ground}
+use Rattle.layercolumns.specs.LayerColumns.{placedRow, stackRows, stackTable, lowestTables, Shows}
+use Rattle.layercolumns.specs.Laws.{stack-end, stack-step, stack-stop, holds-lowest}
+use Rattle.tableview.specs.TableRows.{rowsView, namesOf}
+use Rattle.tableview.specs.RowRefusals.{Pair}
+use Rattle.tableview.specs.Refused.{Holds, none-held}
+use Rattle.stackview.specs.LayerRows.{shownIn}
+use Rattle.stackview.specs.LayerRefusals.{underAfter, pairsAfter, stackRefusalOf}
+use Rattle.stackview.specs.Refused.{placed-refused, goes-on}
+use Rattle.stackview.specs.Agrees.{stackIn, stack-view}
+use Rattle.stackview.specs.Shown.{stack-refused}
 use Rattle.tablecheck.specs.declared.TableCheck.{TableCheck}
 use Rattle.tablecheck.specs.declared.Stop.{Stop}
 use Rattle.tablecheck.specs.TableCheck.{namesTaken, recordsTaken, namesRefused, nameStopped, namesMany, recordsRefused, recordStopped, told, rowsCheck, tableCheck}
@@ -35,27 +45,23 @@ zero-plus n = omega arith
 
 -- ---- the loop
 
--- before it: no key, whatever stands in the slice of pairs
-pub fresh-state : (pairs : List ℕ) (t : Tables) → t .pairs ≡ 0 → stateOf pairs noMarks t ≡ unrecorded t
-fresh-state pairs t z = rw z
-
-module _ (parents fs cs ats ls : List ℕ) (start : State) where
-  pub gone-start : (s : State) → s ≡ start → Gone parents fs cs ats ls start 0 s
+module _ (parents fs cs ats ls : List ℕ) (start : Stack) where
+  pub gone-start : (s : Stack) → s ≡ start → Gone parents fs cs ats ls start 0 s
   gone-start s e = rw e (record { refusal-is = refl; taken-is = sym (zero-plus (placedTaken parents fs cs ats ls start)) })
 
   -- the result and the row, each by itself
-  stop-is : (k i : ℕ) → k ≡ recordRows parents fs cs ats ls start .refusal → i ≡ placedTaken parents fs cs ats ls start → record { refusal = k; row = i } ≡ stopOf parents fs cs ats ls start
+  stop-is : (k i : ℕ) → k ≡ stackRows parents fs cs ats ls start .refusal → i ≡ placedTaken parents fs cs ats ls start → record { refusal = k; row = i } ≡ stopOf parents fs cs ats ls start
   stop-is k i p q j = record { refusal = p j; row = q j }
 
-  module _ (i : ℕ) (s : State) (g : Gone parents fs cs ats ls start i s) where
+  module _ (i : ℕ) (s : Stack) (g : Gone parents fs cs ats ls start i s) where
     pub gone-end : length fs ≤ i → record { refusal = 0; row = i } ≡ stopOf parents fs cs ats ls start
     unfolding placedTaken
-    gone-end h = stop-is 0 i (sym (g .refusal-is ∙ ap (λ (u : Ran). u .refusal) (records-end parents fs cs ats ls s i h))) (let n = g .taken-is in let z = taken-end in omega arith)
+    gone-end h = stop-is 0 i (sym (g .refusal-is ∙ ap (λ (u : StackRan). u .refusal) (stack-end parents fs cs ats ls s i h))) (let n = g .taken-is in let z = taken-end in omega arith)
       where
         taken-end : placedTaken parents (drop i fs) (drop i cs) (drop i ats) (drop i ls) s ≡ 0
         taken-end = rw (drop-of-length-le fs {i = i} h)
 
-    module _ (even : Equal fs cs ats ls) (h : i < length fs) (k : ℕ) (e : k ≡ placedRecord parents (getD fs i 0) (getD cs i 0) (getD ats i 0) (getD ls i 0) s .refusal) where
+    module _ (even : Equal fs cs ats ls) (h : i < length fs) (k : ℕ) (e : k ≡ placedRow parents (getD fs i 0) (getD cs i 0) (getD ats i 0) (getD ls i 0) s .refusal) where
       hc : i < length cs
       hc = omega (arith, h, even .0)
 
@@ -68,51 +74,60 @@ module _ (parents fs cs ats ls : List ℕ) (start : State) where
       pub gone-stop : (k ≡ 0 → ⊥) → record { refusal = k; row = i } ≡ stopOf parents fs cs ats ls start
       unfolding placedTaken
       gone-stop n =
-          stop-is k i (e ∙ sym (g .refusal-is ∙ ap (λ (u : Ran). u .refusal) (records-stop parents fs cs ats ls s i h hc ha hl k e n))) (let m = g .taken-is in let z = taken-stop in omega arith)
+          stop-is k i (e ∙ sym (g .refusal-is ∙ ap (λ (u : StackRan). u .refusal) (stack-stop parents fs cs ats ls s i h hc ha hl (λ z. n (e ∙ z))))) (let m = g .taken-is in let z = taken-stop in omega arith)
         where
           taken-stop : placedTaken parents (drop i fs) (drop i cs) (drop i ats) (drop i ls) s ≡ 0
           taken-stop = rw (drop-cons fs i 0 h, drop-cons cs i 0 hc, drop-cons ats i 0 ha, drop-cons ls i 0 hl, ← e, ne-eqb k 0 n)
 
-      pub gone-on : k ≡ 0 → (s′ : State) → s′ ≡ placedRecord parents (getD fs i 0) (getD cs i 0) (getD ats i 0) (getD ls i 0) s .state → Gone parents fs cs ats ls start (i + 1) s′
+      pub gone-on : k ≡ 0 → (s′ : Stack) → s′ ≡ placedRow parents (getD fs i 0) (getD cs i 0) (getD ats i 0) (getD ls i 0) s .state → Gone parents fs cs ats ls start (i + 1) s′
       unfolding placedTaken
       gone-on z s′ q =
           rw q (record {
-            refusal-is = g .refusal-is ∙ ap (λ (u : Ran). u .refusal) (records-step parents fs cs ats ls s i h hc ha hl k e z);
+            refusal-is = g .refusal-is ∙ ap (λ (u : StackRan). u .refusal) (stack-step parents fs cs ats ls s i h hc ha hl (sym e ∙ z));
             taken-is = let m = g .taken-is in let y = taken-step in omega arith;
           })
         where
           taken-step : placedTaken parents (drop i fs) (drop i cs) (drop i ats) (drop i ls) s
-              ≡ suc (placedTaken parents (drop (i + 1) fs) (drop (i + 1) cs) (drop (i + 1) ats) (drop (i + 1) ls) (placedRecord parents (getD fs i 0) (getD cs i 0) (getD ats i 0) (getD ls i 0) s .state))
+              ≡ suc (placedTaken parents (drop (i + 1) fs) (drop (i + 1) cs) (drop (i + 1) ats) (drop (i + 1) ls) (placedRow parents (getD fs i 0) (getD cs i 0) (getD ats i 0) (getD ls i 0) s .state))
           taken-step = rw (add-one, drop-cons fs i 0 h, drop-cons cs i 0 hc, drop-cons ats i 0 ha, drop-cons ls i 0 hl, ← e, z)
+
+-- before it: slices without a key
+pub fresh-holds : (pairs : List ℕ) (t : Tables) → length pairs ≡ layersRoom → Fresh t → (n : StackTables) → n ≡ lowestTables t
+    → layers.Holds pairs noMarks n × (stackOf pairs noMarks n ≡ ground (unrecorded t))
+fresh-holds pairs t l f n e =
+    let same : stateOf pairs noMarks t ≡ unrecorded t = ap (λ (k : ℕ). record { tables = t; keys = take k pairs; marks = noMarks }) (f .none) in (
+      subst (layers.Holds pairs noMarks) (sym e) (holds-lowest pairs noMarks t l (subst Sound (sym same) (f .sound))),
+      ap (λ (m : StackTables). stackOf pairs noMarks m) e ∙ ap ground same,
+    )
 
 -- ---- THE RECORDS STOP WHERE THE ROWS DO
 
-records-agree : (parents fs cs ats ls : List ℕ) (s : State) (before : List Pair) → Sound s → Holds (s .keys) before
-    → placedTaken parents fs cs ats ls s ≡ recordsTaken (s .tables .names) parents fs cs ats ls before
+records-agree : (parents fs cs ats ls : List ℕ) (s : Stack) (before : List Pair) → Upright s → Holds (topKeys s) before
+    → placedTaken parents fs cs ats ls s ≡ recordsTaken (s .top .shown .tables .names) parents fs cs ats ls (s .under) before
 unfolding placedTaken recordsTaken
 records-agree parents [] cs ats ls s before g h = refl
 records-agree parents (f ∷ fs) [] ats ls s before g h = refl
 records-agree parents (f ∷ fs) (c ∷ cs) [] ls s before g h = refl
 records-agree parents (f ∷ fs) (c ∷ cs) (a ∷ ats) [] s before g h = refl
 records-agree parents (f ∷ fs) (c ∷ cs) (a ∷ ats) (l ∷ ls) s before g h =
-    go (eqb (one .refusal) 0) refl (records-agree parents fs cs ats ls (one .state) (listed c part ++ before))
-    ∙ ap (λ (k : ℕ). cond (eqb k 0) (suc (more (s .tables .names))) 0) (placed-refused parents f c a l s before (g .few) h)
+    go (eqb (one .refusal) 0) refl (records-agree parents fs cs ats ls (one .state) after)
+    ∙ ap (λ (k : ℕ). cond (eqb k 0) (suc (more (s .top .shown .tables .names) (underAfter f (s .under)))) 0) (placed-refused parents f c a l s before g h)
   where
-    one : Ran
-    one = placedRecord parents f c a l s
+    one : StackRan
+    one = placedRow parents f c a l s
 
-    part : List ℕ
-    part = take l (drop a parents)
+    after : List Pair
+    after = pairsAfter f c (take l (drop a parents)) before
 
-    more : ℕ → ℕ
-    more n = recordsTaken n parents fs cs ats ls (listed c part ++ before)
+    more : ℕ → ℕ → ℕ
+    more n u = recordsTaken n parents fs cs ats ls u after
 
     go : (b : Bool) → eqb (one .refusal) 0 ≡ b
-        → (Sound (one .state) → Holds (one .state .keys) (listed c part ++ before) → placedTaken parents fs cs ats ls (one .state) ≡ more (one .state .tables .names))
-        → cond b (suc (placedTaken parents fs cs ats ls (one .state))) 0 ≡ cond b (suc (more (s .tables .names))) 0
+        → (Upright (one .state) → Holds (topKeys (one .state)) after → placedTaken parents fs cs ats ls (one .state) ≡ more (one .state .top .shown .tables .names) (one .state .under))
+        → cond b (suc (placedTaken parents fs cs ats ls (one .state))) 0 ≡ cond b (suc (more (s .top .shown .tables .names) (underAfter f (s .under)))) 0
     go true e ih =
-        let n = placed-holds parents f c a l s before g h (eqb-true (one .refusal) 0 e) in
-        ap suc (ih (n .sound) (n .holds) ∙ ap more (n .as-many))
+        let n = goes-on parents f c a l s before g h (eqb-true (one .refusal) 0 e) in
+        ap suc (ih (n .upright) (n .holds) ∙ ap₂ more (n .as-many) (n .under-is))
     go false e ih = refl
 
 -- ---- THE NAMES STOP WHERE THE ROWS DO
@@ -198,7 +213,7 @@ module _ (g : Given) where
       rw (← k, ← r, ne-eqb (o .refusal) 0 n)
 
   module _ (o : Outcome) (e : o ≡ nameRows (g .names) (g .«name_at») (g .«name_len») [] noTables) (z : o .refusal ≡ 0) (stop : Stop)
-      (w : stop ≡ stopOf (g .parents) (g .«rec_flags») (g .«rec_class») (g .«rec_at») (g .«rec_len») (unrecorded (o .tables))) where
+      (w : stop ≡ stopOf (g .parents) (g .«rec_flags») (g .«rec_class») (g .«rec_at») (g .«rec_len») (ground (unrecorded (o .tables)))) where
     names-none : namesRefused g ≡ 0
     unfolding named
     names-none = sym names-same ∙ ap (λ (u : Outcome). u .refusal) (sym e) ∙ z
@@ -209,40 +224,41 @@ module _ (g : Given) where
         ap (λ (u : Outcome). u .tables .names) e ∙ names-stop (g .names) (g .«name_at») (g .«name_len») [] noTables ∙ zero-plus (nameStopped g)
         ∙ names-all (g .names) (g .«name_at») (g .«name_len») [] 0 0 names-none
 
-    table-is : table g ≡ recordRows (g .parents) (g .«rec_flags») (g .«rec_class») (g .«rec_at») (g .«rec_len») (unrecorded (o .tables))
-    unfolding table tableOf
+    table-is : stackIn g ≡ stackRows (g .parents) (g .«rec_flags») (g .«rec_class») (g .«rec_at») (g .«rec_len») (ground (unrecorded (o .tables)))
+    unfolding stackIn stackTable
     table-is = rw (← e, z)
 
     refusal-same : stop .refusal ≡ recordsRefused g
-    unfolding tableRefusal
+    unfolding stackRefusalOf
     refusal-same =
-        ap (λ (u : Stop). u .refusal) w ∙ ap (λ (u : Ran). u .refusal) (sym table-is) ∙ table-refusal g ∙ else-none (namesRefused g) (recordsRefused g) names-none
+        ap (λ (u : Stop). u .refusal) w ∙ ap (λ (u : StackRan). u .refusal) (sym table-is) ∙ stack-refused g ∙ else-none (namesRefused g) (recordsRefused g) names-none
 
     row-same : stop .row ≡ recordStopped g
+    unfolding topKeys
     row-same =
         ap (λ (u : Stop). u .row) w
-        ∙ records-agree (g .parents) (g .«rec_flags») (g .«rec_class») (g .«rec_at») (g .«rec_len») (unrecorded (o .tables)) [] (subst (λ (u : Outcome). Sound (unrecorded (u .tables))) (sym e) (names-fresh .sound)) none-held
-        ∙ ap (λ (n : ℕ). recordsTaken n (g .parents) (g .«rec_flags») (g .«rec_class») (g .«rec_at») (g .«rec_len») []) many
+        ∙ records-agree (g .parents) (g .«rec_flags») (g .«rec_class») (g .«rec_at») (g .«rec_len») (ground (unrecorded (o .tables))) []
+        (upright-ground (unrecorded (o .tables)) (subst (λ (u : Outcome). Sound (unrecorded (u .tables))) (sym e) (names-fresh .sound))) none-held
+        ∙ ap (λ (n : ℕ). recordsTaken n (g .parents) (g .«rec_flags») (g .«rec_class») (g .«rec_at») (g .«rec_len») 0 []) many
 
     -- a record is refused
-    pub check-record : (table g .refusal ≡ 0 → ⊥) → told (stop .refusal) 2 (stop .row) ≡ rowsCheck g
+    pub check-record : (stackIn g .refusal ≡ 0 → ⊥) → told (stop .refusal) 2 (stop .row) ≡ rowsCheck g
     unfolding rowsCheck
     check-record n =
-        rw (names-none, ← refusal-same, ← row-same, ne-eqb (stop .refusal) 0 (λ y. n (ap (λ (u : Ran). u .refusal) table-is ∙ ap (λ (u : Stop). u .refusal) (sym w) ∙ y)))
+        rw (names-none, ← refusal-same, ← row-same, ne-eqb (stop .refusal) 0 (λ y. n (ap (λ (u : StackRan). u .refusal) table-is ∙ ap (λ (u : Stop). u .refusal) (sym w) ∙ y)))
 
   -- every row is taken
-  module _ (o : Outcome) (w : o ≡ cameTo (table g)) (z : o .refusal ≡ 0) where
-    taken : table g .refusal ≡ 0
+  module _ (o : Outcome) (w : o ≡ cameTo (stackIn g)) (z : o .refusal ≡ 0) where
+    taken : stackIn g .refusal ≡ 0
     taken = ap (λ (u : Outcome). u .refusal) (sym w) ∙ z
 
     none-refused : (namesRefused g ≡ 0) × (recordsRefused g ≡ 0)
-    unfolding tableRefusal
-    none-refused = else-zero (namesRefused g) (recordsRefused g) .0 (sym (table-refusal g) ∙ taken)
+    unfolding stackRefusalOf
+    none-refused = else-zero (namesRefused g) (recordsRefused g) .0 (sym (stack-refused g) ∙ taken)
 
     module _ (e : even g ≡ true) where
-      object-same : o .tables .object ≡ rowsView (rowsIn g) .object
-      unfolding viewIn
-      object-same = ap (λ (u : Outcome). u .tables .object) w ∙ ap (λ (v : View). v .object) (view-rows g e taken)
+      object-same : o .tables .object ≡ rowsView (shownIn g) .object
+      object-same = ap (λ (u : Outcome). u .tables .object) w ∙ ap (λ (v : View). v .object) (stack-view g e taken)
 
       -- but Object is not there
       pub check-object : o .tables .object ≡ 2 ^ 64 - 1 → told 9 3 0 ≡ rowsCheck g
@@ -253,11 +269,11 @@ module _ (g : Given) where
       unfolding rowsCheck
       check-none q = rw (none-refused .0, none-refused .1, ← object-same, ne-eqb (o .tables .object) (2 ^ 64 - 1) q)
 
-  -- what `build` leaves, from no mark
-  pub built-is : (o : Outcome) (pairs pairs′ marks′ : List ℕ)
-      → Fills (built (g .names) (g .«name_at») (g .«name_len») (g .«rec_flags») (g .«rec_class») (g .«rec_at») (g .«rec_len») (g .parents) noMarks) pairs pairs′ marks′ o → o ≡ cameTo (table g)
-  unfolding table
-  built-is o pairs pairs′ marks′ f = f .outcome-is
+  -- what is built from no mark
+  pub built-is : (o : Outcome) (pairs′ marks′ : List ℕ)
+      → Shows (stackTable (nameRows (g .names) (g .«name_at») (g .«name_len») [] noTables) (g .parents) (g .«rec_flags») (g .«rec_class») (g .«rec_at») (g .«rec_len») noMarks) pairs′ marks′ o → o ≡ cameTo (stackIn g)
+  unfolding stackIn
+  built-is o pairs′ marks′ f i = record { refusal = f .refusal-is i; tables = f .shown-is i .tables }
 
   pub equal-even : length (g .«name_at») ≡ length (g .«name_len») → Equal (g .«rec_flags») (g .«rec_class») (g .«rec_at») (g .«rec_len») → even g ≡ true
   unfolding even evenLengths

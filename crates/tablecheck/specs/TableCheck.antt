@@ -1,15 +1,15 @@
 -- Where a class table is refused, and with what, in the words of its rows: all that a caller must believe.
 use mathlib.Core.Bool.{cond, not}
-use mathlib.Core.List.{List, [], _∷_, _++_}
+use mathlib.Core.List.{List, [], _∷_}
 use Prim.Native.Nat.{ℕ, suc, _+_, _-_, _^_}
 use lib.Dec.{eqb}
 use lib.ListN.{length, take, drop}
-use Rattle.checks.specs.Checks.{firstRefusal}
 use Rattle.names.specs.Names.{nameOf, checkRow, checkRows}
-use Rattle.columns.specs.Columns.{inside}
 use Rattle.columns.specs.Given.{Given, even}
-use Rattle.tableview.specs.TableRows.{namesOf, rowsView, rowsIn}
-use Rattle.tableview.specs.RowRefusals.{Pair, listed, rowChecks, recordsRefusal}
+use Rattle.tableview.specs.TableRows.{namesOf, rowsView}
+use Rattle.tableview.specs.RowRefusals.{Pair}
+use Rattle.stackview.specs.LayerRows.{shownIn}
+use Rattle.stackview.specs.LayerRefusals.{layerRowRefusal, underAfter, pairsAfter, layersRefusal}
 use Rattle.tablecheck.specs.declared.TableCheck.{TableCheck}
 
 -- ---- how many rows are taken before the first that is refused: its number; all, where none is
@@ -21,15 +21,16 @@ namesTaken bytes (at ∷ ats) [] last count total = 0
 namesTaken bytes (at ∷ ats) (len ∷ lens) last count total =
     cond (eqb (checkRow bytes at len last count total) 0) (suc (namesTaken bytes ats lens (nameOf bytes at len) (suc count) (total + len))) 0
 
--- as `recordsRefusal` goes through them
-unfoldable pub recordsTaken : ℕ → List ℕ → List ℕ → List ℕ → List ℕ → List ℕ → List Pair → ℕ
-recordsTaken names parents [] cs ats ls before = 0
-recordsTaken names parents (f ∷ fs) [] ats ls before = 0
-recordsTaken names parents (f ∷ fs) (c ∷ cs) [] ls before = 0
-recordsTaken names parents (f ∷ fs) (c ∷ cs) (a ∷ ats) [] before = 0
-recordsTaken names parents (f ∷ fs) (c ∷ cs) (a ∷ ats) (l ∷ ls) before =
-    let ps : List ℕ = take l (drop a parents) in
-    cond (eqb (firstRefusal (rowChecks names (inside (length parents) a l) f c ps before)) 0) (suc (recordsTaken names parents fs cs ats ls (listed c ps ++ before))) 0
+-- as `layersRefusal` goes through them
+unfoldable pub recordsTaken : ℕ → List ℕ → List ℕ → List ℕ → List ℕ → List ℕ → ℕ → List Pair → ℕ
+recordsTaken names parents [] cs ats ls under before = 0
+recordsTaken names parents (f ∷ fs) [] ats ls under before = 0
+recordsTaken names parents (f ∷ fs) (c ∷ cs) [] ls under before = 0
+recordsTaken names parents (f ∷ fs) (c ∷ cs) (a ∷ ats) [] under before = 0
+recordsTaken names parents (f ∷ fs) (c ∷ cs) (a ∷ ats) (l ∷ ls) under before =
+    cond (eqb (layerRowRefusal names parents under before f c a l) 0)
+    (suc (recordsTaken names parents fs cs ats ls (underAfter f under) (pairsAfter f c (take l (drop a parents)) before)))
+    0
 
 -- ---- of the columns
 
@@ -43,10 +44,10 @@ abbrev pub namesMany : Given → ℕ
 namesMany g = length (namesOf (g .names) (g .«name_at») (g .«name_len»))
 
 abbrev pub recordsRefused : Given → ℕ
-recordsRefused g = recordsRefusal (namesMany g) (g .parents) (g .«rec_flags») (g .«rec_class») (g .«rec_at») (g .«rec_len») []
+recordsRefused g = layersRefusal (namesMany g) (g .parents) (g .«rec_flags») (g .«rec_class») (g .«rec_at») (g .«rec_len») 0 []
 
 abbrev pub recordStopped : Given → ℕ
-recordStopped g = recordsTaken (namesMany g) (g .parents) (g .«rec_flags») (g .«rec_class») (g .«rec_at») (g .«rec_len») []
+recordStopped g = recordsTaken (namesMany g) (g .parents) (g .«rec_flags») (g .«rec_class») (g .«rec_at») (g .«rec_len») 0 []
 
 -- ---- THE CHECK OF A TABLE
 
@@ -58,7 +59,7 @@ unfoldable pub rowsCheck : Given → TableCheck
 rowsCheck g =
     cond (not (eqb (namesRefused g) 0)) (told (namesRefused g) 1 (nameStopped g))
     (cond (not (eqb (recordsRefused g) 0)) (told (recordsRefused g) 2 (recordStopped g))
-    (cond (eqb (rowsView (rowsIn g) .object) (2 ^ 64 - 1)) (told 9 3 0) (told 0 0 0)))
+    (cond (eqb (rowsView (shownIn g) .object) (2 ^ 64 - 1)) (told 9 3 0) (told 0 0 0)))
 
 -- any columns: 0 of unequal length
 unfoldable pub tableCheck : Given → TableCheck

@@ -1,6 +1,10 @@
 // Where a class table is refused. It is built as a question builds it; where a row is refused, its rows are gone through once more for the first.
 use columns::build_names;
-use columns::record_row;
+use layercolumns::build_shown;
+use layercolumns::first_open;
+use layercolumns::lowest;
+use layercolumns::stack_row;
+use layers::SHOWN;
 use questions::is_even;
 use rows::Outcome;
 use tables::MARKS;
@@ -8,7 +12,10 @@ use tables::PAIRS;
 use tables::Tables;
 ghost use mathlib.Core.Path.{_≡_};
 ghost use lib.ListN.{length};
-ghost use Rattle.columns.specs.Given.{given, table};
+ghost use Rattle.columns.specs.Given.{given};
+ghost use Rattle.layers.specs.Stacks.{ground};
+ghost use Rattle.layercolumns.specs.LayerColumns.{firstOpen};
+ghost use Rattle.stackview.specs.Agrees.{stackIn};
 ghost use Rattle.tablecheck.specs.TableCheck.{rowsCheck, tableCheck};
 ghost use Rattle.tablecheck.specs.Inside.{stopOf, unrecorded, cameTo, Equal, Fresh};
 
@@ -36,14 +43,14 @@ fn check_records(
     t: Tables,
 ) -> Stop
     requires { ⌜ Equal (now «rec_flags») (now «rec_class») (now «rec_at») (now «rec_len») × Fresh t ⌝ }
-    ensures { λ r. ⌜ r ≡ stopOf (now (parents .entry)) (now («rec_flags» .entry)) (now («rec_class» .entry)) (now («rec_at» .entry)) (now («rec_len» .entry)) (unrecorded t) ⌝ }
+    ensures { λ r. ⌜ r ≡ stopOf (now (parents .entry)) (now («rec_flags» .entry)) (now («rec_class» .entry)) (now («rec_at» .entry)) (now («rec_len» .entry)) (ground (unrecorded t)) ⌝ }
 {
-    let mut pairs = [0u64; PAIRS];
+    let mut pairs = [0u64; SHOWN];
     let mut marks = [0u64; MARKS];
-    let mut u = t;
+    let mut u = lowest(t);
     let mut i: usize = 0;
     while i < rec_flags.len() {
-        let row = record_row(
+        let row = stack_row(
             rec_flags[i],
             rec_class[i],
             rec_at[i],
@@ -59,7 +66,7 @@ fn check_records(
                 row: i as u64,
             };
         }
-        u = row.tables;
+        u = row.stack;
         i += 1;
     }
     Stop {
@@ -68,7 +75,67 @@ fn check_records(
     }
 }
 
-// What columns of equal length come to, whatever the order of their records.
+// What columns of equal length come to, none of which opens a layer, whatever the order of their records.
+fn build_plain(
+    names: &[u8],
+    name_at: &[u64],
+    name_len: &[u64],
+    rec_flags: &[u64],
+    rec_class: &[u64],
+    rec_at: &[u64],
+    rec_len: &[u64],
+    parents: &[u64],
+) -> Outcome
+    requires { ⌜ (length (now «name_at») ≡ length (now «name_len»)) × Equal (now «rec_flags») (now «rec_class») (now «rec_at») (now «rec_len») × (firstOpen (now «rec_flags») ≡ length (now «rec_flags»)) ⌝ }
+    ensures { λ r. ⌜ r ≡ cameTo (stackIn (given (now (names .entry)) (now («name_at» .entry)) (now («name_len» .entry)) (now («rec_flags» .entry)) (now («rec_class» .entry)) (now («rec_at» .entry)) (now («rec_len» .entry)) (now (parents .entry)))) ⌝ }
+{
+    let mut pairs = [0u64; PAIRS];
+    let mut marks = [0u64; MARKS];
+    build_shown(
+        names,
+        name_at,
+        name_len,
+        rec_flags,
+        rec_class,
+        rec_at,
+        rec_len,
+        parents,
+        &mut pairs,
+        &mut marks,
+    )
+}
+
+// The same with room for four layers.
+fn build_layers(
+    names: &[u8],
+    name_at: &[u64],
+    name_len: &[u64],
+    rec_flags: &[u64],
+    rec_class: &[u64],
+    rec_at: &[u64],
+    rec_len: &[u64],
+    parents: &[u64],
+) -> Outcome
+    requires { ⌜ (length (now «name_at») ≡ length (now «name_len»)) × Equal (now «rec_flags») (now «rec_class») (now «rec_at») (now «rec_len») ⌝ }
+    ensures { λ r. ⌜ r ≡ cameTo (stackIn (given (now (names .entry)) (now («name_at» .entry)) (now («name_len» .entry)) (now («rec_flags» .entry)) (now («rec_class» .entry)) (now («rec_at» .entry)) (now («rec_len» .entry)) (now (parents .entry)))) ⌝ }
+{
+    let mut pairs = [0u64; SHOWN];
+    let mut marks = [0u64; MARKS];
+    build_shown(
+        names,
+        name_at,
+        name_len,
+        rec_flags,
+        rec_class,
+        rec_at,
+        rec_len,
+        parents,
+        &mut pairs,
+        &mut marks,
+    )
+}
+
+// With the room that is needed.
 fn build_rows(
     names: &[u8],
     name_at: &[u64],
@@ -80,11 +147,21 @@ fn build_rows(
     parents: &[u64],
 ) -> Outcome
     requires { ⌜ (length (now «name_at») ≡ length (now «name_len»)) × Equal (now «rec_flags») (now «rec_class») (now «rec_at») (now «rec_len») ⌝ }
-    ensures { λ r. ⌜ r ≡ cameTo (table (given (now (names .entry)) (now («name_at» .entry)) (now («name_len» .entry)) (now («rec_flags» .entry)) (now («rec_class» .entry)) (now («rec_at» .entry)) (now («rec_len» .entry)) (now (parents .entry)))) ⌝ }
+    ensures { λ r. ⌜ r ≡ cameTo (stackIn (given (now (names .entry)) (now («name_at» .entry)) (now («name_len» .entry)) (now («rec_flags» .entry)) (now («rec_class» .entry)) (now («rec_at» .entry)) (now («rec_len» .entry)) (now (parents .entry)))) ⌝ }
 {
-    let mut pairs = [0u64; PAIRS];
-    let mut marks = [0u64; MARKS];
-    columns::build(
+    if first_open(rec_flags) < rec_flags.len() {
+        return build_layers(
+            names,
+            name_at,
+            name_len,
+            rec_flags,
+            rec_class,
+            rec_at,
+            rec_len,
+            parents,
+        );
+    }
+    build_plain(
         names,
         name_at,
         name_len,
@@ -93,8 +170,6 @@ fn build_rows(
         rec_at,
         rec_len,
         parents,
-        &mut pairs,
-        &mut marks,
     )
 }
 
@@ -109,7 +184,7 @@ fn find_row(
     rec_len: &[u64],
     parents: &[u64],
 ) -> TableCheck
-    requires { ⌜ (length (now «name_at») ≡ length (now «name_len»)) × Equal (now «rec_flags») (now «rec_class») (now «rec_at») (now «rec_len») × (table (given (now names) (now «name_at») (now «name_len») (now «rec_flags») (now «rec_class») (now «rec_at») (now «rec_len») (now parents)) .refusal ≡ 0 → ⊥) ⌝ }
+    requires { ⌜ (length (now «name_at») ≡ length (now «name_len»)) × Equal (now «rec_flags») (now «rec_class») (now «rec_at») (now «rec_len») × (stackIn (given (now names) (now «name_at») (now «name_len») (now «rec_flags») (now «rec_class») (now «rec_at») (now «rec_len») (now parents)) .refusal ≡ 0 → ⊥) ⌝ }
     ensures { λ r. ⌜ r ≡ rowsCheck (given (now (names .entry)) (now («name_at» .entry)) (now («name_len» .entry)) (now («rec_flags» .entry)) (now («rec_class» .entry)) (now («rec_at» .entry)) (now («rec_len» .entry)) (now (parents .entry))) ⌝ }
 {
     let named = build_names(names, name_at, name_len);

@@ -1,8 +1,7 @@
 -- `ask_over` meets its contract: the refusal, or the answer over the table.
 use borrow.Author.Needs.{needs}
-use mathlib.Core.Path.{_∙_}
 use Rattle.columns.specs.Given.{Given, given}
-use Rattle.questions.specs.Laws.{asked-none, numbers-asked, asked-value}
+use Rattle.questions.specs.Laws.{no-rows, asked-none, numbers-asked, asked-value}
 use Rattle.questions.proofs.ask_over.Statement.{statement}
 use Rattle.questions.proofs.ask_over.Tie as tie
 
@@ -34,7 +33,7 @@ value-of-requires c κs =
     let g : Given = given (a .names .now) (a .name-at .now) (a .name-len .now) (a .rec-flags .now) (a .rec-class .now) (a .rec-at .now) (a .rec-len .now) (a .parents .now) in
     let z = c .before .before .if1 .left in
     let r = o .ensures .ready z in
-    (r .wide, r .fits, numbers-asked g (a .q) (s .of-types .result) (s .of-types .ensures) (a .a) (a .b) _ _ (o .result) (o .ensures) z, o .kept .1 .1 .1 .1 .1 .1 .1 .1 .1 .1 .1 .0 ∙ s .before .before .before .before .before .before .before .before .before .before .before .pre .0)
+    (r .wide, r .fits, numbers-asked g (a .q) (s .of-types .result) (s .of-types .ensures) (a .a) (a .b) _ _ (o .result) (o .ensures) z, no-rows _ _ (o .last .1 .1 .1 .1 .1 .1 .1 .1 .1 .1 .1 .0) (s .before .before .before .before .before .before .before .before .before .before .before .pre .0) (o .kept .1 .1 .1 .1 .1 .1 .1 .1 .1 .1 .1 .0))
 
 same-length-3 : tie.Need-same-length-3
 same-length-3 c = search needs

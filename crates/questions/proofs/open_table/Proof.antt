@@ -22,7 +22,7 @@ returns c =
     let a = c .before .before .before .before .before .before .before .before .before .before .before .before .before .before .before .before .before .before .args in
     let t = c .before .before .before .before .before .build-table in
     let k = c .with-checks in
-    opens (given (a .names .now) (a .name-at .now) (a .name-len .now) (a .rec-flags .now) (a .rec-class .now) (a .rec-at .now) (a .rec-len .now) (a .parents .now)) (a .types) (a .a) (a .b) (a .pairs .now) _ _ (t .result) (t .ensures) (k .result) (k .ensures .0) (k .ensures .1)
+    opens (given (a .names .now) (a .name-at .now) (a .name-len .now) (a .rec-flags .now) (a .rec-class .now) (a .rec-at .now) (a .rec-len .now) (a .parents .now)) (a .types) (a .a) (a .b) _ _ (t .result) (t .ensures) (k .result) (k .ensures .0) (k .ensures .1)
 
 pub open-table-spec : {M : Type 1} → statement M
 open-table-spec =

@@ -31,7 +31,7 @@ supertype-requires c κs =
     let s = c .before .before .before .before in
     let a = s .args in
     let p = are-classes (a .t .names) (a .a) (a .b) (ofTypes (a .q)) (ap ofTypes (c .enum-told3 .given .1)) (s .pre .2) in
-    (s .pre .1 .0, s .pre .1 .1, p .0, p .1, plain-prepared (a .pairs .now) (a .marks .now) (a .t) (s .pre .0) (λ e n. let r = s .pre .3 in omega arith))
+    (s .pre .1 .0, s .pre .1 .1, p .0, p .1, plain-prepared (a .pairs .now) (a .marks .now) (a .t) (s .pre .0) (λ e n. s .pre .3 e))
 
 enum-told-4 : tie.Need-enum-told-4
 enum-told-4 c = search needs
@@ -50,7 +50,7 @@ join-requires c κs =
     let s = c .before .before .before .before in
     let a = s .args in
     let p = are-types (a .t .names) (a .a) (a .b) (ofTypes (a .q)) (ap ofTypes (c .enum-told5 .given .1)) (s .pre .2) in
-    (s .pre .1, p .0, p .1, plain-prepared (a .pairs .now) (a .marks .now) (a .t) (s .pre .0) (λ e n. let r = s .pre .3 in omega arith))
+    (s .pre .1, p .0, p .1, plain-prepared (a .pairs .now) (a .marks .now) (a .t) (s .pre .0) (λ e n. s .pre .3 e))
 
 number-requires : tie.Need-number-requires
 number-requires c κs = search needs
@@ -64,7 +64,7 @@ is-assignable-requires c κs =
     let a = s .args in
     let p = are-types (a .t .names) (a .a) (a .b) (ofTypes (a .q)) (ap ofTypes (c .enum-told6 .given .1)) (s .pre .2) in
     let l = legal-words (a .t .names) (a .a) (a .b) (s .pre .1 .0) p in
-    (plain-prepared (a .pairs .now) (a .marks .now) (a .t) (s .pre .0) (λ e n. let r = s .pre .3 in omega arith), l .0, l .1)
+    (plain-prepared (a .pairs .now) (a .marks .now) (a .t) (s .pre .0) (λ e n. s .pre .3 e), l .0, l .1)
 
 flag-requires-2 : tie.Need-flag-requires-2
 flag-requires-2 c κs = search needs

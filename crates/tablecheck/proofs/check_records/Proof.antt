@@ -1,72 +1,61 @@
 -- `check_records` meets its contract: what is left are the records from i on, after the tables that the first i leave.
 use borrow.Author.Needs.{needs}
-use mathlib.Core.Path.{_≡_, refl, sym, ap, _∙_, subst}
+use mathlib.Core.Path.{_≡_, refl, sym, _∙_}
 use Prim.Native.Nat.{_-_, _≤_}
 use native.Mathlib.Omega.{arith}
 use lib.ListN.{length, getD}
-use Rattle.tables.specs.Table.{pairsRoom}
-use Rattle.rows.specs.declared.Outcome.{Outcome}
-use Rattle.rows.specs.Rows.{stateOf}
-use Rattle.rows.specs.Keys.{filled-same}
-use Rattle.rows.specs.Laws.{Sound}
-use Rattle.columns.specs.Laws.{turned}
-use Rattle.tablecheck.specs.Inside.{unrecorded, Equal, Gone}
-use Rattle.tablecheck.specs.Steps.{fresh-state, gone-start, gone-end, gone-stop, gone-on}
+use Rattle.layers.specs.Stacks.{ground, stackOf, Holds}
+use Rattle.tablecheck.specs.Inside.{unrecorded, Gone}
+use Rattle.tablecheck.specs.Steps.{fresh-holds, gone-start, gone-end, gone-stop, gone-on}
 use Rattle.tablecheck.proofs.check_records.Statement.{statement}
 use Rattle.tablecheck.proofs.check_records.Tie as tie
 
 abbrev Inv-loop : tie.InvT-loop
-Inv-loop flags classes starts sizes parents pairs₀ marks₀ u₀ i₀ pairs marks u i =
-    (i ≤ length flags) × (length pairs ≡ pairsRoom) × Sound (stateOf pairs marks u) × Gone parents flags classes starts sizes (unrecorded u₀) i (stateOf pairs marks u)
+Inv-loop flags classes starts sizes parents t pairs₀ marks₀ u₀ i₀ pairs marks u i =
+    (i ≤ length flags) × Holds pairs marks u × Gone parents flags classes starts sizes (ground (unrecorded t)) i (stackOf pairs marks u)
 
 abbrev μ-loop : tie.MeasureT-loop
-μ-loop flags classes starts sizes parents pairs₀ marks₀ u₀ i₀ pairs marks u i = length flags - i
+μ-loop flags classes starts sizes parents t pairs₀ marks₀ u₀ i₀ pairs marks u i = length flags - i
 
-loop-holds : tie.Need-loop-holds Inv-loop μ-loop
-loop-holds c =
-    let s = c .before .before .before .before .before in
-    let e = fresh-state _ (s .args .t) (s .pre .1 .none) in
-    (omega arith, refl, subst Sound (sym e) (s .pre .1 .sound), gone-start (s .args .parents .now) (s .args .rec-flags .now) (s .args .rec-class .now) (s .args .rec-at .now) (s .args .rec-len .now) (unrecorded (s .args .t)) _ e)
+mul-stack-row : tie.Need-mul-stack-row Inv-loop μ-loop
+mul-stack-row c = search needs
 
-mul-record-row : tie.Need-mul-record-row Inv-loop μ-loop
-mul-record-row c = search needs
+shared-slice-read-stack-row : tie.Need-shared-slice-read-stack-row Inv-loop μ-loop
+shared-slice-read-stack-row c = search needs
 
-shared-slice-read-record-row : tie.Need-shared-slice-read-record-row Inv-loop μ-loop
-shared-slice-read-record-row c = search needs
+mul-stack-row-2 : tie.Need-mul-stack-row-2 Inv-loop μ-loop
+mul-stack-row-2 c = search needs
 
-mul-record-row-2 : tie.Need-mul-record-row-2 Inv-loop μ-loop
-mul-record-row-2 c = search needs
+shared-slice-read-stack-row-2 : tie.Need-shared-slice-read-stack-row-2 Inv-loop μ-loop
+shared-slice-read-stack-row-2 c = search needs
 
-shared-slice-read-record-row-2 : tie.Need-shared-slice-read-record-row-2 Inv-loop μ-loop
-shared-slice-read-record-row-2 c = search needs
+mul-stack-row-3 : tie.Need-mul-stack-row-3 Inv-loop μ-loop
+mul-stack-row-3 c = search needs
 
-mul-record-row-3 : tie.Need-mul-record-row-3 Inv-loop μ-loop
-mul-record-row-3 c = search needs
+shared-slice-read-stack-row-3 : tie.Need-shared-slice-read-stack-row-3 Inv-loop μ-loop
+shared-slice-read-stack-row-3 c = search needs
 
-shared-slice-read-record-row-3 : tie.Need-shared-slice-read-record-row-3 Inv-loop μ-loop
-shared-slice-read-record-row-3 c = search needs
+mul-stack-row-4 : tie.Need-mul-stack-row-4 Inv-loop μ-loop
+mul-stack-row-4 c = search needs
 
-mul-record-row-4 : tie.Need-mul-record-row-4 Inv-loop μ-loop
-mul-record-row-4 c = search needs
+shared-slice-read-stack-row-4 : tie.Need-shared-slice-read-stack-row-4 Inv-loop μ-loop
+shared-slice-read-stack-row-4 c = search needs
 
-shared-slice-read-record-row-4 : tie.Need-shared-slice-read-record-row-4 Inv-loop μ-loop
-shared-slice-read-record-row-4 c = search needs
+slice-aggregate-stack-row : tie.Need-slice-aggregate-stack-row Inv-loop μ-loop
+slice-aggregate-stack-row c = search needs
 
-slice-aggregate-record-row : tie.Need-slice-aggregate-record-row Inv-loop μ-loop
-slice-aggregate-record-row c = search needs
+slice-aggregate-stack-row-2 : tie.Need-slice-aggregate-stack-row-2 Inv-loop μ-loop
+slice-aggregate-stack-row-2 c = search needs
 
-slice-aggregate-record-row-2 : tie.Need-slice-aggregate-record-row-2 Inv-loop μ-loop
-slice-aggregate-record-row-2 c = search needs
-
-record-row-requires : tie.Need-record-row-requires Inv-loop μ-loop
-record-row-requires c κs = (c .before .before .before .before .before .before .before .loop .inv .2, c .before .before .before .before .before .before .before .loop .inv .1)
+stack-row-requires : tie.Need-stack-row-requires Inv-loop μ-loop
+stack-row-requires c κs = (c .before .before .before .before .before .before .before .loop .inv .2, c .before .before .before .before .before .before .before .loop .inv .1)
 
 returns : tie.Need-returns Inv-loop μ-loop
 returns c =
     let s = c .before .before .before .before .before .before .before .before .before .before .before .before .before .before .before .before .before .before in
     let a = s .args in
     let l = c .before .before .before .before .before .before .before .before .before .before .before .before .loop in
-    let row = c .before .before .before .before .record-row in
+    let row = c .before .before .before .before .stack-row in
     gone-stop (a .parents .now) (a .rec-flags .now) (a .rec-class .now) (a .rec-at .now) (a .rec-len .now) (unrecorded (a .t)) (l .i) (stateOf (l .pairs) (l .marks) (l .u)) (l .inv .3) (s .pre .0) (c .before .before .before .before .before .before .before .before .before .before .before .loop-test .taken) (row .result .refusal) (ap (λ (o : Outcome). o .refusal) (row .ensures .outcome-is)) (c .if1 .taken)
 
 add-i : tie.Need-add-i Inv-loop μ-loop
@@ -81,7 +70,7 @@ loop-again c =
     let a = s .args in
     let l = c .before .before .before .before .before .before .before .before .before .before .before .before .before .loop in
     let h = c .before .before .before .before .before .before .before .before .before .before .before .before .loop-test .taken in
-    let row = c .before .before .before .before .before .record-row in
+    let row = c .before .before .before .before .before .stack-row in
     let i = l .i in
     let front = sym (filled-same (l .u .pairs) (l .pairs) (omega (arith, l .inv .2 .counted, l .inv .2 .room, l .inv .1))) in
     let turn = turned (a .parents .now) (getD (a .rec-flags .now) i 0) (getD (a .rec-class .now) i 0) (getD (a .rec-at .now) i 0) (getD (a .rec-len .now) i 0) (l .pairs) (l .pairs) (l .marks) (l .u) _ _ (row .result) (l .inv .2) (l .inv .1) front (row .ensures) in (
@@ -105,17 +94,17 @@ check-records-spec =
     Inv-loop
     μ-loop
     loop-holds
-    mul-record-row
-    shared-slice-read-record-row
-    mul-record-row-2
-    shared-slice-read-record-row-2
-    mul-record-row-3
-    shared-slice-read-record-row-3
-    mul-record-row-4
-    shared-slice-read-record-row-4
-    slice-aggregate-record-row
-    slice-aggregate-record-row-2
-    record-row-requires
+    mul-stack-row
+    shared-slice-read-stack-row
+    mul-stack-row-2
+    shared-slice-read-stack-row-2
+    mul-stack-row-3
+    shared-slice-read-stack-row-3
+    mul-stack-row-4
+    shared-slice-read-stack-row-4
+    slice-aggregate-stack-row
+    slice-aggregate-stack-row-2
+    stack-row-requires
     returns
     add-i
     loop-less
