@@ -1,26 +1,31 @@
 -- ROWS AS MESSAGES: a list of messages in order of kind, taken one after the other until one is refused, comes to what the columns of
--- the same rows come to: the same refusal, the same tables, the same problem.
+-- the same rows come to: the same refusal, the same layers, the same problem.
 use mathlib.Core.Path.{_≡_, refl, sym, ap, ap₂, _∙_, subst}
 use mathlib.Core.Bool.{Bool, true, false, cond, not, _&&_, _||_}
 use mathlib.Core.List.{List, [], _∷_, _++_}
-use Prim.Native.Nat.{ℕ, zero, _≤_, _<_}
+use Prim.Native.Nat.{ℕ, _+_, _≤_, _<_}
 use native.Mathlib.Omega.{arith}
-use lib.Dec.{eqb}
+use lib.Dec.{eqb, leb}
 use lib.ListN.{length, take, drop}
 use borrow.Author.Tests.{eq-eqb, ne-eqb, le-ltb, eqb-true, eqb-false}
 use Rattle.checks.specs.Checks as checks
 use Rattle.checks.specs.Checks.{check}
 use Rattle.names.specs.Names.{checkName, nameOf}
 use Rattle.rows.specs.declared.Outcome.{Outcome}
-use Rattle.rows.specs.Rows.{noTables, nameRow, State, recordRefusal, recordRow, Ran}
+use Rattle.rows.specs.Rows.{nameRow, State, recordRefusal, recordRow}
 use Rattle.rows.specs.Laws.{name-refused, record-refused}
-use Rattle.columns.specs.Columns.{inside, nameRows, tableOf}
-use Rattle.columns.specs.Fold.{Row, misplaced, named, recorded, Reading, step, run, namesIn, recordsIn, ran, start, table-fold}
-use Rattle.columns.specs.Given as columns
+use Rattle.columns.specs.Columns.{inside}
+use Rattle.columns.specs.Fold.{Row, misplaced, named, recorded, namesIn, recordsIn}
 use Rattle.columns.specs.Given.{Given, noMarks}
+use Rattle.layers.specs.Layers.{Layered, layerRefusal, layerRow, opened}
+use Rattle.layers.specs.Laws.{layer-refused}
+use Rattle.layers.specs.Stacks.{Stack, StackRan, stackRefusal, stackRow, stackRan, openRefusal, openRow, openRan}
+use Rattle.layercolumns.specs.LayerColumns.{openFlags, openingRow}
+use Rattle.layercolumns.specs.Fold.{StackReading, told, withNames, recordedRan, stackStep, stackRun, stackStart, stack-fold}
+use Rattle.stackview.specs.Agrees.{stackIn}
 use Rattle.solving.specs.Solving.{Problem}
 use Rattle.problems.specs.Problems.{ProblemRow, counted, variable, bounded, flow, upperFlow, reading, writing, noProblem, withRow, rowRefusal, problemRow, problemRows, Placed, Columns, variableRows, boundRows, pairRows, problemIn, problem}
-use Rattle.frames.specs.Frames.{Store, emptyStore, rankOf, badOrder, Message, naming, recording, row, solving, asking, Relating, Supertyping, Casting, messageRefusal, withMessage}
+use Rattle.frames.specs.Frames.{Store, emptyStore, shown, rankOf, badOrder, Message, naming, recording, opening, row, solving, asking, Relating, Supertyping, Casting, messageRefusal, withMessage}
 use Rattle.framelaws.specs.Reached.{order-says}
 
 -- ---- a message's kind
@@ -37,6 +42,7 @@ rowKind (writing a b) = 9
 unfoldable pub messageKind : Message → ℕ
 messageKind (naming n) = 1
 messageKind (recording f c ps) = 2
+messageKind opening = 14
 messageKind (row r) = rowKind r
 messageKind solving = 10
 messageKind (asking Relating a b) = 11
@@ -74,6 +80,7 @@ rank-after : (k : ℕ) (m : Message) (s : Store) → withMessage k m s .rank ≡
 unfolding withMessage
 rank-after k (naming n) s = refl
 rank-after k (recording f c ps) s = refl
+rank-after k opening s = refl
 rank-after k (row r) s = refl
 rank-after k solving s = refl
 rank-after k (asking q a b) s = refl
@@ -117,28 +124,29 @@ pub in-order-lower : (r q : ℕ) (ms : List Message) → r ≤ q → InOrder q m
 in-order-lower r q [] l o = tt
 in-order-lower r q (m ∷ ms) l o = (order-lower (messageKind m) r q l (o .0), o .1)
 
-abbrev AllKind : ℕ → List Message → Type 0
-AllKind i [] = Unit {0}
-AllKind i (m ∷ ms) = (messageKind m ≡ i) × AllKind i ms
+abbrev AllRanked : ℕ → List Message → Type 0
+AllRanked i [] = Unit {0}
+AllRanked i (m ∷ ms) = (rankOf (messageKind m) ≡ i) × AllRanked i ms
 
-own-order : (i r : ℕ) → (i ≡ 3 → ⊥) → r ≤ rankOf i → badOrder i r ≡ false
+own-order : (k r : ℕ) → (rankOf k ≡ 3 → ⊥) → r ≤ rankOf k → badOrder k r ≡ false
 unfolding badOrder
-own-order i r n l = ap₂ (λ (a b : Bool). a || b) (le-ltb (rankOf i) r l) (ap (λ (a : Bool). a && eqb r 3) (ne-eqb i 3 n))
+own-order k r n l = ap₂ (λ (a b : Bool). a || b) (le-ltb (rankOf k) r l) (ap (λ (a : Bool). a && eqb r 3) (ne-eqb k 3 (λ e. n (ap rankOf e))))
 
--- a block of one kind, but 03, before what may follow it
-block : (i : ℕ) (ms rest : List Message) (r : ℕ) → (i ≡ 3 → ⊥) → AllKind i ms → r ≤ rankOf i → InOrder (rankOf i) rest → InOrder r (ms ++ rest)
-block i [] rest r n a l o = in-order-lower r (rankOf i) rest l o
+-- a block of one rank, but 03, before what may follow it
+block : (i : ℕ) (ms rest : List Message) (r : ℕ) → (i ≡ 3 → ⊥) → AllRanked i ms → r ≤ i → InOrder i rest → InOrder r (ms ++ rest)
+block i [] rest r n a l o = in-order-lower r i rest l o
 block i (m ∷ ms) rest r n a l o = (
-  subst (λ (k : ℕ). badOrder k r ≡ false) (sym (a .0)) (own-order i r n l),
-  subst (λ (k : ℕ). InOrder (rankOf k) (ms ++ rest)) (sym (a .0)) (block i ms rest (rankOf i) n (a .1) (omega arith) o),
+  own-order (messageKind m) r (λ e. n (sym (a .0) ∙ e)) (let k = a .0 in omega arith),
+  subst (λ (k : ℕ). InOrder k (ms ++ rest)) (sym (a .0)) (block i ms rest i n (a .1) (omega arith) o),
 )
 
 -- ---- the messages of columns
 
+-- a row with flags 0x8e opens a layer
 abbrev pub messageFor : Row → Message
 messageFor misplaced = naming []
 messageFor (named n) = naming n
-messageFor (recorded f c ps) = recording f c ps
+messageFor (recorded f c ps) = cond (eqb f openFlags) opening (recording f c ps)
 
 unfoldable pub messagesFor : List Row → List Message
 messagesFor [] = []
@@ -156,91 +164,146 @@ tableMessages g = messagesFor (namesIn (g .names) (g .«name_at») (g .«name_le
 unfoldable pub allMessages : Given → Columns → List Message
 allMessages g c = tableMessages g ++ rowMessages (problemIn c)
 
--- each row lies inside its slice
+-- a row that opens a layer is of class 0 and lists nothing: no frame can say it otherwise
+abbrev pub Bare : ℕ → ℕ → List ℕ → Type 0
+Bare f c ps = f ≡ openFlags → (c ≡ 0) × (ps ≡ [])
+
+-- each row lies inside its slice, and a frame can say it
 abbrev pub Whole : List Row → Type 0
 Whole [] = Unit {0}
 Whole (misplaced ∷ xs) = ⊥
 Whole (named n ∷ xs) = Whole xs
-Whole (recorded f c ps ∷ xs) = Whole xs
+Whole (recorded f c ps ∷ xs) = Bare f c ps × Whole xs
 
 abbrev pub Placed-in : Given → Type 0
 Placed-in g = Whole (namesIn (g .names) (g .«name_at») (g .«name_len») ++ recordsIn (g .parents) (g .«rec_flags») (g .«rec_class») (g .«rec_at») (g .«rec_len»))
 
+-- ---- a row of flags, class and parents
+
+row-opens : (f c : ℕ) (ps : List ℕ) (s : Stack) → Bare f c ps → eqb f openFlags ≡ true → recordedRan f c ps s ≡ openRan s
+unfolding recordedRan openingRow
+row-opens f c ps s w e = let k = w (eqb-true f openFlags e) in rw (e, k .0, k .1)
+
+pub row-records : (f c : ℕ) (ps : List ℕ) (s : Stack) → eqb f openFlags ≡ false → recordedRan f c ps s ≡ stackRan s f c ps
+unfolding recordedRan
+row-records f c ps s e = rw e
+
+-- a refused one leaves the layers
+open-refused : (s : Stack) → (openRefusal s ≡ 0 → ⊥) → openRow s ≡ s
+unfolding openRefusal openRow
+open-refused s n = go (leb 3 (s .under)) n
+  where
+    go : (b : Bool) → (cond {A = ℕ} b 8 0 ≡ 0 → ⊥) → cond b s (record { top = opened (s .top .shown); under = s .under + 1 }) ≡ s
+    go true k = refl
+    go false k = absurd (k refl)
+
+stack-refused : (s : Stack) (f c : ℕ) (ps : List ℕ) → (stackRefusal s f c ps ≡ 0 → ⊥) → stackRow s f c ps ≡ s
+unfolding stackRefusal stackRow
+stack-refused s f c ps n = go (eqb (s .under) 0) n
+  where
+    go : (b : Bool) → (cond b (recordRefusal (s .top .shown .tables .names) (s .top .shown .keys) f c ps) (layerRefusal (s .top) f c ps) ≡ 0 → ⊥)
+        → cond b (record { top = record { shown = recordRow (s .top .shown) f c ps; own = s .top .own }; under = s .under }) (record { top = layerRow (s .top) f c ps; under = s .under }) ≡ s
+    go true k = ap (λ (u : State). record { top = record { shown = u; own = s .top .own }; under = s .under }) (record-refused (s .top .shown) f c ps k)
+    go false k = ap (λ (l : Layered). record { top = l; under = s .under }) (layer-refused (s .top) f c ps k)
+
+row-refused : (f c : ℕ) (ps : List ℕ) (s : Stack) → Bare f c ps → (recordedRan f c ps s .refusal ≡ 0 → ⊥) → recordedRan f c ps s .state ≡ s
+row-refused f c ps s w n = go (eqb f openFlags) refl
+  where
+    go : (b : Bool) → eqb f openFlags ≡ b → recordedRan f c ps s .state ≡ s
+    go true e =
+        let k = row-opens f c ps s w e in
+        ap (λ (u : StackRan). u .state) k ∙ open-refused s (λ z. n (ap (λ (u : StackRan). u .refusal) k ∙ z))
+    go false e =
+        let k = row-records f c ps s e in
+        ap (λ (u : StackRan). u .state) k ∙ stack-refused s f c ps (λ z. n (ap (λ (u : StackRan). u .refusal) k ∙ z))
+
 -- ---- one row of a table
 
--- the state and the last name are those of a reading
-pub record Shows (s : Store) (r : Reading) : Type 0 where
+-- the layers and the last name are those of a reading
+pub record Shows (s : Store) (r : StackReading) : Type 0 where
   pub last-is : s .last ≡ r .last
   pub classes-are : s .classes ≡ r .state
 
-module _ (s : Store) (r : Reading) (h : Shows s r) where
-  refusal-same : (x : Row) → Whole (x ∷ []) → messageRefusal (messageFor x) s ≡ step x r .refusal
-  unfolding messageRefusal step
+module _ (s : Store) (r : StackReading) (h : Shows s r) where
+  refusal-same : (x : Row) → Whole (x ∷ []) → messageRefusal (messageFor x) s ≡ stackStep x r .refusal
+  unfolding messageRefusal stackStep
   refusal-same misplaced w = absurd w
-  refusal-same (named n) w = ap₂ (λ (l : List ℕ) (u : State). nameRow l n (u .tables) .refusal) (h .last-is) (h .classes-are)
-  refusal-same (recorded f c ps) w = ap (λ (u : State). recordRefusal (u .tables .names) (u .keys) f c ps) (h .classes-are)
+  refusal-same (named n) w = ap₂ (λ (l : List ℕ) (u : Stack). nameRow l n (u .top .shown .tables) .refusal) (h .last-is) (h .classes-are)
+  refusal-same (recorded f c ps) w = go (eqb f openFlags) refl
+    where
+      go : (b : Bool) → eqb f openFlags ≡ b → messageRefusal (cond b opening (recording f c ps)) s ≡ recordedRan f c ps (r .state) .refusal
+      go true e = ap openRefusal (h .classes-are) ∙ sym (ap (λ (u : StackRan). u .refusal) (row-opens f c ps (r .state) (w .0) e))
+      go false e = ap (λ (u : Stack). stackRefusal u f c ps) (h .classes-are) ∙ sym (ap (λ (u : StackRan). u .refusal) (row-records f c ps (r .state) e))
 
-  taken-shows : (x : Row) → Whole (x ∷ []) → (k : ℕ) → step x r .refusal ≡ 0 → Shows (withMessage k (messageFor x) s) (step x r)
-  unfolding withMessage step
+  taken-shows : (x : Row) → Whole (x ∷ []) → (k : ℕ) → stackStep x r .refusal ≡ 0 → Shows (withMessage k (messageFor x) s) (stackStep x r)
+  unfolding withMessage stackStep
   taken-shows misplaced w k z = absurd w
   taken-shows (named n) w k z = record {
-    last-is = sym (ap (λ (b : Bool). cond b n (r .last)) (eq-eqb (nameRow (r .last) n (r .state .tables) .refusal) 0 z));
-    classes-are = ap₂ (λ (l : List ℕ) (u : State). record { tables = nameRow l n (u .tables) .tables; keys = u .keys; marks = u .marks }) (h .last-is) (h .classes-are);
+    last-is = sym (ap (λ (b : Bool). cond b n (r .last)) (eq-eqb (nameRow (r .last) n (r .state .top .shown .tables) .refusal) 0 z));
+    classes-are = ap₂ (λ (l : List ℕ) (u : Stack). withNames u (nameRow l n (u .top .shown .tables) .tables)) (h .last-is) (h .classes-are);
   }
-  taken-shows (recorded f c ps) w k z = record { last-is = h .last-is; classes-are = ap (λ (u : State). recordRow u f c ps) (h .classes-are) }
+  taken-shows (recorded f c ps) w k z = go (eqb f openFlags) refl
+    where
+      go : (b : Bool) → eqb f openFlags ≡ b → Shows (withMessage k (cond b opening (recording f c ps)) s) (stackStep (recorded f c ps) r)
+      go true e = record { last-is = h .last-is; classes-are = ap openRow (h .classes-are) ∙ sym (ap (λ (u : StackRan). u .state) (row-opens f c ps (r .state) (w .0) e)) }
+      go false e = record { last-is = h .last-is; classes-are = ap (λ (u : Stack). stackRow u f c ps) (h .classes-are) ∙ sym (ap (λ (u : StackRan). u .state) (row-records f c ps (r .state) e)) }
 
   problem-stays : (x : Row) (k : ℕ) → withMessage k (messageFor x) s .problem ≡ s .problem
   unfolding withMessage
   problem-stays misplaced k = refl
   problem-stays (named n) k = refl
-  problem-stays (recorded f c ps) k = refl
+  problem-stays (recorded f c ps) k = go (eqb f openFlags)
+    where
+      go : (b : Bool) → withMessage k (cond b opening (recording f c ps)) s .problem ≡ s .problem
+      go true = refl
+      go false = refl
 
-  -- a refused row leaves the state
-  refused-state : (x : Row) → Whole (x ∷ []) → (step x r .refusal ≡ 0 → ⊥) → step x r .state ≡ r .state
-  unfolding step nameRow
+  -- a refused row leaves the layers
+  refused-state : (x : Row) → Whole (x ∷ []) → (stackStep x r .refusal ≡ 0 → ⊥) → stackStep x r .state ≡ r .state
+  unfolding stackStep nameRow
   refused-state misplaced w n = absurd w
   refused-state (named name) w n =
-      let e = name-refused (r .last) name (r .state .tables) (nameRow (r .last) name (r .state .tables) .refusal) refusal-is n in
-      ap (λ (o : Outcome). record { tables = o .tables; keys = r .state .keys; marks = r .state .marks }) e
+      let e = name-refused (r .last) name (r .state .top .shown .tables) (nameRow (r .last) name (r .state .top .shown .tables) .refusal) refusal-is n in
+      ap (λ (o : Outcome). withNames (r .state) (o .tables)) e
     where
-      refusal-is : nameRow (r .last) name (r .state .tables) .refusal ≡ checkName (r .last) name (r .state .tables .names) (r .state .tables .bytes)
+      refusal-is : nameRow (r .last) name (r .state .top .shown .tables) .refusal ≡ checkName (r .last) name (r .state .top .shown .tables .names) (r .state .top .shown .tables .bytes)
       refusal-is = refl
-  refused-state (recorded f c ps) w n = record-refused (r .state) f c ps n
+  refused-state (recorded f c ps) w n = row-refused f c ps (r .state) (w .0) n
 
 whole-one : (x : Row) (xs : List Row) → Whole (x ∷ xs) → Whole (x ∷ []) × Whole xs
 whole-one misplaced xs w = absurd w
 whole-one (named n) xs w = (tt, w)
-whole-one (recorded f c ps) xs w = (tt, w)
+whole-one (recorded f c ps) xs w = ((w .0, tt), w .1)
 
 -- ---- all rows of a table
 
-pub record Came (e : Ended) (r : Reading) (p : Problem) : Type 0 where
+pub record Came (e : Ended) (r : StackReading) (p : Problem) : Type 0 where
   pub refusal-is : e .refusal ≡ r .refusal
   pub classes-are : e .store .classes ≡ r .state
   pub problem-is : e .store .problem ≡ p
 
-pub table-came : (xs : List Row) (r : Reading) (s : Store) → Whole xs → r .refusal ≡ 0 → Shows s r → Came (takeAll (messagesFor xs) s) (run xs r) (s .problem)
-unfolding takeAll messagesFor run
+pub table-came : (xs : List Row) (r : StackReading) (s : Store) → Whole xs → r .refusal ≡ 0 → Shows s r → Came (takeAll (messagesFor xs) s) (stackRun xs r) (s .problem)
+unfolding takeAll messagesFor stackRun
 table-came [] r s w z h = record { refusal-is = sym z; classes-are = h .classes-are; problem-is = refl }
-table-came (x ∷ xs) r s w z h = go (eqb (messageRefusal (messageFor x) s) 0) refl (λ k. table-came xs (step x r) (taking (messageFor x) s) (parts .1) k)
+table-came (x ∷ xs) r s w z h = go (eqb (messageRefusal (messageFor x) s) 0) refl (λ k. table-came xs (stackStep x r) (taking (messageFor x) s) (parts .1) k)
   where
     parts : Whole (x ∷ []) × Whole xs
     parts = whole-one x xs w
 
-    same : messageRefusal (messageFor x) s ≡ step x r .refusal
+    same : messageRefusal (messageFor x) s ≡ stackStep x r .refusal
     same = refusal-same s r h x (parts .0)
 
     go : (b : Bool) → eqb (messageRefusal (messageFor x) s) 0 ≡ b
-        → ((step x r .refusal ≡ 0) → Shows (taking (messageFor x) s) (step x r) → Came (takeAll (messagesFor xs) (taking (messageFor x) s)) (run xs (step x r)) (taking (messageFor x) s .problem))
+        → ((stackStep x r .refusal ≡ 0) → Shows (taking (messageFor x) s) (stackStep x r) → Came (takeAll (messagesFor xs) (taking (messageFor x) s)) (stackRun xs (stackStep x r)) (taking (messageFor x) s .problem))
         → Came (cond b (takeAll (messagesFor xs) (taking (messageFor x) s)) (record { refusal = messageRefusal (messageFor x) s; store = s }))
-        (cond (eqb (step x r .refusal) 0) (run xs (step x r)) (step x r)) (s .problem)
+        (cond (eqb (stackStep x r .refusal) 0) (stackRun xs (stackStep x r)) (stackStep x r)) (s .problem)
     go true e ih =
         let zero = sym same ∙ eqb-true (messageRefusal (messageFor x) s) 0 e in
-        rw (eq-eqb (step x r .refusal) 0 zero) (subst (Came (takeAll (messagesFor xs) (taking (messageFor x) s)) (run xs (step x r))) (problem-stays s r h x (rankOf (messageKind (messageFor x))))
+        rw (eq-eqb (stackStep x r .refusal) 0 zero) (subst (Came (takeAll (messagesFor xs) (taking (messageFor x) s)) (stackRun xs (stackStep x r))) (problem-stays s r h x (rankOf (messageKind (messageFor x))))
         (ih zero (taken-shows s r h x (parts .0) (rankOf (messageKind (messageFor x))) zero)))
     go false e ih =
-        let n : step x r .refusal ≡ 0 → ⊥ = λ q. eqb-false (messageRefusal (messageFor x) s) 0 e (same ∙ q) in
-        rw (ne-eqb (step x r .refusal) 0 n) (record {
+        let n : stackStep x r .refusal ≡ 0 → ⊥ = λ q. eqb-false (messageRefusal (messageFor x) s) 0 e (same ∙ q) in
+        rw (ne-eqb (stackStep x r .refusal) 0 n) (record {
           refusal-is = same;
           classes-are = h .classes-are ∙ sym (refused-state s r h x (parts .0) n);
           problem-is = refl;
@@ -248,23 +311,23 @@ table-came (x ∷ xs) r s w z h = go (eqb (messageRefusal (messageFor x) s) 0) r
 
 -- ---- the rows of a problem
 
-pub record Solvable (e : Ended) (o : Placed) (u : State) : Type 0 where
+pub record Solvable (e : Ended) (o : Placed) (u : Stack) : Type 0 where
   pub refusal-is : e .refusal ≡ o .refusal
   pub problem-is : e .store .problem ≡ o .problem
   pub classes-are : e .store .classes ≡ u
 
-pub problem-came : (rs : List ProblemRow) (s : Store) → Solvable (takeAll (rowMessages rs) s) (problemRows (s .classes .tables .names) rs (s .problem)) (s .classes)
+pub problem-came : (rs : List ProblemRow) (s : Store) → Solvable (takeAll (rowMessages rs) s) (problemRows (shown s .tables .names) rs (s .problem)) (s .classes)
 unfolding takeAll rowMessages problemRows problemRow messageRefusal withMessage
 problem-came [] s = record { refusal-is = refl; problem-is = refl; classes-are = refl }
-problem-came (r ∷ rs) s = go (eqb (rowRefusal (s .classes .tables .names) r (s .problem)) 0) refl (problem-came rs (taking (row r) s))
+problem-came (r ∷ rs) s = go (eqb (rowRefusal (shown s .tables .names) r (s .problem)) 0) refl (problem-came rs (taking (row r) s))
   where
     names : ℕ
-    names = s .classes .tables .names
+    names = shown s .tables .names
 
-    go : (b : Bool) → eqb (rowRefusal (s .classes .tables .names) r (s .problem)) 0 ≡ b
-        → Solvable (takeAll (rowMessages rs) (taking (row r) s)) (problemRows (s .classes .tables .names) rs (problemRow (s .classes .tables .names) r (s .problem) .problem)) (s .classes)
-        → Solvable (cond b (takeAll (rowMessages rs) (taking (row r) s)) (record { refusal = rowRefusal (s .classes .tables .names) r (s .problem); store = s }))
-        (cond b (problemRows (s .classes .tables .names) rs (problemRow (s .classes .tables .names) r (s .problem) .problem)) (problemRow (s .classes .tables .names) r (s .problem))) (s .classes)
+    go : (b : Bool) → eqb (rowRefusal (shown s .tables .names) r (s .problem)) 0 ≡ b
+        → Solvable (takeAll (rowMessages rs) (taking (row r) s)) (problemRows (shown s .tables .names) rs (problemRow (shown s .tables .names) r (s .problem) .problem)) (s .classes)
+        → Solvable (cond b (takeAll (rowMessages rs) (taking (row r) s)) (record { refusal = rowRefusal (shown s .tables .names) r (s .problem); store = s }))
+        (cond b (problemRows (shown s .tables .names) rs (problemRow (shown s .tables .names) r (s .problem) .problem)) (problemRow (shown s .tables .names) r (s .problem))) (s .classes)
     go true e ih = ih
     go false e ih = record { refusal-is = refl; problem-is = sym (ap (λ (b : Bool). cond b (withRow r (s .problem)) (s .problem)) e); classes-are = refl }
 
@@ -304,19 +367,19 @@ whole-right : (xs ys : List Row) → Whole (xs ++ ys) → Whole ys
 whole-right [] ys w = w
 whole-right (misplaced ∷ xs) ys w = absurd w
 whole-right (named n ∷ xs) ys w = whole-right xs ys w
-whole-right (recorded f c ps ∷ xs) ys w = whole-right xs ys w
+whole-right (recorded f c ps ∷ xs) ys w = whole-right xs ys (w .1)
 
-names-kind : (bytes ats lens : List ℕ) → AllKind 1 (messagesFor (namesIn bytes ats lens))
+names-kind : (bytes ats lens : List ℕ) → AllRanked 1 (messagesFor (namesIn bytes ats lens))
 unfolding messagesFor namesIn messageKind
 names-kind bytes [] lens = tt
 names-kind bytes (at ∷ ats) [] = tt
 names-kind bytes (at ∷ ats) (len ∷ lens) = (go (inside (length bytes) at len), names-kind bytes ats lens)
   where
-    go : (b : Bool) → messageKind (messageFor (cond b (named (nameOf bytes at len)) misplaced)) ≡ 1
+    go : (b : Bool) → rankOf (messageKind (messageFor (cond b (named (nameOf bytes at len)) misplaced))) ≡ 1
     go true = refl
     go false = refl
 
-records-kind : (parents fs cs ats ls : List ℕ) → Whole (recordsIn parents fs cs ats ls) → AllKind 2 (messagesFor (recordsIn parents fs cs ats ls))
+records-kind : (parents fs cs ats ls : List ℕ) → Whole (recordsIn parents fs cs ats ls) → AllRanked 2 (messagesFor (recordsIn parents fs cs ats ls))
 unfolding messagesFor recordsIn messageKind
 records-kind parents [] cs ats ls w = tt
 records-kind parents (f ∷ fs) [] ats ls w = tt
@@ -325,24 +388,28 @@ records-kind parents (f ∷ fs) (c ∷ cs) (a ∷ ats) [] w = tt
 records-kind parents (f ∷ fs) (c ∷ cs) (a ∷ ats) (l ∷ ls) w = go (inside (length parents) a l) w (records-kind parents fs cs ats ls)
   where
     go : (b : Bool) → Whole (cond b (recorded f c (take l (drop a parents))) misplaced ∷ recordsIn parents fs cs ats ls)
-        → (Whole (recordsIn parents fs cs ats ls) → AllKind 2 (messagesFor (recordsIn parents fs cs ats ls)))
-        → (messageKind (messageFor (cond b (recorded f c (take l (drop a parents))) misplaced)) ≡ 2) × AllKind 2 (messagesFor (recordsIn parents fs cs ats ls))
-    go true v ih = (refl, ih v)
+        → (Whole (recordsIn parents fs cs ats ls) → AllRanked 2 (messagesFor (recordsIn parents fs cs ats ls)))
+        → (rankOf (messageKind (messageFor (cond b (recorded f c (take l (drop a parents))) misplaced))) ≡ 2) × AllRanked 2 (messagesFor (recordsIn parents fs cs ats ls))
+    go true v ih = (two (eqb f openFlags), ih (v .1))
+      where
+        two : (d : Bool) → rankOf (messageKind (cond d opening (recording f c (take l (drop a parents))))) ≡ 2
+        two true = refl
+        two false = refl
     go false v ih = absurd v
 
-variables-kind : (cs : List ℕ) → AllKind 4 (rowMessages (variableRows cs))
+variables-kind : (cs : List ℕ) → AllRanked 4 (rowMessages (variableRows cs))
 unfolding rowMessages variableRows messageKind rowKind
 variables-kind [] = tt
 variables-kind (c ∷ cs) = (refl, variables-kind cs)
 
-bounds-kind : (cs ks ws : List ℕ) → AllKind 5 (rowMessages (boundRows cs ks ws))
+bounds-kind : (cs ks ws : List ℕ) → AllRanked 5 (rowMessages (boundRows cs ks ws))
 unfolding rowMessages boundRows messageKind rowKind
 bounds-kind [] ks ws = tt
 bounds-kind (c ∷ cs) [] ws = tt
 bounds-kind (c ∷ cs) (k ∷ ks) [] = tt
 bounds-kind (c ∷ cs) (k ∷ ks) (w ∷ ws) = (refl, bounds-kind cs ks ws)
 
-pairs-kind : (i : ℕ) (make : ℕ → ℕ → ProblemRow) → ((a b : ℕ) → messageKind (row (make a b)) ≡ i) → (xs ys : List ℕ) → AllKind i (rowMessages (pairRows make xs ys))
+pairs-kind : (i : ℕ) (make : ℕ → ℕ → ProblemRow) → ((a b : ℕ) → rankOf (messageKind (row (make a b))) ≡ i) → (xs ys : List ℕ) → AllRanked i (rowMessages (pairRows make xs ys))
 unfolding rowMessages pairRows
 pairs-kind i make e [] ys = tt
 pairs-kind i make e (x ∷ xs) [] = tt
@@ -415,7 +482,7 @@ table-order g rest w o =
     records : List Row
     records = recordsIn (g .parents) (g .«rec_flags») (g .«rec_class») (g .«rec_at») (g .«rec_len»)
 
-shows-start : Shows emptyStore (start noMarks)
+shows-start : Shows emptyStore (stackStart noMarks)
 unfolding emptyStore
 shows-start = record { last-is = refl; classes-are = refl }
 
@@ -427,41 +494,39 @@ empty-problem = refl
 
 -- what a table's messages come to is what its columns come to
 pub record TableCame (e : Ended) (g : Given) : Type 0 where
-  pub refusal-is : e .refusal ≡ columns.table g .refusal
-  pub classes-are : e .store .classes ≡ columns.table g .state
+  pub refusal-is : e .refusal ≡ stackIn g .refusal
+  pub classes-are : e .store .classes ≡ stackIn g .state
   pub problem-is : e .store .problem ≡ noProblem
 
 pub table-sent : (g : Given) → Placed-in g → TableCame (takeAll (tableMessages g) emptyStore) g
-unfolding tableMessages columns.table
+unfolding tableMessages stackIn
 table-sent g w =
-    let xs = namesIn (g .names) (g .«name_at») (g .«name_len») in
-    let ys = recordsIn (g .parents) (g .«rec_flags») (g .«rec_class») (g .«rec_at») (g .«rec_len») in
-    let came = table-came (xs ++ ys) (start noMarks) emptyStore w refl (empty-shows) in
-    let fold = table-fold (g .names) (g .«name_at») (g .«name_len») (g .parents) (g .«rec_flags») (g .«rec_class») (g .«rec_at») (g .«rec_len») noMarks in
-    subst (λ (ms : List Message). TableCame (takeAll ms emptyStore) g) (messages-append xs ys) (made came fold)
-  where
-    empty-shows : Shows emptyStore (start noMarks)
-    empty-shows = shows-start
-
-    made : Came (takeAll (messagesFor (namesIn (g .names) (g .«name_at») (g .«name_len») ++ recordsIn (g .parents) (g .«rec_flags») (g .«rec_class») (g .«rec_at») (g .«rec_len»))) emptyStore)
-        (run (namesIn (g .names) (g .«name_at») (g .«name_len») ++ recordsIn (g .parents) (g .«rec_flags») (g .«rec_class») (g .«rec_at») (g .«rec_len»)) (start noMarks)) (emptyStore .problem)
-        → tableOf (nameRows (g .names) (g .«name_at») (g .«name_len») [] noTables) (g .parents) (g .«rec_flags») (g .«rec_class») (g .«rec_at») (g .«rec_len») noMarks
-        ≡ ran (run (namesIn (g .names) (g .«name_at») (g .«name_len») ++ recordsIn (g .parents) (g .«rec_flags») (g .«rec_class») (g .«rec_at») (g .«rec_len»)) (start noMarks))
-        → TableCame (takeAll (messagesFor (namesIn (g .names) (g .«name_at») (g .«name_len») ++ recordsIn (g .parents) (g .«rec_flags») (g .«rec_class») (g .«rec_at») (g .«rec_len»))) emptyStore) g
-    made came fold = record {
-      refusal-is = came .refusal-is ∙ sym (ap (λ (u : Ran). u .refusal) fold);
-      classes-are = came .classes-are ∙ sym (ap (λ (u : Ran). u .state) fold);
+    subst (λ (ms : List Message). TableCame (takeAll ms emptyStore) g) (messages-append names records) (record {
+      refusal-is = came .refusal-is ∙ sym (ap (λ (u : StackRan). u .refusal) fold);
+      classes-are = came .classes-are ∙ sym (ap (λ (u : StackRan). u .state) fold);
       problem-is = came .problem-is ∙ empty-problem;
-    }
+    })
+  where
+    names : List Row
+    names = namesIn (g .names) (g .«name_at») (g .«name_len»)
+
+    records : List Row
+    records = recordsIn (g .parents) (g .«rec_flags») (g .«rec_class») (g .«rec_at») (g .«rec_len»)
+
+    came : Came (takeAll (messagesFor (names ++ records)) emptyStore) (stackRun (names ++ records) (stackStart noMarks)) (emptyStore .problem)
+    came = table-came (names ++ records) (stackStart noMarks) emptyStore w refl shows-start
+
+    fold : stackIn g ≡ told (stackRun (names ++ records) (stackStart noMarks))
+    fold = stack-fold (g .names) (g .«name_at») (g .«name_len») (g .parents) (g .«rec_flags») (g .«rec_class») (g .«rec_at») (g .«rec_len») noMarks
 
 -- ---- THE TABLE AND THE PROBLEM
 
 pub record AllCame (e : Ended) (g : Given) (c : Columns) : Type 0 where
   -- the refusal of the first row that is refused
-  pub refusal-is : e .refusal ≡ cond (eqb (columns.table g .refusal) 0) (problem (columns.table g .state .tables .names) c .refusal) (columns.table g .refusal)
+  pub refusal-is : e .refusal ≡ cond (eqb (stackIn g .refusal) 0) (problem (stackIn g .state .top .shown .tables .names) c .refusal) (stackIn g .refusal)
   -- and where the table is taken, the problem too
-  pub classes-are : columns.table g .refusal ≡ 0 → e .store .classes ≡ columns.table g .state
-  pub problem-is : columns.table g .refusal ≡ 0 → e .store .problem ≡ problem (columns.table g .state .tables .names) c .problem
+  pub classes-are : stackIn g .refusal ≡ 0 → e .store .classes ≡ stackIn g .state
+  pub problem-is : stackIn g .refusal ≡ 0 → e .store .problem ≡ problem (stackIn g .state .top .shown .tables .names) c .problem
 
 all-taken : (g : Given) (c : Columns) → Placed-in g → AllCame (takeAll (allMessages g c) emptyStore) g c
 unfolding allMessages problem
@@ -473,10 +538,10 @@ all-taken g c w = subst (λ (e : Ended). AllCame e g c) (sym (take-append (table
     came : TableCame first g
     came = table-sent g w
 
-    names-are : first .store .classes .tables .names ≡ columns.table g .state .tables .names
-    names-are = ap (λ (u : State). u .tables .names) (came .classes-are)
+    names-are : shown (first .store) .tables .names ≡ stackIn g .state .top .shown .tables .names
+    names-are = ap (λ (u : Stack). u .top .shown .tables .names) (came .classes-are)
 
-    rest : Solvable (takeAll (rowMessages (problemIn c)) (first .store)) (problemRows (columns.table g .state .tables .names) (problemIn c) noProblem) (first .store .classes)
+    rest : Solvable (takeAll (rowMessages (problemIn c)) (first .store)) (problemRows (stackIn g .state .top .shown .tables .names) (problemIn c) noProblem) (first .store .classes)
     rest =
         subst (λ (o : Placed). Solvable (takeAll (rowMessages (problemIn c)) (first .store)) o (first .store .classes))
         (ap₂ (λ (n : ℕ) (p : Problem). problemRows n (problemIn c) p) names-are (came .problem-is)) (problem-came (problemIn c) (first .store))
@@ -485,14 +550,14 @@ all-taken g c w = subst (λ (e : Ended). AllCame e g c) (sym (take-append (table
     go true e =
         let z = sym (came .refusal-is) ∙ eqb-true (first .refusal) 0 e in
         record {
-          refusal-is = rest .refusal-is ∙ sym (ap (λ (b : Bool). cond b (problemRows (columns.table g .state .tables .names) (problemIn c) noProblem .refusal) (columns.table g .refusal)) (eq-eqb (columns.table g .refusal) 0 z));
+          refusal-is = rest .refusal-is ∙ sym (ap (λ (b : Bool). cond b (problemRows (stackIn g .state .top .shown .tables .names) (problemIn c) noProblem .refusal) (stackIn g .refusal)) (eq-eqb (stackIn g .refusal) 0 z));
           classes-are = λ q. rest .classes-are ∙ came .classes-are;
           problem-is = λ q. rest .problem-is;
         }
     go false e =
-        let n : columns.table g .refusal ≡ 0 → ⊥ = λ q. eqb-false (first .refusal) 0 e (came .refusal-is ∙ q) in
+        let n : stackIn g .refusal ≡ 0 → ⊥ = λ q. eqb-false (first .refusal) 0 e (came .refusal-is ∙ q) in
         record {
-          refusal-is = came .refusal-is ∙ sym (ap (λ (b : Bool). cond b (problemRows (columns.table g .state .tables .names) (problemIn c) noProblem .refusal) (columns.table g .refusal)) (ne-eqb (columns.table g .refusal) 0 n));
+          refusal-is = came .refusal-is ∙ sym (ap (λ (b : Bool). cond b (problemRows (stackIn g .state .top .shown .tables .names) (problemIn c) noProblem .refusal) (stackIn g .refusal)) (ne-eqb (stackIn g .refusal) 0 n));
           classes-are = λ q. absurd (n q);
           problem-is = λ q. absurd (n q);
         }

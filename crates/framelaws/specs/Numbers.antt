@@ -1,5 +1,5 @@
 -- WHICH NUMBERS A FRAME IS REFUSED WITH: 1 to 10, and 20 or 21 from a run; never one of the descriptors', 22 or 23.
-use mathlib.Core.Path.{_≡_, refl, ap, subst}
+use mathlib.Core.Path.{_≡_, refl, sym, ap, subst}
 use mathlib.Core.Bool.{Bool, true, false, cond, not, _&&_, _||_}
 use mathlib.Core.List.{List, [], _∷_}
 use mathlib.Core.Logic.{_⊎_, inl, inr}
@@ -16,7 +16,8 @@ use Rattle.checks.specs.Checks as checks
 use Rattle.order.specs.Compare.{isLess}
 use Rattle.names.specs.Names.{nameChecks, checkName}
 use Rattle.rows.specs.Rows.{nameRow, goodFlags, allBelow, putAll, recordChecks, recordRefusal}
-use Rattle.columns.specs.Fold.{run}
+use Rattle.layers.specs.Stacks.{topKeys, openRefusal}
+use Rattle.layers.specs.StackLaws.{refusal-top}
 use Rattle.solving.specs.Ordered.{insert}
 use Rattle.solving.specs.Solving.{bound, compareBounds, comparePairs, Problem, linksOf, tableOf, Finish, Stopped, Ended, propagate, Solution, Unsolved, Solved, solution, solve}
 use Rattle.solving.specs.Runs.{propagate-stops}
@@ -24,7 +25,7 @@ use Rattle.lattice.specs.Lattice.{World}
 use Rattle.tableview.specs.Inner.{stateWorld}
 use Rattle.problems.specs.Problems.{ProblemRow, counted, variable, bounded, flow, upperFlow, reading, writing, among, rowChecks, rowRefusal, problem}
 use Rattle.hexline.specs.Hex.{hexBytes, badHex}
-use Rattle.frames.specs.Frames.{Store, kindOf, bodyOf, badKind, goodLength, rankOf, badOrder, Message, naming, recording, row, solving, asking, Relating, Supertyping, Casting, messageOf, messageRefusal, frameChecks, Refused, stepped, solvedStep, answer, accepted, askChecks, frameBytes, frame}
+use Rattle.frames.specs.Frames.{Store, shown, kindOf, bodyOf, badKind, goodLength, rankOf, badOrder, Message, naming, recording, opening, row, solving, asking, Relating, Supertyping, Casting, messageOf, messageRefusal, frameChecks, Refused, stepped, solvedStep, answer, accepted, askChecks, frameBytes, frame}
 
 abbrev pub FrameNumber : ℕ → Type 0
 FrameNumber k = ((1 ≤ k) × (k ≤ 10)) ⊎ ((k ≡ 20) ⊎ (k ≡ 21))
@@ -67,12 +68,14 @@ row-small names (reading a b) p = next-check (not (among p a b)) 6 _ (omega arit
 row-small names (writing a b) p = next-check (not (among p a b)) 6 _ (omega arith) (one-check (ltb 1024 (length (p .reads) + length (insert comparePairs (a, b) (p .writes)))) 8 (omega arith))
 
 message-small : (m : Message) (s : Store) → messageRefusal m s ≤ 10
-unfolding messageRefusal nameRow askChecks checks.firstRefusal
-message-small (naming n) s = name-small (s .last) n (s .classes .tables .names) (s .classes .tables .bytes)
-message-small (recording f c ps) s = record-small (s .classes .tables .names) (s .classes .keys) f c ps
-message-small (row r) s = row-small (s .classes .tables .names) r (s .problem)
-message-small solving s = next-check (not (allBelow (s .classes .tables .names) [])) 6 _ (omega arith) (one-check (eqb (s .classes .tables .object) 18446744073709551615) 9 (omega arith))
-message-small (asking q a b) s = next-check (not (allBelow (s .classes .tables .names) (a ∷ b ∷ []))) 6 _ (omega arith) (one-check (eqb (s .classes .tables .object) 18446744073709551615) 9 (omega arith))
+unfolding messageRefusal nameRow askChecks checks.firstRefusal openRefusal
+message-small (naming n) s = name-small (s .last) n (shown s .tables .names) (shown s .tables .bytes)
+message-small (recording f c ps) s =
+    subst (λ (k : ℕ). k ≤ 10) (sym (refusal-top (s .classes) f c ps)) (record-small (shown s .tables .names) (topKeys (s .classes)) f c ps)
+message-small opening s = one-check (leb 3 (s .classes .under)) 8 (omega arith)
+message-small (row r) s = row-small (shown s .tables .names) r (s .problem)
+message-small solving s = next-check (not (allBelow (shown s .tables .names) [])) 6 _ (omega arith) (one-check (eqb (shown s .tables .object) 18446744073709551615) 9 (omega arith))
+message-small (asking q a b) s = next-check (not (allBelow (shown s .tables .names) (a ∷ b ∷ []))) 6 _ (omega arith) (one-check (eqb (shown s .tables .object) 18446744073709551615) 9 (omega arith))
 
 checks-small : (f : Option (List ℕ)) (s : Store) → checks.firstRefusal (frameChecks f s) ≤ 10
 unfolding frameChecks checks.firstRefusal
@@ -101,8 +104,9 @@ accepted-number : (rank : ℕ) (m : Message) (s : Store) (k : ℕ) → accepted 
 unfolding accepted answer
 accepted-number rank (naming n) s k h = let z : _≡_ {A = ℕ} 0 1 = cc in absurd (omega arith)
 accepted-number rank (recording f c ps) s k h = let z : _≡_ {A = ℕ} 0 1 = cc in absurd (omega arith)
+accepted-number rank opening s k h = let z : _≡_ {A = ℕ} 0 1 = cc in absurd (omega arith)
 accepted-number rank (row r) s k h = let z : _≡_ {A = ℕ} 0 1 = cc in absurd (omega arith)
-accepted-number rank solving s k h = solve-number (stateWorld (s .classes)) (s .problem) k (solved-number rank s (solve (stateWorld (s .classes)) (s .problem)) k h)
+accepted-number rank solving s k h = solve-number (stateWorld (shown s)) (s .problem) k (solved-number rank s (solve (stateWorld (shown s)) (s .problem)) k h)
 accepted-number rank (asking Relating a b) s k h = let z : _≡_ {A = ℕ} 0 1 = cc in absurd (omega arith)
 accepted-number rank (asking Supertyping a b) s k h = let z : _≡_ {A = ℕ} 0 1 = cc in absurd (omega arith)
 accepted-number rank (asking Casting a b) s k h = let z : _≡_ {A = ℕ} 0 1 = cc in absurd (omega arith)

@@ -14,15 +14,17 @@ use Rattle.order.specs.Compare.{isEqual}
 use Rattle.names.specs.Names.{checkName}
 use Rattle.tables.specs.declared.Tables.{Tables}
 use Rattle.rows.specs.Rows.{objectName, noTables, noted, withName, nameRow, State, recordRefusal, withRecord, recordRow}
-use Rattle.rows.specs.Laws as rows
-use Rattle.rows.specs.Laws.{good-start, good-name, good-record}
+use Rattle.rows.specs.Laws.{name-room, name-refused, name-taken, good-start}
 use Rattle.columns.specs.Given.{noMarks}
+use Rattle.layers.specs.Layers.{layersRoom, layerRefusal, withLayerRecord, layerRow, opened}
+use Rattle.layers.specs.Stacks.{Stack, topKeys, stackRow, openRow, Upright}
+use Rattle.layers.specs.StackLaws.{upright-ground, upright-row, upright-open}
 use Rattle.solving.specs.Solving.{Problem, Solution, Unsolved, Solved, solve}
 use Rattle.tableview.specs.Inner.{stateWorld}
 use Rattle.problems.specs.Problems.{ProblemRow, counted, variable, bounded, flow, upperFlow, reading, writing, noProblem, problemRow}
 use Rattle.problems.specs.Held.{Held, Later, held-none, held-row, held-counted}
 use Rattle.hexline.specs.Hex.{digit, byteThen, hexBytes, badHex, numberAt, numbersIn, bytesNumber}
-use Rattle.frames.specs.Frames.{Store, emptyStore, kindOf, bodyOf, badKind, goodLength, rankOf, badOrder, Question, Message, naming, recording, row, solving, asking, Relating, Supertyping, Casting, messageOf, messageRefusal, frameChecks, Refused, stepped, withMessage, solvedStep, answer, accepted, frameBytes, frame}
+use Rattle.frames.specs.Frames.{Store, emptyStore, shown, withNames, kindOf, bodyOf, badKind, goodLength, rankOf, badOrder, Question, Message, naming, recording, opening, row, solving, asking, Relating, Supertyping, Casting, messageOf, messageRefusal, frameChecks, Refused, stepped, withMessage, solvedStep, answer, accepted, frameBytes, frame}
 
 -- ---- a refused frame
 
@@ -34,8 +36,9 @@ accepted-refused : (rank : ℕ) (m : Message) (s : Store) (k : ℕ) → accepted
 unfolding accepted answer
 accepted-refused rank (naming n) s k h = let z : _≡_ {A = ℕ} 0 1 = cc in absurd (omega arith)
 accepted-refused rank (recording f c ps) s k h = let z : _≡_ {A = ℕ} 0 1 = cc in absurd (omega arith)
+accepted-refused rank opening s k h = let z : _≡_ {A = ℕ} 0 1 = cc in absurd (omega arith)
 accepted-refused rank (row r) s k h = let z : _≡_ {A = ℕ} 0 1 = cc in absurd (omega arith)
-accepted-refused rank solving s k h = solved-refused rank s (solve (stateWorld (s .classes)) (s .problem)) k h
+accepted-refused rank solving s k h = solved-refused rank s (solve (stateWorld (shown s)) (s .problem)) k h
 accepted-refused rank (asking Relating a b) s k h = let z : _≡_ {A = ℕ} 0 1 = cc in absurd (omega arith)
 accepted-refused rank (asking Supertyping a b) s k h = let z : _≡_ {A = ℕ} 0 1 = cc in absurd (omega arith)
 accepted-refused rank (asking Casting a b) s k h = let z : _≡_ {A = ℕ} 0 1 = cc in absurd (omega arith)
@@ -155,12 +158,12 @@ order-says k rank h = go (ltb (rankOf k) rank) refl h
 -- ---- SOUND
 
 pub record Sound (s : Store) : Type 0 where
-  -- names within 1,024 and 24,576 bytes; pairs ascending, within 4,096, of classes of the table; four sets of marks
-  pub good : rows.Sound (s .classes)
+  -- names within 1,024 and 24,576 bytes; at most four layers; pairs ascending, within 4,096 a layer, of classes of the table; four sets of marks
+  pub good : Upright (s .classes)
   -- Object's number is all ones or a class
-  pub known : (s .classes .tables .object ≡ 2 ^ 64 - 1 → ⊥) → s .classes .tables .object < s .classes .tables .names
+  pub known : (shown s .tables .object ≡ 2 ^ 64 - 1 → ⊥) → shown s .tables .object < shown s .tables .names
   -- components, kinds, legal types over the names, ascending sets within their limits
-  pub held : Held (s .classes .tables .names) (s .problem)
+  pub held : Held (shown s .tables .names) (s .problem)
   -- no row of a problem before 03
   pub fresh : s .rank < 3 → s .problem ≡ noProblem
   pub ranked : s .rank ≤ 10
@@ -168,12 +171,16 @@ pub record Sound (s : Store) : Type 0 where
 pub sound-empty : Sound emptyStore
 unfolding emptyStore noTables noProblem
 sound-empty = record {
-  good = good-start noMarks refl;
+  good = upright-ground _ (good-start noMarks refl);
   known = λ n. absurd (n refl);
   held = held-none 0;
   fresh = λ h. refl;
   ranked = omega arith;
 }
+
+-- the keys that its layers show have room
+pub sound-room : (s : Store) → Sound s → length (shown s .keys) ≤ layersRoom
+sound-room s h = omega (arith, h .good .room, h .good .top-room, h .good .low)
 
 -- ---- one message
 
@@ -192,21 +199,63 @@ name-known last name t k = go (eqb (checkName last name (t .names) (t .bytes)) 0
     go true false n = let l = k n in omega arith
     go false d n = k n
 
-record-tables : (s : State) (f c : ℕ) (ps : List ℕ) → (recordRow s f c ps .tables .names ≡ s .tables .names) × (recordRow s f c ps .tables .object ≡ s .tables .object)
-unfolding recordRow withRecord
-record-tables s f c ps = go (eqb (recordRefusal (s .tables .names) (s .keys) f c ps) 0)
+-- layers stay so after a name: their keys are of classes that were there before
+upright-name : (last name : List ℕ) (c : Stack) → Upright c → Upright (withNames c (nameRow last name (c .top .shown .tables) .tables))
+unfolding withName topKeys
+upright-name last name c g = go (checkName last name (c .top .shown .tables .names) (c .top .shown .tables .bytes)) refl
   where
-    go : (b : Bool) → (cond b (withRecord s f c ps) s .tables .names ≡ s .tables .names) × (cond b (withRecord s f c ps) s .tables .object ≡ s .tables .object)
-    go true = (refl, refl)
-    go false = (refl, refl)
+    go : (k : ℕ) → checkName last name (c .top .shown .tables .names) (c .top .shown .tables .bytes) ≡ k
+        → Upright (withNames c (nameRow last name (c .top .shown .tables) .tables))
+    go zero e =
+        let r = name-room last name (c .top .shown .tables .names) (c .top .shown .tables .bytes) e in
+        rw (name-taken last name (c .top .shown .tables) e) (record {
+          few = omega arith;
+          short = r .1;
+          ordered = g .ordered;
+          counted = g .counted;
+          classes = λ z m. let w = g .classes z m in (omega arith, omega arith);
+          wide = g .wide;
+          own-wide = g .own-wide;
+          low = g .low;
+          own-none = g .own-none;
+          top-room = g .top-room;
+          room = g .room;
+        })
+    go (suc k) e = rw (name-refused last name (c .top .shown .tables) (suc k) (sym e) (λ z. omega arith)) g
+
+-- a record changes no name, nor does a layer that is opened
+record-tables : (c : Stack) (f n : ℕ) (ps : List ℕ)
+    → (stackRow c f n ps .top .shown .tables .names ≡ c .top .shown .tables .names) × (stackRow c f n ps .top .shown .tables .object ≡ c .top .shown .tables .object)
+unfolding stackRow recordRow withRecord layerRow withLayerRecord
+record-tables c f n ps =
+    go (eqb (c .under) 0) (eqb (recordRefusal (c .top .shown .tables .names) (c .top .shown .keys) f n ps) 0) (eqb (layerRefusal (c .top) f n ps) 0)
+  where
+    next : Bool → Bool → Bool → Stack
+    next low a b =
+        cond low (record { top = record { shown = cond a (withRecord (c .top .shown) f n ps) (c .top .shown); own = c .top .own }; under = c .under })
+        (record { top = cond b (withLayerRecord (c .top) f n ps) (c .top); under = c .under })
+
+    go : (low a b : Bool) → (next low a b .top .shown .tables .names ≡ c .top .shown .tables .names) × (next low a b .top .shown .tables .object ≡ c .top .shown .tables .object)
+    go true true b = (refl, refl)
+    go true false b = (refl, refl)
+    go false a true = (refl, refl)
+    go false a false = (refl, refl)
+
+pub open-shows : (c : Stack) → openRow c .top .shown ≡ c .top .shown
+unfolding openRow
+open-shows c = go (leb 3 (c .under))
+  where
+    go : (b : Bool) → cond b c (record { top = opened (c .top .shown); under = c .under + 1 }) .top .shown ≡ c .top .shown
+    go true = refl
+    go false = refl
 
 module _ (s : Store) (h : Sound s) where
   sound-name : (n : List ℕ) → s .rank ≤ 1 → Sound (withMessage 1 (naming n) s)
   unfolding withMessage Known
   sound-name n r = record {
-    good = good-name (s .last) n (s .classes) (h .good);
-    known = name-known (s .last) n (s .classes .tables) (h .known);
-    held = subst (Held (nameRow (s .last) n (s .classes .tables) .tables .names)) (sym (h .fresh (omega arith))) (held-none (nameRow (s .last) n (s .classes .tables) .tables .names));
+    good = upright-name (s .last) n (s .classes) (h .good);
+    known = name-known (s .last) n (shown s .tables) (h .known);
+    held = subst (Held (nameRow (s .last) n (shown s .tables) .tables .names)) (sym (h .fresh (omega arith))) (held-none (nameRow (s .last) n (shown s .tables) .tables .names));
     fresh = λ k. h .fresh (omega arith);
     ranked = omega arith;
   }
@@ -216,9 +265,21 @@ module _ (s : Store) (h : Sound s) where
   sound-record f c ps r =
       let t = record-tables (s .classes) f c ps in
       record {
-        good = good-record (s .classes) f c ps (h .good);
+        good = upright-row (s .classes) f c ps (h .good);
         known = λ n. let k = h .known (λ e. n (t .1 ∙ e)) in let a = t .0 in let b = t .1 in omega arith;
         held = subst (λ (n : ℕ). Held n (s .problem)) (sym (t .0)) (h .held);
+        fresh = λ k. h .fresh (omega arith);
+        ranked = omega arith;
+      }
+
+  sound-open : s .rank ≤ 2 → Sound (withMessage 2 opening s)
+  unfolding withMessage
+  sound-open r =
+      let e = open-shows (s .classes) in
+      record {
+        good = upright-open (s .classes) (h .good);
+        known = subst (λ (u : State). (u .tables .object ≡ 2 ^ 64 - 1 → ⊥) → u .tables .object < u .tables .names) (sym e) (h .known);
+        held = subst (λ (u : State). Held (u .tables .names) (s .problem)) (sym e) (h .held);
         fresh = λ k. h .fresh (omega arith);
         ranked = omega arith;
       }
@@ -228,7 +289,7 @@ module _ (s : Store) (h : Sound s) where
   sound-count n r = record {
     good = h .good;
     known = h .known;
-    held = subst (λ (p : Problem). Held (s .classes .tables .names) (problemRow (s .classes .tables .names) (counted n) p .problem)) (sym (h .fresh r)) (held-counted (s .classes .tables .names) n);
+    held = subst (λ (p : Problem). Held (shown s .tables .names) (problemRow (shown s .tables .names) (counted n) p .problem)) (sym (h .fresh r)) (held-counted (shown s .tables .names) n);
     fresh = λ k. absurd (omega arith);
     ranked = omega arith;
   }
@@ -238,7 +299,7 @@ module _ (s : Store) (h : Sound s) where
   sound-row rank r l a b = record {
     good = h .good;
     known = h .known;
-    held = held-row (s .classes .tables .names) (s .problem) (h .held) r l;
+    held = held-row (shown s .tables .names) (s .problem) (h .held) r l;
     fresh = λ k. absurd (omega arith);
     ranked = b;
   }
@@ -270,6 +331,35 @@ nine j l d0 d1 d2 d3 d4 d5 d6 d7 d8 d9 = above j l (five-more j (five j d0 d1 d2
   where
     above : (i : ℕ) → i < 10 → 10 ≤ i → ⊥
     above i a b = omega arith
+
+from-ten : (j : ℕ) → (j < 10 → ⊥) → 10 ≤ j
+from-ten j n = go (ltb j 10) refl
+  where
+    go : (b : Bool) → ltb j 10 ≡ b → 10 ≤ j
+    go true e = absurd (n (ltb-true j 10 e))
+    go false e = ltb-false j 10 e
+
+four-more : (j : ℕ) → 10 ≤ j → j ≤ 14 → (j ≡ 10 → ⊥) → (j ≡ 11 → ⊥) → (j ≡ 12 → ⊥) → (j ≡ 13 → ⊥) → j ≡ 14
+four-more j a b d10 d11 d12 d13 = omega arith
+
+kind-ends : (k : ℕ) → badKind k ≡ false → (k ≡ 0 → ⊥) × (k ≤ 14)
+unfolding badKind
+kind-ends k h = go (eqb k 0) refl (ltb 14 k) refl h
+  where
+    go : (a : Bool) → eqb k 0 ≡ a → (b : Bool) → ltb 14 k ≡ b → (a || b) ≡ false → (k ≡ 0 → ⊥) × (k ≤ 14)
+    go true ea b eb q = absurd (true≢false q)
+    go false ea true eb q = absurd (true≢false q)
+    go false ea false eb q = (eqb-false k 0 ea, ltb-false 14 k eb)
+
+-- a kind that is none of the others is the last
+pub last-kind : (k : ℕ) → badKind k ≡ false → eqb k 1 ≡ false → eqb k 2 ≡ false → eqb k 3 ≡ false → eqb k 4 ≡ false → eqb k 5 ≡ false → eqb k 6 ≡ false → eqb k 7 ≡ false → eqb k 8 ≡ false
+    → eqb k 9 ≡ false → eqb k 10 ≡ false → eqb k 11 ≡ false → eqb k 12 ≡ false → eqb k 13 ≡ false → k ≡ 14
+last-kind k h n1 n2 n3 n4 n5 n6 n7 n8 n9 n10 n11 n12 n13 =
+    four-more k (from-ten k not-below) (kind-ends k h .1) (eqb-false k 10 n10) (eqb-false k 11 n11) (eqb-false k 12 n12) (eqb-false k 13 n13)
+  where
+    not-below : k < 10 → ⊥
+    not-below l =
+        nine k l (kind-ends k h .0) (eqb-false k 1 n1) (eqb-false k 2 n2) (eqb-false k 3 n3) (eqb-false k 4 n4) (eqb-false k 5 n5) (eqb-false k 6 n6) (eqb-false k 7 n7) (eqb-false k 8 n8) (eqb-false k 9 n9)
 
 -- ---- one frame
 
@@ -344,27 +434,18 @@ module _ (f : Option (List ℕ)) (s : Store) (h : Sound s) (b : MaybeBytes f) (p
 
   solved : Sound (accepted 10 solving s .store)
   unfolding accepted
-  solved = sound-solved s h (solve (stateWorld (s .classes)) (s .problem))
+  solved = sound-solved s h (solve (stateWorld (shown s)) (s .problem))
 
-  -- the last kind: none of the others, so not below 10
-  past : eqb k 1 ≡ false → eqb k 2 ≡ false → eqb k 3 ≡ false → eqb k 4 ≡ false → eqb k 5 ≡ false → eqb k 6 ≡ false → eqb k 7 ≡ false → eqb k 8 ≡ false → eqb k 9 ≡ false
-      → Fine (asking Casting (numberAt 0 body) (numberAt 2 body))
-  unfolding Fine badKind k
-  past n1 n2 n3 n4 n5 n6 n7 n8 n9 =
-      let d1 = eqb-false k 1 n1 in let d2 = eqb-false k 2 n2 in let d3 = eqb-false k 3 n3 in
-      let d4 = eqb-false k 4 n4 in let d5 = eqb-false k 5 n5 in let d6 = eqb-false k 6 n6 in
-      let d7 = eqb-false k 7 n7 in let d8 = eqb-false k 8 n8 in let d9 = eqb-false k 9 n9 in
-      subst (λ (j : ℕ). Sound (accepted j (asking Casting (numberAt 0 body) (numberAt 2 body)) s .store))
-      (sym (go (ltb (kindOf f) 10) refl d1 d2 d3 d4 d5 d6 d7 d8 d9 (some-kind (kindOf f) (p .kind))))
-      (sound-asked s h Casting (numberAt 0 body) (numberAt 2 body))
-    where
-      some-kind : (j : ℕ) → (eqb j 0 || ltb 13 j) ≡ false → j ≡ 0 → ⊥
-      some-kind j q z = true≢false (sym (ap (λ (c : Bool). c || ltb 13 j) (eq-eqb j 0 z)) ∙ q)
+  fourteen : k ≡ 14 → Fine opening
+  unfolding Fine accepted
+  fourteen e =
+      let r = ap rankOf e in
+      let o = ranked-below in
+      subst (λ (j : ℕ). Sound (withMessage j opening s)) (sym r) (sound-open s h (omega arith))
 
-      go : (c : Bool) → ltb (kindOf f) 10 ≡ c → (kindOf f ≡ 1 → ⊥) → (kindOf f ≡ 2 → ⊥) → (kindOf f ≡ 3 → ⊥) → (kindOf f ≡ 4 → ⊥) → (kindOf f ≡ 5 → ⊥) → (kindOf f ≡ 6 → ⊥) → (kindOf f ≡ 7 → ⊥) → (kindOf f ≡ 8 → ⊥) → (kindOf f ≡ 9 → ⊥) → (kindOf f ≡ 0 → ⊥)
-          → cond c (kindOf f) 10 ≡ 10
-      go true e d1 d2 d3 d4 d5 d6 d7 d8 d9 d0 = absurd (nine (kindOf f) (ltb-true (kindOf f) 10 e) d0 d1 d2 d3 d4 d5 d6 d7 d8 d9)
-      go false e d1 d2 d3 d4 d5 d6 d7 d8 d9 d0 = refl
+  some-kind : badKind k ≡ false
+  unfolding k
+  some-kind = p .kind
 
   fine : Fine (messageOf k body)
   unfolding messageOf
@@ -381,7 +462,8 @@ module _ (f : Option (List ℕ)) (s : Store) (h : Sound s) (b : MaybeBytes f) (p
       (λ n9. by-if Fine (eqb k 10) _ _ (ten-fine 10 refl solving solved)
       (λ n10. by-if Fine (eqb k 11) _ _ (ten-fine 11 refl (asking Relating (numberAt 0 body) (numberAt 2 body)) (sound-asked s h Relating (numberAt 0 body) (numberAt 2 body)))
       (λ n11. by-if Fine (eqb k 12) _ _ (ten-fine 12 refl (asking Supertyping (numberAt 0 body) (numberAt 2 body)) (sound-asked s h Supertyping (numberAt 0 body) (numberAt 2 body)))
-      (λ n12. past n1 n2 n3 n4 n5 n6 n7 n8 n9))))))))))))
+      (λ n12. by-if Fine (eqb k 13) _ _ (ten-fine 13 refl (asking Casting (numberAt 0 body) (numberAt 2 body)) (sound-asked s h Casting (numberAt 0 body) (numberAt 2 body)))
+      (λ n13. fourteen (last-kind k some-kind n1 n2 n3 n4 n5 n6 n7 n8 n9 n10 n11 n12 n13))))))))))))))
 
 frame-fine : (f : Option (List ℕ)) (s : Store) → Sound s → MaybeBytes f → Passed f s → Sound (accepted (rankOf (kindOf f)) (messageOf (kindOf f) (bodyOf f)) s .store)
 unfolding Fine k body

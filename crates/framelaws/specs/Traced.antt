@@ -1,36 +1,43 @@
 -- EVERY STATE THAT LINES LEAD TO IS THAT OF THE ROWS THAT WERE ACCEPTED, as they stand: the names come ascending and well-formed, the table is
--- one that the columns' checks take, its world is that of the rows, and a solve is the solve of the rows.
+-- one that the columns' checks take, its world is that of the rows that its layers show, and a solve is the solve of these rows.
 use mathlib.Core.Path.{_≡_, refl, sym, ap, ap₂, _∙_, subst}
-use mathlib.Core.Bool.{Bool, true, false, cond, _||_, true≢false}
+use mathlib.Core.Bool.{Bool, true, false, cond, false≢true}
 use mathlib.Core.List.{List, [], _∷_, _++_}
 use mathlib.Core.Option.{Option}
-use Prim.Native.Nat.{ℕ, _≤_, _<_}
+use Prim.Native.Nat.{ℕ, _≤_}
 use native.Mathlib.Omega.{arith}
-use lib.Dec.{eqb, ltb}
+use lib.Dec.{eqb}
 use lib.ListN.{length}
-use borrow.Author.Tests.{eq-eqb, ltb-true, ltb-false, eqb-true, eqb-false}
+use borrow.Author.Tests.{eq-eqb, eqb-true}
 use Rattle.checks.specs.Checks as checks
 use Rattle.names.specs.Table.{Checked}
-use Rattle.rows.specs.Rows.{noTables, nameRow, State, recordRow, Ran}
-use Rattle.columns.specs.Columns.{nameRows, recordRows, tableOf}
-use Rattle.columns.specs.Fold.{Row, named, recorded, Reading, step, run, run-append, ran, start}
+use Rattle.rows.specs.Rows.{noTables, nameRow, goodFlags}
+use Rattle.rows.specs.Laws.{record-good}
+use Rattle.columns.specs.Columns.{nameRows}
+use Rattle.columns.specs.Fold.{Row, named, recorded}
 use Rattle.columns.specs.Names.{names-checked}
-use Rattle.columns.specs.Given as columns
 use Rattle.columns.specs.Given.{Given, noMarks, even}
 use Rattle.columns.specs.GivenLaws.{even-is}
+use Rattle.layers.specs.Stacks.{Stack, StackRan, ground, topKeys, stackRefusal, stackRow, openRow, openRan}
+use Rattle.layers.specs.StackLaws.{refusal-top}
+use Rattle.layercolumns.specs.LayerColumns.{openFlags, openingRow, stackRows, stackTable}
+use Rattle.layercolumns.specs.Fold.{StackReading, told, withNames, recordedRan, stackStep, stackRun, run-append, stackStart}
 use Rattle.solving.specs.Solving.{Problem, Solution, Unsolved, Solved, solve}
 use Rattle.solving.specs.Solve.{SameRows, solve-same}
-use Rattle.tableview.specs.Inner.{stateView, stateWorld, viewIn, worldIn}
+use Rattle.tableview.specs.Inner.{stateView, stateWorld}
 use Rattle.tableview.specs.TableRows.{Record, Rows, rowsView, rowsWorld}
-use Rattle.tableview.specs.Agrees.{view-rows, world-rows}
-use Rattle.tableview.specs.Canonical.{columnsOf, namedRows, recordedRows, tableRows, columns-even, rows-back, table-rows}
+use Rattle.tableview.specs.Canonical.{columnsOf, namedRows, recordedRows, tableRows, columns-even}
+use Rattle.stackview.specs.LayerRows.{shownTable}
+use Rattle.stackview.specs.LayerViews.{noneOpens, one-layer}
+use Rattle.stackview.specs.Agrees.{stackIn, stack-view, stack-world}
+use Rattle.stackview.specs.Canonical.{stack-rows, shown-back}
 use Rattle.problems.specs.Problems.{ProblemRow, counted, variable, bounded, flow, upperFlow, reading, writing, noProblem, withRow, rowRefusal, problemRow, problem}
 use Rattle.problems.specs.Plain.{listRows, withRows, same-rows}
 use Rattle.hexline.specs.Hex.{hexBytes}
-use Rattle.frames.specs.Frames.{Store, emptyStore, kindOf, bodyOf, badKind, rankOf, Question, Message, naming, recording, row, solving, asking, Relating, Supertyping, Casting, messageOf, messageRefusal, frameChecks, Refused, stepped, withMessage, solvedStep, accepted, frameBytes, frame}
+use Rattle.frames.specs.Frames.{Store, emptyStore, shown, kindOf, bodyOf, badKind, rankOf, Question, Message, naming, recording, opening, row, solving, asking, Relating, Supertyping, Casting, messageOf, messageRefusal, frameChecks, Refused, stepped, withMessage, solvedStep, accepted, frameBytes, frame}
 use Rattle.problems.specs.Own.{ownColumns, own-taken, own-problem}
-use Rattle.framelaws.specs.Reached.{passed, order-says, after, reached-sound, by-if, nine}
-use Rattle.framelaws.specs.Messages.{rowKind, messageKind}
+use Rattle.framelaws.specs.Reached.{passed, order-says, after, reached-sound, by-if, last-kind}
+use Rattle.framelaws.specs.Messages.{rowKind, messageKind, row-records}
 
 -- ---- the rows that were accepted
 
@@ -41,10 +48,15 @@ pub record Sent : Type 0 where
 unfoldable pub nothingSent : Sent
 nothingSent = record { table = record { names = []; records = [] }; rows = [] }
 
+-- the row that opens a layer
+abbrev pub openingRecord : Record
+openingRecord = record { flags = openFlags; class = 0; parents = [] }
+
 unfoldable pub addMessage : Message → Sent → Sent
 addMessage (naming n) t = record { table = record { names = t .table .names ++ (n ∷ []); records = t .table .records }; rows = t .rows }
 addMessage (recording f c ps) t =
     record { table = record { names = t .table .names; records = t .table .records ++ (record { flags = f; class = c; parents = ps } ∷ []) }; rows = t .rows }
+addMessage opening t = record { table = record { names = t .table .names; records = t .table .records ++ (openingRecord ∷ []) }; rows = t .rows }
 addMessage (row r) t = record { table = t .table; rows = t .rows ++ (r ∷ []) }
 addMessage solving t = t
 addMessage (asking q a b) t = t
@@ -65,16 +77,16 @@ sent ls = sentAfter ls emptyStore nothingSent
 
 -- ---- what the state is of them
 
-abbrev readingOf : Store → Reading
+abbrev readingOf : Store → StackReading
 readingOf s = record { refusal = 0; last = s .last; state = s .classes }
 
 pub record Traced (t : Sent) (s : Store) : Type 0 where
-  pub run-is : run (tableRows (t .table)) (start noMarks) ≡ record { refusal = 0; last = s .last; state = s .classes }
+  pub run-is : stackRun (tableRows (t .table)) (stackStart noMarks) ≡ record { refusal = 0; last = s .last; state = s .classes }
   pub early : s .rank ≤ 1 → t .table .records ≡ []
   pub rows-are : s .problem ≡ withRows (t .rows) noProblem
 
 traced-empty : Traced nothingSent emptyStore
-unfolding nothingSent emptyStore run namedRows recordedRows withRows
+unfolding nothingSent emptyStore stackRun namedRows recordedRows withRows
 traced-empty = record { run-is = refl; early = λ h. refl; rows-are = refl }
 
 -- ---- a row at the end
@@ -103,31 +115,47 @@ unfolding withRows
 with-back [] r p = refl
 with-back (q ∷ rs) r p = with-back rs r (withRow q p)
 
-run-back : (xs : List Row) (x : Row) (r : Reading) → run xs (start noMarks) ≡ r → r .refusal ≡ 0 → run (xs ++ (x ∷ [])) (start noMarks) ≡ step x r
-unfolding run
+run-back : (xs : List Row) (x : Row) (r : StackReading) → stackRun xs (stackStart noMarks) ≡ r → r .refusal ≡ 0 → stackRun (xs ++ (x ∷ [])) (stackStart noMarks) ≡ stackStep x r
+unfolding stackRun
 run-back xs x r e z =
-    run-append xs (x ∷ []) (start noMarks) refl
-    ∙ ap (λ (u : Reading). cond (eqb (u .refusal) 0) (run (x ∷ []) u) u) e
-    ∙ ap (λ (b : Bool). cond b (run (x ∷ []) r) r) (eq-eqb (r .refusal) 0 z)
-    ∙ go (eqb (step x r .refusal) 0)
+    run-append xs (x ∷ []) (stackStart noMarks) refl
+    ∙ ap (λ (u : StackReading). cond (eqb (u .refusal) 0) (stackRun (x ∷ []) u) u) e
+    ∙ ap (λ (b : Bool). cond b (stackRun (x ∷ []) r) r) (eq-eqb (r .refusal) 0 z)
+    ∙ go (eqb (stackStep x r .refusal) 0)
   where
-    go : (b : Bool) → cond b (step x r) (step x r) ≡ step x r
+    go : (b : Bool) → cond b (stackStep x r) (stackStep x r) ≡ stackStep x r
     go true = refl
     go false = refl
+
+-- a record that is taken opens no layer: its flags are a record's
+taken-records : (s : Stack) (f c : ℕ) (ps : List ℕ) → stackRefusal s f c ps ≡ 0 → eqb f openFlags ≡ false
+unfolding goodFlags
+taken-records s f c ps z = go (eqb f openFlags) refl
+  where
+    go : (b : Bool) → eqb f openFlags ≡ b → b ≡ false
+    go true e =
+        let good = record-good (s .top .shown .tables .names) (topKeys s) f c ps (sym (refusal-top s f c ps) ∙ z) .flags-good in
+        absurd (false≢true (ap goodFlags (sym (eqb-true f openFlags e)) ∙ good))
+    go false e = refl
+
+-- and a row with the other flags opens one
+opening-opens : (s : Stack) → recordedRan openFlags 0 [] s ≡ openRan s
+unfolding recordedRan openingRow
+opening-opens s = refl
 
 -- ---- one message that is taken
 
 module _ (t : Sent) (s : Store) (h : Traced t s) where
   traced-name : (n : List ℕ) → messageRefusal (naming n) s ≡ 0 → s .rank ≤ 1 → Traced (addMessage (naming n) t) (withMessage 1 (naming n) s)
-  unfolding addMessage withMessage messageRefusal step recordedRows
+  unfolding addMessage withMessage messageRefusal stackStep recordedRows
   traced-name n z r = record {
     run-is =
-        ap (λ (xs : List Row). run xs (start noMarks)) rows
+        ap (λ (xs : List Row). stackRun xs (stackStart noMarks)) rows
         ∙ run-back (tableRows (t .table)) (named n) (readingOf s) (h .run-is) refl
         ∙ (λ i. record {
           refusal = z i;
           last = cond (eqb (z i) 0) n (s .last);
-          state = record { tables = nameRow (s .last) n (s .classes .tables) .tables; keys = s .classes .keys; marks = s .classes .marks };
+          state = withNames (s .classes) (nameRow (s .last) n (shown s .tables) .tables);
         });
     early = λ k. h .early r;
     rows-are = h .rows-are;
@@ -144,16 +172,15 @@ module _ (t : Sent) (s : Store) (h : Traced t s) where
           ap₂ (λ (a b : List Row). a ++ b) (named-back ns n) none-yet ∙ append-nil (namedRows ns ++ (named n ∷ []))
           ∙ sym (ap (λ (b : List Row). (namedRows ns ++ b) ++ (named n ∷ [])) none-yet ∙ ap (λ (a : List Row). a ++ (named n ∷ [])) (append-nil (namedRows ns)))
 
-  traced-record : (f c : ℕ) (ps : List ℕ) → messageRefusal (recording f c ps) s ≡ 0 → Traced (addMessage (recording f c ps) t) (withMessage 2 (recording f c ps) s)
-  unfolding addMessage withMessage messageRefusal step
-  traced-record f c ps z = record {
-    run-is =
-        ap (λ (xs : List Row). run xs (start noMarks)) rows
-        ∙ run-back (tableRows (t .table)) (recorded f c ps) (readingOf s) (h .run-is) refl
-        ∙ (λ i. record { refusal = z i; last = s .last; state = recordRow (s .classes) f c ps });
-    early = λ k. absurd (omega arith);
-    rows-are = h .rows-are;
-  }
+  -- a row of flags, class and parents at the end, which comes to a state
+  run-recorded : (f c : ℕ) (ps : List ℕ) (next : Stack) → recordedRan f c ps (s .classes) ≡ record { refusal = 0; state = next }
+      → stackRun (namedRows (t .table .names) ++ recordedRows (t .table .records ++ (record { flags = f; class = c; parents = ps } ∷ []))) (stackStart noMarks)
+      ≡ record { refusal = 0; last = s .last; state = next }
+  unfolding stackStep
+  run-recorded f c ps next e =
+      ap (λ (xs : List Row). stackRun xs (stackStart noMarks)) rows
+      ∙ run-back (tableRows (t .table)) (recorded f c ps) (readingOf s) (h .run-is) refl
+      ∙ ap (λ (u : StackRan). record { refusal = u .refusal; last = s .last; state = u .state }) e
     where
       rows : namedRows (t .table .names) ++ recordedRows (t .table .records ++ (record { flags = f; class = c; parents = ps } ∷ []))
           ≡ (namedRows (t .table .names) ++ recordedRows (t .table .records)) ++ (recorded f c ps ∷ [])
@@ -161,13 +188,31 @@ module _ (t : Sent) (s : Store) (h : Traced t s) where
           ap (λ (b : List Row). namedRows (t .table .names) ++ b) (recorded-back (t .table .records) (record { flags = f; class = c; parents = ps }))
           ∙ sym (append-assoc (namedRows (t .table .names)) (recordedRows (t .table .records)) (recorded f c ps ∷ []))
 
+  traced-record : (f c : ℕ) (ps : List ℕ) → messageRefusal (recording f c ps) s ≡ 0 → Traced (addMessage (recording f c ps) t) (withMessage 2 (recording f c ps) s)
+  unfolding addMessage withMessage messageRefusal
+  traced-record f c ps z = record {
+    run-is =
+        run-recorded f c ps (stackRow (s .classes) f c ps)
+        (row-records f c ps (s .classes) (taken-records (s .classes) f c ps z) ∙ (λ i. record { refusal = z i; state = stackRow (s .classes) f c ps }));
+    early = λ k. absurd (omega arith);
+    rows-are = h .rows-are;
+  }
+
+  traced-open : messageRefusal opening s ≡ 0 → Traced (addMessage opening t) (withMessage 2 opening s)
+  unfolding addMessage withMessage messageRefusal
+  traced-open z = record {
+    run-is = run-recorded openFlags 0 [] (openRow (s .classes)) (opening-opens (s .classes) ∙ (λ i. record { refusal = z i; state = openRow (s .classes) }));
+    early = λ k. absurd (omega arith);
+    rows-are = h .rows-are;
+  }
+
   traced-row : (rank : ℕ) (r : ProblemRow) → messageRefusal (row r) s ≡ 0 → 3 ≤ rank → Traced (addMessage (row r) t) (withMessage rank (row r) s)
   unfolding addMessage withMessage messageRefusal problemRow
   traced-row rank r z k = record {
     run-is = h .run-is;
     early = λ l. absurd (omega arith);
     rows-are =
-        ap (λ (b : Bool). cond b (withRow r (s .problem)) (s .problem)) (eq-eqb (rowRefusal (s .classes .tables .names) r (s .problem)) 0 z)
+        ap (λ (b : Bool). cond b (withRow r (s .problem)) (s .problem)) (eq-eqb (rowRefusal (shown s .tables .names) r (s .problem)) 0 z)
         ∙ ap (withRow r) (h .rows-are) ∙ sym (with-back (t .rows) r noProblem);
   }
 
@@ -181,7 +226,7 @@ module _ (t : Sent) (s : Store) (h : Traced t s) where
 
   same-solved : Traced (addMessage solving t) (accepted 10 solving s .store)
   unfolding addMessage accepted
-  same-solved = traced-solved (solve (stateWorld (s .classes)) (s .problem))
+  same-solved = traced-solved (solve (stateWorld (shown s)) (s .problem))
 
   same-asked : (q : Question) (a b : ℕ) → Traced (addMessage (asking q a b) t) (accepted 10 (asking q a b) s .store)
   unfolding addMessage accepted withMessage
@@ -191,6 +236,7 @@ module _ (t : Sent) (s : Store) (h : Traced t s) where
   unfolding accepted messageKind rowKind
   traced-message (naming n) z o = traced-name n z o
   traced-message (recording f c ps) z o = traced-record f c ps z
+  traced-message opening z o = traced-open z
   traced-message (row (counted n)) z o = traced-row 3 (counted n) z (omega arith)
   traced-message (row (variable c)) z o = traced-row 4 (variable c) z (omega arith)
   traced-message (row (bounded c k w)) z o = traced-row 5 (bounded c k w) z (omega arith)
@@ -203,29 +249,7 @@ module _ (t : Sent) (s : Store) (h : Traced t s) where
   traced-message (asking Supertyping a b) z o = same-asked Supertyping a b
   traced-message (asking Casting a b) z o = same-asked Casting a b
 
-from-ten : (j : ℕ) → (j < 10 → ⊥) → 10 ≤ j
-from-ten j n = go (ltb j 10) refl
-  where
-    go : (b : Bool) → ltb j 10 ≡ b → 10 ≤ j
-    go true e = absurd (n (ltb-true j 10 e))
-    go false e = ltb-false j 10 e
-
-nine-not : (j : ℕ) → (j ≡ 0 → ⊥) → (j ≡ 1 → ⊥) → (j ≡ 2 → ⊥) → (j ≡ 3 → ⊥) → (j ≡ 4 → ⊥) → (j ≡ 5 → ⊥) → (j ≡ 6 → ⊥) → (j ≡ 7 → ⊥) → (j ≡ 8 → ⊥) → (j ≡ 9 → ⊥) → j < 10 → ⊥
-nine-not j d0 d1 d2 d3 d4 d5 d6 d7 d8 d9 l = nine j l d0 d1 d2 d3 d4 d5 d6 d7 d8 d9
-
-finish : (j : ℕ) → 10 ≤ j → j ≤ 13 → (j ≡ 10 → ⊥) → (j ≡ 11 → ⊥) → (j ≡ 12 → ⊥) → 13 ≡ j
-finish j a b d10 d11 d12 = omega arith
-
-ends : (k : ℕ) → badKind k ≡ false → (k ≡ 0 → ⊥) × (k ≤ 13)
-unfolding badKind
-ends k h = go (eqb k 0) refl (ltb 13 k) refl h
-  where
-    go : (a : Bool) → eqb k 0 ≡ a → (b : Bool) → ltb 13 k ≡ b → (a || b) ≡ false → (k ≡ 0 → ⊥) × (k ≤ 13)
-    go true ea b eb q = absurd (true≢false q)
-    go false ea true eb q = absurd (true≢false q)
-    go false ea false eb q = (eqb-false k 0 ea, ltb-false 13 k eb)
-
--- a kind from 01 to 0d is that of its message
+-- a kind from 01 to 0e is that of its message
 kind-back : (k : ℕ) (body : List ℕ) → badKind k ≡ false → messageKind (messageOf k body) ≡ k
 unfolding messageOf messageKind rowKind
 kind-back k body h =
@@ -241,13 +265,11 @@ kind-back k body h =
     (λ n9. by-if Is (eqb k 10) _ _ (λ e. sym (eqb-true k 10 e))
     (λ n10. by-if Is (eqb k 11) _ _ (λ e. sym (eqb-true k 11 e))
     (λ n11. by-if Is (eqb k 12) _ _ (λ e. sym (eqb-true k 12 e))
-    (λ n12. last k (ends k h .0) (ends k h .1) (eqb-false k 1 n1) (eqb-false k 2 n2) (eqb-false k 3 n3) (eqb-false k 4 n4) (eqb-false k 5 n5) (eqb-false k 6 n6) (eqb-false k 7 n7) (eqb-false k 8 n8) (eqb-false k 9 n9) (eqb-false k 10 n10) (eqb-false k 11 n11) (eqb-false k 12 n12)))))))))))))
+    (λ n12. by-if Is (eqb k 13) _ _ (λ e. sym (eqb-true k 13 e))
+    (λ n13. sym (last-kind k h n1 n2 n3 n4 n5 n6 n7 n8 n9 n10 n11 n12 n13))))))))))))))
   where
     Is : Message → Type 0
     Is m = messageKind m ≡ k
-
-    last : (j : ℕ) → (j ≡ 0 → ⊥) → j ≤ 13 → (j ≡ 1 → ⊥) → (j ≡ 2 → ⊥) → (j ≡ 3 → ⊥) → (j ≡ 4 → ⊥) → (j ≡ 5 → ⊥) → (j ≡ 6 → ⊥) → (j ≡ 7 → ⊥) → (j ≡ 8 → ⊥) → (j ≡ 9 → ⊥) → (j ≡ 10 → ⊥) → (j ≡ 11 → ⊥) → (j ≡ 12 → ⊥) → 13 ≡ j
-    last j d0 l d1 d2 d3 d4 d5 d6 d7 d8 d9 d10 d11 d12 = finish j (from-ten j (nine-not j d0 d1 d2 d3 d4 d5 d6 d7 d8 d9)) l d10 d11 d12
 
 -- ---- one frame
 
@@ -286,59 +308,64 @@ same-self : (p : Problem) → SameRows p p
 same-self p = record { components = refl; variables = refl; bounds = (λ z m. m, λ z m. m); flows = (λ z m. m, λ z m. m); upperFlows = (λ z m. m, λ z m. m); reads = (λ z m. m, λ z m. m); writes = (λ z m. m, λ z m. m) }
 
 -- the names of a table that is taken
-table-names : (g : Given) → even g ≡ true → columns.table g .refusal ≡ 0 → Checked (g .names) (g .«name_at») (g .«name_len»)
-unfolding columns.table tableOf even
+table-names : (g : Given) → even g ≡ true → stackIn g .refusal ≡ 0 → Checked (g .names) (g .«name_at») (g .«name_len»)
+unfolding stackIn stackTable even
 table-names g e z = names-checked (g .names) (g .«name_at») (g .«name_len») (even-is (length (g .«name_at»)) (length (g .«name_len»)) (length (g .«rec_flags»)) (length (g .«rec_class»)) (length (g .«rec_at»)) (length (g .«rec_len»)) e .0) (go (eqb o 0) refl z)
   where
     o : ℕ
     o = nameRows (g .names) (g .«name_at») (g .«name_len») [] noTables .refusal
 
-    first : State
-    first = record { tables = nameRows (g .names) (g .«name_at») (g .«name_len») [] noTables .tables; keys = []; marks = noMarks }
+    first : Stack
+    first = ground (record { tables = nameRows (g .names) (g .«name_at») (g .«name_len») [] noTables .tables; keys = []; marks = noMarks })
 
-    go : (b : Bool) → eqb o 0 ≡ b → cond {A = Ran} b (recordRows (g .parents) (g .«rec_flags») (g .«rec_class») (g .«rec_at») (g .«rec_len») first) (record { refusal = o; state = first }) .refusal ≡ 0 → o ≡ 0
+    go : (b : Bool) → eqb o 0 ≡ b → cond {A = StackRan} b (stackRows (g .parents) (g .«rec_flags») (g .«rec_class») (g .«rec_at») (g .«rec_len») first) (record { refusal = o; state = first }) .refusal ≡ 0 → o ≡ 0
     go true q r = eqb-true o 0 q
     go false q r = r
 
 module _ (ls : List (List ℕ)) where
-  ran-is : columns.table (columnsOf (sent ls .table)) ≡ record { refusal = 0; state = after ls emptyStore .classes }
-  ran-is = table-rows (sent ls .table) ∙ ap ran (traced ls .run-is)
+  ran-is : stackIn (columnsOf (sent ls .table)) ≡ record { refusal = 0; state = after ls emptyStore .classes }
+  ran-is = stack-rows (sent ls .table) ∙ ap told (traced ls .run-is)
 
-  -- THE ROWS AS COLUMNS ARE TAKEN, and their table is the state's
-  pub reached-taken : columns.table (columnsOf (sent ls .table)) .refusal ≡ 0
-  reached-taken = ap (λ (u : Ran). u .refusal) ran-is
+  -- THE ROWS AS COLUMNS ARE TAKEN, and their layers are the state's
+  pub reached-taken : stackIn (columnsOf (sent ls .table)) .refusal ≡ 0
+  reached-taken = ap (λ (u : StackRan). u .refusal) ran-is
 
-  pub reached-table : columns.table (columnsOf (sent ls .table)) .state ≡ after ls emptyStore .classes
-  reached-table = ap (λ (u : Ran). u .state) ran-is
+  pub reached-table : stackIn (columnsOf (sent ls .table)) .state ≡ after ls emptyStore .classes
+  reached-table = ap (λ (u : StackRan). u .state) ran-is
 
-  -- THE WORLD IS THAT OF THE ROWS: every answer of 0a to 0d is
-  pub reached-world : stateWorld (after ls emptyStore .classes) ≡ rowsWorld (sent ls .table)
-  unfolding worldIn
+  -- THE WORLD IS THAT OF THE ROWS THAT THE LAYERS SHOW: every answer of 0a to 0d is
+  pub reached-world : stateWorld (shown (after ls emptyStore)) ≡ rowsWorld (shownTable (sent ls .table))
   reached-world =
-      ap stateWorld (sym reached-table) ∙ world-rows (columnsOf (sent ls .table)) (columns-even (sent ls .table)) reached-taken
-      ∙ ap rowsWorld (rows-back (sent ls .table))
+      ap (λ (c : Stack). stateWorld (c .top .shown)) (sym reached-table) ∙ stack-world (columnsOf (sent ls .table)) (columns-even (sent ls .table)) reached-taken
+      ∙ ap rowsWorld (shown-back (sent ls .table))
 
-  pub reached-view : stateView (after ls emptyStore .classes) ≡ rowsView (sent ls .table)
-  unfolding viewIn
+  pub reached-view : stateView (shown (after ls emptyStore)) ≡ rowsView (shownTable (sent ls .table))
   reached-view =
-      ap stateView (sym reached-table) ∙ view-rows (columnsOf (sent ls .table)) (columns-even (sent ls .table)) reached-taken
-      ∙ ap rowsView (rows-back (sent ls .table))
+      ap (λ (c : Stack). stateView (c .top .shown)) (sym reached-table) ∙ stack-view (columnsOf (sent ls .table)) (columns-even (sent ls .table)) reached-taken
+      ∙ ap rowsView (shown-back (sent ls .table))
+
+  -- ONE LAYER IS AS BEFORE: where no frame opened another, the rows themselves
+  pub reached-plain : noneOpens (sent ls .table .records)
+      → (stateWorld (shown (after ls emptyStore)) ≡ rowsWorld (sent ls .table)) × (stateView (shown (after ls emptyStore)) ≡ rowsView (sent ls .table))
+  reached-plain n =
+      let same : shownTable (sent ls .table) ≡ sent ls .table = ap (λ (rs : List Record). record { names = sent ls .table .names; records = rs }) (one-layer (sent ls .table .records) n) in
+      (reached-world ∙ ap rowsWorld same, reached-view ∙ ap rowsView same)
 
   -- A SOLVE IS THE SOLVE OF THE ROWS AS THEY CAME
-  pub reached-solve : solve (stateWorld (after ls emptyStore .classes)) (after ls emptyStore .problem) ≡ solve (rowsWorld (sent ls .table)) (listRows (sent ls .rows) noProblem)
+  pub reached-solve : solve (stateWorld (shown (after ls emptyStore))) (after ls emptyStore .problem) ≡ solve (rowsWorld (shownTable (sent ls .table))) (listRows (sent ls .rows) noProblem)
   reached-solve =
       ap₂ solve reached-world (traced ls .rows-are)
-      ∙ solve-same (withRows (sent ls .rows) noProblem) (listRows (sent ls .rows) noProblem) (same-rows (sent ls .rows) noProblem noProblem (same-self noProblem)) (rowsWorld (sent ls .table))
+      ∙ solve-same (withRows (sent ls .rows) noProblem) (listRows (sent ls .rows) noProblem) (same-rows (sent ls .rows) noProblem noProblem (same-self noProblem)) (rowsWorld (shownTable (sent ls .table)))
 
   -- THE NAMES ARE ASCENDING, WELL-FORMED, 1 to 255 bytes, at most 1,024 and 24,576 bytes
   pub reached-names : Checked (columnsOf (sent ls .table) .names) (columnsOf (sent ls .table) .«name_at») (columnsOf (sent ls .table) .«name_len»)
   reached-names = table-names (columnsOf (sent ls .table)) (columns-even (sent ls .table)) reached-taken
 
   -- THE PROBLEM AS COLUMNS IS TAKEN TOO, and is the state's
-  pub reached-problem : (problem (after ls emptyStore .classes .tables .names) (ownColumns (after ls emptyStore .problem)) .refusal ≡ 0)
-      × (problem (after ls emptyStore .classes .tables .names) (ownColumns (after ls emptyStore .problem)) .problem ≡ after ls emptyStore .problem)
+  pub reached-problem : (problem (shown (after ls emptyStore) .tables .names) (ownColumns (after ls emptyStore .problem)) .refusal ≡ 0)
+      × (problem (shown (after ls emptyStore) .tables .names) (ownColumns (after ls emptyStore .problem)) .problem ≡ after ls emptyStore .problem)
   reached-problem =
       let h = reached-sound ls in (
-        own-taken (after ls emptyStore .classes .tables .names) (h .good .few) (after ls emptyStore .problem) (h .held),
-        own-problem (after ls emptyStore .classes .tables .names) (h .good .few) (after ls emptyStore .problem) (h .held),
+        own-taken (shown (after ls emptyStore) .tables .names) (h .good .few) (after ls emptyStore .problem) (h .held),
+        own-problem (shown (after ls emptyStore) .tables .names) (h .good .few) (after ls emptyStore .problem) (h .held),
       )

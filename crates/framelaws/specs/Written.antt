@@ -12,7 +12,7 @@ use borrow.Author.Tests.{eq-eqb, le-leb, le-ltb, ltb-true, ltb-false, leb-true}
 use Rattle.checks.specs.Checks as checks
 use Rattle.problems.specs.Problems.{ProblemRow, counted, variable, bounded, flow, upperFlow, reading, writing}
 use Rattle.hexline.specs.Hex.{digit, byteThen, hexBytes, badHex, numberAt, numbersIn, bytesNumber}
-use Rattle.frames.specs.Frames.{Store, kindOf, bodyOf, badKind, goodLength, rankOf, Message, naming, recording, row, solving, asking, Relating, Supertyping, Casting, messageOf, frameChecks, Refused, stepped, accepted, frameBytes, frame}
+use Rattle.frames.specs.Frames.{Store, kindOf, bodyOf, badKind, goodLength, rankOf, Message, naming, recording, opening, row, solving, asking, Relating, Supertyping, Casting, messageOf, frameChecks, Refused, stepped, accepted, frameBytes, frame}
 use Rattle.lineout.specs.Printed.{hexDigit}
 use Rattle.framelaws.specs.Reached.{BytesIn}
 use Rattle.framelaws.specs.Messages.{rowKind, messageKind, sendRefusal}
@@ -42,6 +42,7 @@ rowBody (writing a b) = twoNumbers a b
 unfoldable pub messageBody : Message → List ℕ
 messageBody (naming n) = n
 messageBody (recording f c ps) = f ∷ c / 256 ∷ c % 256 ∷ numbersBytes ps
+messageBody opening = []
 messageBody (row r) = rowBody r
 messageBody solving = []
 messageBody (asking q a b) = twoNumbers a b
@@ -72,6 +73,7 @@ RowFits (writing a b) = (a < 65536) × (b < 65536)
 abbrev pub Fits : Message → Type 0
 Fits (naming n) = BytesIn n × (1 ≤ length n) × (length n ≤ 255)
 Fits (recording f c ps) = (f < 256) × (c < 65536) × AllUnder 65536 ps × (length ps ≤ 254)
+Fits opening = Unit {0}
 Fits (row r) = RowFits r
 Fits solving = Unit {0}
 Fits (asking q a b) = (a < 65536) × (b < 65536)
@@ -183,6 +185,7 @@ pub body-fits : (m : Message) → Fits m → BytesIn (messageBody m)
 unfolding messageBody
 body-fits (naming n) h = h .0
 body-fits (recording f c ps) h = (h .0, (two-bytes c (h .1) .0, (two-bytes c (h .1) .1, numbers-bytes ps (h .2))))
+body-fits opening h = tt
 body-fits (row r) h = row-bytes r h
 body-fits solving h = tt
 body-fits (asking q a b) h = pair-bytes a b (h .0) (h .1)
@@ -193,6 +196,7 @@ pub message-back : (m : Message) → messageOf (messageKind m) (messageBody m) �
 unfolding messageOf messageKind rowKind messageBody rowBody numberAt
 message-back (naming n) = refl
 message-back (recording f c ps) = λ i. recording f (number-back c i) (numbers-back ps i)
+message-back opening = refl
 message-back (row (counted n)) = λ i. row (counted (number-back n i))
 message-back (row (variable c)) = λ i. row (variable (number-back c i))
 message-back (row (bounded c k w)) = λ i. row (bounded (number-back c i) k (word-back w i))
@@ -212,6 +216,7 @@ message-sized (recording f c ps) h =
     let e = numbers-length ps in
     let k = h .3 in
     rw (le-leb 3 (suc (suc (suc (length (numbersBytes ps))))) (omega arith), eq-eqb (suc (suc (suc (length (numbersBytes ps)))) % 2) 1 (omega arith), le-leb (suc (suc (suc (length (numbersBytes ps))))) 511 (omega arith))
+message-sized opening h = refl
 message-sized (row (counted n)) h = refl
 message-sized (row (variable c)) h = refl
 message-sized (row (bounded c k w)) h = refl
@@ -228,6 +233,7 @@ message-short : (m : Message) → Fits m → length (messageBody m) ≤ 511
 unfolding messageBody rowBody wordBytes
 message-short (naming n) h = let k = h .2 in omega arith
 message-short (recording f c ps) h = let e = numbers-length ps in let k = h .3 in omega arith
+message-short opening h = omega arith
 message-short (row (counted n)) h = omega arith
 message-short (row (variable c)) h = omega arith
 message-short (row (bounded c k w)) h = omega arith
@@ -242,6 +248,7 @@ kind-small : (m : Message) → (badKind (messageKind m) ≡ false) × (messageKi
 unfolding badKind messageKind rowKind
 kind-small (naming n) = (refl, omega arith)
 kind-small (recording f c ps) = (refl, omega arith)
+kind-small opening = (refl, omega arith)
 kind-small (row (counted n)) = (refl, omega arith)
 kind-small (row (variable c)) = (refl, omega arith)
 kind-small (row (bounded c k w)) = (refl, omega arith)

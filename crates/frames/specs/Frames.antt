@@ -10,8 +10,9 @@ use Rattle.ty.specs.Types.{ArgType}
 use Rattle.checks.specs.Checks.{Check, check, firstRefusal}
 use Rattle.view.specs.View.{View, relation, relationNumber, supertype, cast}
 use Rattle.tables.specs.declared.Tables.{Tables}
-use Rattle.rows.specs.Rows.{noTables, nameRow, State, allBelow, recordRefusal, recordRow}
+use Rattle.rows.specs.Rows.{noTables, nameRow, State, allBelow}
 use Rattle.columns.specs.Given.{noMarks}
+use Rattle.layers.specs.Stacks.{Stack, ground, stackRefusal, stackRow, openRefusal, openRow}
 use Rattle.tableview.specs.Inner.{stateView, stateWorld}
 use Rattle.solving.specs.Solving.{Problem, Solution, Unsolved, Solved, solve}
 use Rattle.problems.specs.Problems.{ProblemRow, counted, variable, bounded, flow, upperFlow, reading, writing, noProblem, rowRefusal, problemRow}
@@ -22,13 +23,22 @@ use Rattle.hexline.specs.Hex.{hexBytes, badHex, numberAt, numbersIn, bytesNumbe
 pub record Store : Type 0 where
   -- the last name that was taken; no other name is kept
   pub last : List ℕ
-  pub classes : State
+  -- the class table, in layers
+  pub classes : Stack
   pub problem : Problem
-  -- the highest kind accepted; 10 for all from 0a on
+  -- the highest kind accepted; 10 for 0a to 0d, 2 for 0e
   pub rank : ℕ
 
 unfoldable pub emptyStore : Store
-emptyStore = record { last = []; classes = record { tables = noTables; keys = []; marks = noMarks }; problem = noProblem; rank = 0 }
+emptyStore = record { last = []; classes = ground (record { tables = noTables; keys = []; marks = noMarks }); problem = noProblem; rank = 0 }
+
+-- what the layers together show
+abbrev pub shown : Store → State
+shown s = s .classes .top .shown
+
+-- the layers with other numbers of their names
+abbrev pub withNames : Stack → Tables → Stack
+withNames c t = record { top = record { shown = record { tables = t; keys = c .top .shown .keys; marks = c .top .shown .marks }; own = c .top .own }; under = c .under }
 
 -- ---- a line as bytes
 
@@ -44,7 +54,7 @@ bodyOf (some (k ∷ body)) = body
 
 -- KIND
 unfoldable pub badKind : ℕ → Bool
-badKind k = eqb k 0 || ltb 13 k
+badKind k = eqb k 0 || ltb 14 k
 
 -- LENGTH, by kind
 unfoldable pub goodLength : ℕ → ℕ → Bool
@@ -53,11 +63,12 @@ goodLength k n =
     (cond (eqb k 2) (leb 3 n && (eqb (n % 2) 1 && leb n 511))
     (cond (leb k 4) (eqb n 2)
     (cond (eqb k 5) (eqb n 11)
-    (cond (eqb k 10) (eqb n 0) (eqb n 4)))))
+    (cond (eqb k 10) (eqb n 0)
+    (cond (eqb k 14) (eqb n 0) (eqb n 4))))))
 
--- 0a to 0d are free among themselves
+-- 0a to 0d are free among themselves, and 0e ranks as 02
 abbrev pub rankOf : ℕ → ℕ
-rankOf k = cond (ltb k 10) k 10
+rankOf k = cond (ltb k 10) k (cond (eqb k 14) 2 10)
 
 -- ORDER: lower than one accepted before, or 03 again
 unfoldable pub badOrder : ℕ → ℕ → Bool
@@ -73,6 +84,7 @@ pub data Question : Type 0 where
 pub data Message : Type 0 where
   naming : List ℕ → Message
   recording : ℕ → ℕ → List ℕ → Message
+  opening : Message
   row : ProblemRow → Message
   solving : Message
   asking : Question → ℕ → ℕ → Message
@@ -90,7 +102,8 @@ messageOf k body =
     (cond (eqb k 9) (row (writing (numberAt 0 body) (numberAt 2 body)))
     (cond (eqb k 10) solving
     (cond (eqb k 11) (asking Relating (numberAt 0 body) (numberAt 2 body))
-    (cond (eqb k 12) (asking Supertyping (numberAt 0 body) (numberAt 2 body)) (asking Casting (numberAt 0 body) (numberAt 2 body)))))))))))))
+    (cond (eqb k 12) (asking Supertyping (numberAt 0 body) (numberAt 2 body))
+    (cond (eqb k 13) (asking Casting (numberAt 0 body) (numberAt 2 body)) opening))))))))))))
 
 -- ---- what it is refused for: as the columns' rows are
 
@@ -100,11 +113,12 @@ askChecks t numbers = check (not (allBelow (t .names) numbers)) 6 ∷ check (eqb
 
 -- 6 for a name is impossible, 7 comes with bounds alone, 10 and 5 with names, 9 with questions and solves
 unfoldable pub messageRefusal : Message → Store → ℕ
-messageRefusal (naming n) s = nameRow (s .last) n (s .classes .tables) .refusal
-messageRefusal (recording flags class parents) s = recordRefusal (s .classes .tables .names) (s .classes .keys) flags class parents
-messageRefusal (row r) s = rowRefusal (s .classes .tables .names) r (s .problem)
-messageRefusal solving s = firstRefusal (askChecks (s .classes .tables) [])
-messageRefusal (asking q a b) s = firstRefusal (askChecks (s .classes .tables) (a ∷ b ∷ []))
+messageRefusal (naming n) s = nameRow (s .last) n (shown s .tables) .refusal
+messageRefusal (recording flags class parents) s = stackRefusal (s .classes) flags class parents
+messageRefusal opening s = openRefusal (s .classes)
+messageRefusal (row r) s = rowRefusal (shown s .tables .names) r (s .problem)
+messageRefusal solving s = firstRefusal (askChecks (shown s .tables) [])
+messageRefusal (asking q a b) s = firstRefusal (askChecks (shown s .tables) (a ∷ b ∷ []))
 
 unfoldable pub frameChecks : Option (List ℕ) → Store → List Check
 frameChecks f s =
@@ -137,12 +151,13 @@ stepped said s = record { said = said; store = s }
 unfoldable pub withMessage : ℕ → Message → Store → Store
 withMessage rank (naming n) s = record {
   last = n;
-  classes = record { tables = nameRow (s .last) n (s .classes .tables) .tables; keys = s .classes .keys; marks = s .classes .marks };
+  classes = withNames (s .classes) (nameRow (s .last) n (shown s .tables) .tables);
   problem = s .problem;
   rank = rank;
 }
-withMessage rank (recording flags class parents) s = record { last = s .last; classes = recordRow (s .classes) flags class parents; problem = s .problem; rank = rank }
-withMessage rank (row r) s = record { last = s .last; classes = s .classes; problem = problemRow (s .classes .tables .names) r (s .problem) .problem; rank = rank }
+withMessage rank (recording flags class parents) s = record { last = s .last; classes = stackRow (s .classes) flags class parents; problem = s .problem; rank = rank }
+withMessage rank opening s = record { last = s .last; classes = openRow (s .classes); problem = s .problem; rank = rank }
+withMessage rank (row r) s = record { last = s .last; classes = s .classes; problem = problemRow (shown s .tables .names) r (s .problem) .problem; rank = rank }
 withMessage rank solving s = record { last = s .last; classes = s .classes; problem = s .problem; rank = rank }
 withMessage rank (asking q a b) s = record { last = s .last; classes = s .classes; problem = s .problem; rank = rank }
 
@@ -160,9 +175,10 @@ answer Casting a b v = Castable (cast v a b)
 unfoldable pub accepted : ℕ → Message → Store → Stepped
 accepted rank (naming n) s = stepped Accepted (withMessage rank (naming n) s)
 accepted rank (recording flags class parents) s = stepped Accepted (withMessage rank (recording flags class parents) s)
+accepted rank opening s = stepped Accepted (withMessage rank opening s)
 accepted rank (row r) s = stepped Accepted (withMessage rank (row r) s)
-accepted rank solving s = solvedStep rank s (solve (stateWorld (s .classes)) (s .problem))
-accepted rank (asking q a b) s = stepped (answer q a b (stateView (s .classes))) (withMessage rank (asking q a b) s)
+accepted rank solving s = solvedStep rank s (solve (stateWorld (shown s)) (s .problem))
+accepted rank (asking q a b) s = stepped (answer q a b (stateView (shown s))) (withMessage rank (asking q a b) s)
 
 -- ---- ONE FRAME
 

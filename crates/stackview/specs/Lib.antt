@@ -8,3 +8,4 @@ pub mod Agrees
 pub mod Shown
 pub mod OneLayer
 pub mod Domain
+pub mod Canonical
