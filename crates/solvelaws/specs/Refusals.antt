@@ -92,9 +92,9 @@ open-most under is-inside class len = go (not is-inside) (not (eqb class 0 && eq
     go false false true = omega arith
     go false false false = omega arith
 
-row-most : (names : ℕ) (parents : List ℕ) (under : ℕ) (before : List Pair) (f c a l : ℕ) → layerRowRefusal names parents under before f c a l ≤ 10
+layer-row-most : (names : ℕ) (parents : List ℕ) (under : ℕ) (before : List Pair) (f c a l : ℕ) → layerRowRefusal names parents under before f c a l ≤ 10
 unfolding layerRowRefusal
-row-most names parents under before f c a l = go (eqb f openFlags)
+layer-row-most names parents under before f c a l = go (eqb f openFlags)
   where
     go : (o : Bool) → cond o (firstRefusal (openChecks under (inside (length parents) a l) c l)) (firstRefusal (recordChecks names (inside (length parents) a l) f c (take l (drop a parents)) before)) ≤ 10
     go true = open-most under (inside (length parents) a l) c l
@@ -117,7 +117,7 @@ records-most names parents (f ∷ fs) (c ∷ cs) (a ∷ ats) [] under before = o
 records-most names parents (f ∷ fs) (c ∷ cs) (a ∷ ats) (l ∷ ls) under before =
     let more = pairsAfter f c (take l (drop a parents)) before in
     up-to 10 (layerRowRefusal names parents under before f c a l) (layersRefusal names parents fs cs ats ls (underAfter f under) more)
-    (row-most names parents under before f c a l) (records-most names parents fs cs ats ls (underAfter f under) more)
+    (layer-row-most names parents under before f c a l) (records-most names parents fs cs ats ls (underAfter f under) more)
 
 table-most : (g : Given) → stackRefusalOf g ≤ 10
 unfolding stackRefusalOf

@@ -23,8 +23,7 @@ lowest-requires c κs = search needs
 loop-holds : tie.Need-loop-holds Inv-loop μ-loop
 loop-holds c =
     let s = c .before .before .before .before .before .before in
-    let f = fresh-holds _ (s .args .t) refl (s .pre .1) (c .lowest .result) (c .lowest .ensures) in
-    (omega arith, f .0, gone-start (s .args .parents .now) (s .args .rec-flags .now) (s .args .rec-class .now) (s .args .rec-at .now) (s .args .rec-len .now) _ _ refl)
+    (omega arith, fresh-holds _ (s .args .t) refl (s .pre .1) (c .lowest .result) (c .lowest .ensures) .0, gone-start (s .args .parents .now) (s .args .rec-flags .now) (s .args .rec-class .now) (s .args .rec-at .now) (s .args .rec-len .now) _ _ refl)
 
 mul-stack-row : tie.Need-mul-stack-row Inv-loop μ-loop
 mul-stack-row c = search needs
