@@ -15,3 +15,4 @@ pub mod CheckTable
 pub mod Solves
 pub mod Lines
 pub mod Refused
+pub mod OneLayer

@@ -6,3 +6,4 @@ pub mod Examples
 pub mod FirstRow
 pub mod Checked
 pub mod CheckExamples
+pub mod OneLayer

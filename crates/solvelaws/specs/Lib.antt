@@ -3,3 +3,4 @@ pub mod Plainly
 pub mod RowNumbers
 pub mod Gives
 pub mod Refusals
+pub mod OneLayer

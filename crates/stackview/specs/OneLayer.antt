@@ -50,8 +50,8 @@ module _ (g : Given) (e : even g ≡ true) (none : firstOpen (g .«rec_flags») 
   unfolding stackIn
   plain-refusal = sym (stack-refusal g) ∙ ap (λ (x : StackRan). x .refusal) plain-table ∙ table-refusal g
 
-  pub plain-rows : shownIn g ≡ rowsIn g
-  unfolding shownIn rowsIn
-  plain-rows =
-      ap (λ (rs : List Record). record { names = namesOf (g .names) (g .«name_at») (g .«name_len»); records = rs })
-      (one-layer (recordsOf (g .parents) (g .«rec_flags») (g .«rec_class») (g .«rec_at») (g .«rec_len»)) (none-opens (g .parents) (g .«rec_flags») (g .«rec_class») (g .«rec_at») (g .«rec_len») none))
+pub plain-rows : (g : Given) → firstOpen (g .«rec_flags») ≡ length (g .«rec_flags») → shownIn g ≡ rowsIn g
+unfolding shownIn rowsIn
+plain-rows g none =
+    ap (λ (rs : List Record). record { names = namesOf (g .names) (g .«name_at») (g .«name_len»); records = rs })
+    (one-layer (recordsOf (g .parents) (g .«rec_flags») (g .«rec_class») (g .«rec_at») (g .«rec_len»)) (none-opens (g .parents) (g .«rec_flags») (g .«rec_class») (g .«rec_at») (g .«rec_len») none))
