@@ -11,7 +11,8 @@ ghost use mathlib.Core.Bool.{cond};
 ghost use Prim.Native.Nat.{_-_, _^_, _≤_, _<_};
 ghost use lib.ListN.{length};
 ghost use Rattle.view.specs.View.{relation, relationNumber, supertype, numberOf, cast};
-ghost use Rattle.tables.specs.Table.{namesRoom, marksRoom, viewOf, pairsRoom};
+ghost use Rattle.tables.specs.Table.{namesRoom, marksRoom, viewOf};
+ghost use Rattle.layers.specs.Layers.{layersRoom};
 ghost use Rattle.hexline.specs.Hex.{numberAt};
 ghost use Rattle.framestate.specs.declared.Said.the-variants.{Related, Supertyped, Castable};
 ghost use Rattle.framestate.specs.FrameState.{framed, askNumbers};
@@ -66,11 +67,12 @@ fn flag(b: bool) -> u64
 // 0b: the relation of a value to what is expected.
 pub fn relation_frame(body: &[u8], pairs: &[u64], marks: &[u64], n: Numbers) -> Framed
     requires { ⌜ (length (now body) ≡ 4) × (length (now marks) ≡ marksRoom) ⌝ }
-    ensures { λ r. ⌜ r ≡ asked (askRefusal (n .tables) (numberAt 0 (now (body .entry))) (numberAt 2 (now (body .entry)))) (Related (relationNumber (relation (viewOf (now (pairs .entry)) (now (marks .entry)) (n .tables)) (numberAt 0 (now (body .entry))) (numberAt 2 (now (body .entry)))))) n ⌝ }
+    ensures { λ r. ⌜ r ≡ asked (askRefusal (n .stack .tables) (numberAt 0 (now (body .entry))) (numberAt 2 (now (body .entry)))) (Related (relationNumber (relation (viewOf (now (pairs .entry)) (now (marks .entry)) (n .stack .tables)) (numberAt 0 (now (body .entry))) (numberAt 2 (now (body .entry)))))) n ⌝ }
 {
     let a = number_at(body, 0);
     let b = number_at(body, 2);
-    let t = n.tables;
+    let s = n.stack;
+    let t = s.tables;
     let refusal = check_ask(t, a, b);
     if refusal != 0 {
         return refuse(n, refusal);
@@ -81,12 +83,13 @@ pub fn relation_frame(body: &[u8], pairs: &[u64], marks: &[u64], n: Numbers) -> 
 
 // 0c: the least common supertype.
 pub fn supertype_frame(body: &[u8], pairs: &[u64], marks: &[u64], n: Numbers) -> Framed
-    requires { ⌜ (length (now body) ≡ 4) × (n .tables .names ≤ namesRoom) × ((n .tables .object ≡ 2 ^ 64 - 1 → ⊥) → n .tables .object < n .tables .names) × (length (now marks) ≡ marksRoom) × (length (now pairs) ≡ pairsRoom) ⌝ }
-    ensures { λ r. ⌜ r ≡ asked (askRefusal (n .tables) (numberAt 0 (now (body .entry))) (numberAt 2 (now (body .entry)))) (Supertyped (numberOf (supertype (viewOf (now (pairs .entry)) (now (marks .entry)) (n .tables)) (numberAt 0 (now (body .entry))) (numberAt 2 (now (body .entry)))))) n ⌝ }
+    requires { ⌜ (length (now body) ≡ 4) × (n .stack .tables .names ≤ namesRoom) × ((n .stack .tables .object ≡ 2 ^ 64 - 1 → ⊥) → n .stack .tables .object < n .stack .tables .names) × (length (now marks) ≡ marksRoom) × (length (now pairs) ≡ layersRoom) ⌝ }
+    ensures { λ r. ⌜ r ≡ asked (askRefusal (n .stack .tables) (numberAt 0 (now (body .entry))) (numberAt 2 (now (body .entry)))) (Supertyped (numberOf (supertype (viewOf (now (pairs .entry)) (now (marks .entry)) (n .stack .tables)) (numberAt 0 (now (body .entry))) (numberAt 2 (now (body .entry)))))) n ⌝ }
 {
     let a = number_at(body, 0);
     let b = number_at(body, 2);
-    let t = n.tables;
+    let s = n.stack;
+    let t = s.tables;
     let refusal = check_ask(t, a, b);
     if refusal != 0 {
         return refuse(n, refusal);
@@ -98,11 +101,12 @@ pub fn supertype_frame(body: &[u8], pairs: &[u64], marks: &[u64], n: Numbers) ->
 // 0d: the cast test.
 pub fn cast_frame(body: &[u8], pairs: &[u64], marks: &[u64], n: Numbers) -> Framed
     requires { ⌜ (length (now body) ≡ 4) × (length (now marks) ≡ marksRoom) ⌝ }
-    ensures { λ r. ⌜ r ≡ asked (askRefusal (n .tables) (numberAt 0 (now (body .entry))) (numberAt 2 (now (body .entry)))) (Castable (cond (cast (viewOf (now (pairs .entry)) (now (marks .entry)) (n .tables)) (numberAt 0 (now (body .entry))) (numberAt 2 (now (body .entry)))) 1 0)) n ⌝ }
+    ensures { λ r. ⌜ r ≡ asked (askRefusal (n .stack .tables) (numberAt 0 (now (body .entry))) (numberAt 2 (now (body .entry)))) (Castable (cond (cast (viewOf (now (pairs .entry)) (now (marks .entry)) (n .stack .tables)) (numberAt 0 (now (body .entry))) (numberAt 2 (now (body .entry)))) 1 0)) n ⌝ }
 {
     let a = number_at(body, 0);
     let b = number_at(body, 2);
-    let t = n.tables;
+    let s = n.stack;
+    let t = s.tables;
     let refusal = check_ask(t, a, b);
     if refusal != 0 {
         return refuse(n, refusal);

@@ -23,23 +23,23 @@ headRefusal k n rank = firstRefusal (check (badKind k) 2 ∷ check (not (goodLen
 module _ (k n rank : ℕ) where
   pub head-zero : k ≡ 0 → 2 ≡ headRefusal k n rank
   unfolding headRefusal firstRefusal badKind
-  head-zero h = sym (ap (λ (x : Bool). cond (x || ltb 13 k) 2 (cond (not (goodLength k n)) 3 (cond (badOrder k rank) 4 0))) (eq-eqb k 0 h))
+  head-zero h = sym (ap (λ (x : Bool). cond (x || ltb 14 k) 2 (cond (not (goodLength k n)) 3 (cond (badOrder k rank) 4 0))) (eq-eqb k 0 h))
 
-  past : (k ≡ 0 → ⊥) → k ≤ 13 → headRefusal k n rank ≡ cond (not (goodLength k n)) 3 (cond (badOrder k rank) 4 0)
+  past : (k ≡ 0 → ⊥) → k ≤ 14 → headRefusal k n rank ≡ cond (not (goodLength k n)) 3 (cond (badOrder k rank) 4 0)
   unfolding headRefusal firstRefusal badKind
-  past h l = ap₂ (λ (x y : Bool). cond (x || y) 2 (cond (not (goodLength k n)) 3 (cond (badOrder k rank) 4 0))) (ne-eqb k 0 h) (le-ltb 13 k l)
+  past h l = ap₂ (λ (x y : Bool). cond (x || y) 2 (cond (not (goodLength k n)) 3 (cond (badOrder k rank) 4 0))) (ne-eqb k 0 h) (le-ltb 14 k l)
 
-  pub head-over : (k ≡ 0 → ⊥) → 13 < k → 2 ≡ headRefusal k n rank
+  pub head-over : (k ≡ 0 → ⊥) → 14 < k → 2 ≡ headRefusal k n rank
   unfolding headRefusal firstRefusal badKind
-  head-over h l = sym (ap₂ (λ (x y : Bool). cond (x || y) 2 (cond (not (goodLength k n)) 3 (cond (badOrder k rank) 4 0))) (ne-eqb k 0 h) (lt-ltb 13 k l))
+  head-over h l = sym (ap₂ (λ (x y : Bool). cond (x || y) 2 (cond (not (goodLength k n)) 3 (cond (badOrder k rank) 4 0))) (ne-eqb k 0 h) (lt-ltb 14 k l))
 
-  pub head-length : (k ≡ 0 → ⊥) → k ≤ 13 → goodLength k n ≡ false → 3 ≡ headRefusal k n rank
+  pub head-length : (k ≡ 0 → ⊥) → k ≤ 14 → goodLength k n ≡ false → 3 ≡ headRefusal k n rank
   head-length h l e = sym (past h l ∙ ap (λ (x : Bool). cond (not x) 3 (cond (badOrder k rank) 4 0)) e)
 
-  pub head-order : (k ≡ 0 → ⊥) → k ≤ 13 → goodLength k n ≡ true → badOrder k rank ≡ true → 4 ≡ headRefusal k n rank
+  pub head-order : (k ≡ 0 → ⊥) → k ≤ 14 → goodLength k n ≡ true → badOrder k rank ≡ true → 4 ≡ headRefusal k n rank
   head-order h l e o = sym (past h l ∙ ap₂ (λ (x y : Bool). cond (not x) 3 (cond y 4 0)) e o)
 
-  pub head-none : (k ≡ 0 → ⊥) → k ≤ 13 → goodLength k n ≡ true → badOrder k rank ≡ false → 0 ≡ headRefusal k n rank
+  pub head-none : (k ≡ 0 → ⊥) → k ≤ 14 → goodLength k n ≡ true → badOrder k rank ≡ false → 0 ≡ headRefusal k n rank
   head-none h l e o = sym (past h l ∙ ap₂ (λ (x y : Bool). cond (not x) 3 (cond y 4 0)) e o)
 
 -- ---- lengths, by kind
@@ -53,16 +53,16 @@ module _ (k n : ℕ) where
   unfolding goodLength
   length-2 h = ap (λ (x : ℕ). goodLength x n) h
 
-  rest-of : (k ≡ 1 → ⊥) → (k ≡ 2 → ⊥) → goodLength k n ≡ cond (leb k 4) (eqb n 2) (cond (eqb k 5) (eqb n 11) (cond (eqb k 10) (eqb n 0) (eqb n 4)))
+  rest-of : (k ≡ 1 → ⊥) → (k ≡ 2 → ⊥) → goodLength k n ≡ cond (leb k 4) (eqb n 2) (cond (eqb k 5) (eqb n 11) (cond (eqb k 10) (eqb n 0) (cond (eqb k 14) (eqb n 0) (eqb n 4))))
   unfolding goodLength
   rest-of a b =
-      ap₂ (λ (x y : Bool). cond x (leb 1 n && leb n 255) (cond y (leb 3 n && (eqb (n % 2) 1 && leb n 511)) (cond (leb k 4) (eqb n 2) (cond (eqb k 5) (eqb n 11) (cond (eqb k 10) (eqb n 0) (eqb n 4)))))) (ne-eqb k 1 a) (ne-eqb k 2 b)
+      ap₂ (λ (x y : Bool). cond x (leb 1 n && leb n 255) (cond y (leb 3 n && (eqb (n % 2) 1 && leb n 511)) (cond (leb k 4) (eqb n 2) (cond (eqb k 5) (eqb n 11) (cond (eqb k 10) (eqb n 0) (cond (eqb k 14) (eqb n 0) (eqb n 4))))))) (ne-eqb k 1 a) (ne-eqb k 2 b)
 
   pub length-4 : (k ≡ 1 → ⊥) → (k ≡ 2 → ⊥) → k ≤ 4 → goodLength k n ≡ eqb n 2
-  length-4 a b h = rest-of a b ∙ ap (λ (x : Bool). cond x (eqb n 2) (cond (eqb k 5) (eqb n 11) (cond (eqb k 10) (eqb n 0) (eqb n 4)))) (le-leb k 4 h)
+  length-4 a b h = rest-of a b ∙ ap (λ (x : Bool). cond x (eqb n 2) (cond (eqb k 5) (eqb n 11) (cond (eqb k 10) (eqb n 0) (cond (eqb k 14) (eqb n 0) (eqb n 4))))) (le-leb k 4 h)
 
-  late : (k ≡ 1 → ⊥) → (k ≡ 2 → ⊥) → 4 < k → goodLength k n ≡ cond (eqb k 5) (eqb n 11) (cond (eqb k 10) (eqb n 0) (eqb n 4))
-  late a b h = rest-of a b ∙ ap (λ (x : Bool). cond x (eqb n 2) (cond (eqb k 5) (eqb n 11) (cond (eqb k 10) (eqb n 0) (eqb n 4)))) (lt-leb k 4 h)
+  late : (k ≡ 1 → ⊥) → (k ≡ 2 → ⊥) → 4 < k → goodLength k n ≡ cond (eqb k 5) (eqb n 11) (cond (eqb k 10) (eqb n 0) (cond (eqb k 14) (eqb n 0) (eqb n 4)))
+  late a b h = rest-of a b ∙ ap (λ (x : Bool). cond x (eqb n 2) (cond (eqb k 5) (eqb n 11) (cond (eqb k 10) (eqb n 0) (cond (eqb k 14) (eqb n 0) (eqb n 4))))) (lt-leb k 4 h)
 
   pub length-5 : k ≡ 5 → goodLength k n ≡ eqb n 11
   unfolding goodLength
@@ -72,8 +72,14 @@ module _ (k n : ℕ) where
   unfolding goodLength
   length-10 h = ap (λ (x : ℕ). goodLength x n) h
 
-  pub length-pair : (k ≡ 1 → ⊥) → (k ≡ 2 → ⊥) → 4 < k → (k ≡ 5 → ⊥) → (k ≡ 10 → ⊥) → goodLength k n ≡ eqb n 4
-  length-pair a b h c d = late a b h ∙ ap₂ (λ (x y : Bool). cond x (eqb n 11) (cond y (eqb n 0) (eqb n 4))) (ne-eqb k 5 c) (ne-eqb k 10 d)
+  pub length-14 : k ≡ 14 → goodLength k n ≡ eqb n 0
+  unfolding goodLength
+  length-14 h = ap (λ (x : ℕ). goodLength x n) h
+
+  pub length-pair : (k ≡ 1 → ⊥) → (k ≡ 2 → ⊥) → 4 < k → (k ≡ 5 → ⊥) → (k ≡ 10 → ⊥) → (k ≡ 14 → ⊥) → goodLength k n ≡ eqb n 4
+  length-pair a b h c d e =
+      late a b h ∙ ap₂ (λ (x y : Bool). cond x (eqb n 11) (cond y (eqb n 0) (cond (eqb k 14) (eqb n 0) (eqb n 4)))) (ne-eqb k 5 c) (ne-eqb k 10 d)
+      ∙ ap (λ (x : Bool). cond x (eqb n 0) (eqb n 4)) (ne-eqb k 14 e)
 
 -- ---- order
 

@@ -3,7 +3,7 @@ ghost use mathlib.Core.Path.{_≡_};
 ghost use Rattle.frames.specs.Frames.{goodLength, rankOf, badOrder};
 ghost use Rattle.frameheads.specs.Heads.{headRefusal};
 
-// Whether a body of n bytes is one of this kind, from 1 to 13.
+// Whether a body of n bytes is one of this kind, from 1 to 14.
 fn is_length(kind: u64, n: usize) -> bool
     ensures { λ r. ⌜ r ≡ goodLength kind n ⌝ }
 {
@@ -31,17 +31,23 @@ fn is_length(kind: u64, n: usize) -> bool
     if kind == 10 {
         return n == 0;
     }
+    if kind == 14 {
+        return n == 0;
+    }
     n == 4
 }
 
-// The rank of a kind: 0a to 0d are free among themselves.
+// The rank of a kind: 0a to 0d are free among themselves, and 0e ranks as 02.
 pub fn rank_of(kind: u64) -> u64
     ensures { λ r. ⌜ r ≡ rankOf kind ⌝ }
 {
     if kind < 10 {
         return kind;
     }
-    10
+    if kind != 14 {
+        return 10;
+    }
+    2
 }
 
 // Whether a kind comes too late: lower than one accepted before, or 03 again.
@@ -65,7 +71,7 @@ pub fn check_head(kind: u64, n: usize, rank: u64) -> u64
     if kind == 0 {
         return 2;
     }
-    if 13 < kind {
+    if 14 < kind {
         return 2;
     }
     if is_length(kind, n) {

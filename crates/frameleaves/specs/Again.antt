@@ -13,6 +13,7 @@ use Rattle.order.specs.Truth.{both}
 use Rattle.checks.specs.Checks.{firstRefusal}
 use Rattle.rows.specs.Rows.{filled}
 use Rattle.rows.specs.Keys.{take-filled}
+use Rattle.layers.specs.Layers.{layerKeys}
 use Rattle.tableview.specs.Inner.{stateWorld}
 use Rattle.solving.specs.Solving.{Pair, Bound, Solution, Unsolved, Solved, solve}
 use Rattle.solving.specs.TableKeys.{keyOf, keysOf, boundOf, table-back}
@@ -22,7 +23,7 @@ use Rattle.problems.specs.Held.{Links}
 use Rattle.problems.specs.Stored.{pairKey, held-keyed}
 use Rattle.problems.specs.Kept.{links-back}
 use Rattle.hexline.specs.Hex.{hexBytes, numberAt, numbersIn, bytesNumber}
-use Rattle.frames.specs.Frames.{Store, kindOf, bodyOf, goodLength, rankOf, Message, naming, recording, row, solving, asking, Relating, Supertyping, Casting, messageOf, frameChecks, Refused, Stepped, stepped, withMessage, solvedStep, accepted, frameBytes, frame}
+use Rattle.frames.specs.Frames.{Store, shown, kindOf, bodyOf, goodLength, rankOf, Message, naming, recording, opening, row, solving, asking, Relating, Supertyping, Casting, messageOf, frameChecks, Refused, Stepped, stepped, withMessage, solvedStep, accepted, frameBytes, frame}
 use Rattle.framelaws.specs.Reached.{Sound, passed, sound-frame, by-if}
 use Rattle.framestate.specs.declared.Numbers.{Numbers}
 use Rattle.framestate.specs.FrameState.{Slices, storeOf, Sized, Within, Ready, numbersOf, Shows}
@@ -45,17 +46,17 @@ module _ (s : Store) (before after : Slices) (h : Sound s) where
     store-of =
         let p = s .problem in
         let a = front (s .last) (before .last) (after .last) (w .last-is) in
-        let k = ap (take (s .classes .tables .pairs)) (w .pairs-are) ∙ take-filled (s .classes .keys) (before .pairs) (s .classes .tables .pairs) (h .good .counted) in
+        let k = ap (take (shown s .tables .pairs)) (w .pairs-are) ∙ take-filled (shown s .keys) (before .pairs) (shown s .tables .pairs) (h .good .counted) in
         let m = w .marks-are in
         let v = front (p .variables) (before .variables) (after .variables) (w .variables-are) in
-        let b = ap (map boundOf) (bounds-front (p .bounds) (before .bounds) (after .bounds) (w .bounds-are)) ∙ table-back (p .bounds) (held-keyed (s .classes .tables .names) p (h .good .few) (h .held)) in
+        let b = ap (map boundOf) (bounds-front (p .bounds) (before .bounds) (after .bounds) (w .bounds-are)) ∙ table-back (p .bounds) (held-keyed (shown s .tables .names) p (h .good .few) (h .held)) in
         let f = pairs-front (p .components) (p .flows) (before .flows) (after .flows) (h .held .few) (h .held .flows) (w .flows-are) in
         let u = pairs-front (p .components) (p .upperFlows) (before .uppers) (after .uppers) (h .held .few) (h .held .upperFlows) (w .uppers-are) in
         let r = pairs-front (p .components) (p .reads) (before .reads) (after .reads) (h .held .few) (h .held .reads) (w .reads-are) in
         let x = pairs-front (p .components) (p .writes) (before .writes) (after .writes) (h .held .few) (h .held .writes) (w .writes-are) in
         λ i. record {
           last = a i;
-          classes = record { tables = s .classes .tables; keys = k i; marks = m i };
+          classes = record { top = record { shown = record { tables = shown s .tables; keys = k i; marks = m i }; own = s .classes .top .own }; under = s .classes .under };
           problem = record { components = p .components; variables = v i; bounds = b i; flows = f i; upperFlows = u i; reads = r i; writes = x i };
           rank = s .rank;
         }
@@ -76,13 +77,19 @@ module _ (s : Store) (before after : Slices) (h : Sound s) where
     keys-own : keysOf (map boundOf (take (length (s .problem .bounds)) (after .bounds))) ≡ take (length (s .problem .bounds)) (after .bounds)
     keys-own =
         let t = bounds-front (s .problem .bounds) (before .bounds) (after .bounds) (w .bounds-are) in
-        ap (λ (x : List ℕ). keysOf (map boundOf x)) t ∙ ap keysOf (table-back (s .problem .bounds) (held-keyed (s .classes .tables .names) (s .problem) (h .good .few) (h .held))) ∙ sym t
+        ap (λ (x : List ℕ). keysOf (map boundOf x)) t ∙ ap keysOf (table-back (s .problem .bounds) (held-keyed (shown s .tables .names) (s .problem) (h .good .few) (h .held))) ∙ sym t
 
     ready-of : length (s .last) ≤ 255 → Sized after → Ready after (numbersOf s)
     unfolding numbersOf
     ready-of e z =
         let sound : Sound (storeOf after (numbersOf s)) = subst Sound (sym store-of) h in
-        record { sized = z; within = within-of e; sound = sound; keeps = record { held = sound .held; keyed = keys-own } }
+        record {
+          sized = z;
+          within = within-of e;
+          sound = sound;
+          counted = ap (λ (x : Store). length (layerKeys (x .classes .top))) (sym store-of);
+          keeps = record { held = sound .held; keyed = keys-own };
+        }
 
   module _ (n : Numbers) (w : Shows s before after n) where
     -- as if the numbers were the state's own
@@ -102,6 +109,7 @@ module _ (s : Store) (before after : Slices) (h : Sound s) where
 abbrev NoName : Message → Type 0
 NoName (naming b) = ⊥
 NoName (recording f c ps) = Unit {0}
+NoName opening = Unit {0}
 NoName (row r) = Unit {0}
 NoName solving = Unit {0}
 NoName (asking q a b) = Unit {0}
@@ -119,8 +127,9 @@ module _ (s : Store) (h : length (s .last) ≤ 255) where
   unfolding accepted withMessage
   other-short rank (naming b) k = absurd k
   other-short rank (recording f c ps) k = h
+  other-short rank opening k = h
   other-short rank (row r) k = h
-  other-short rank solving k = solved-short rank (solve (stateWorld (s .classes)) (s .problem))
+  other-short rank solving k = solved-short rank (solve (stateWorld (shown s)) (s .problem))
   other-short rank (asking q a b) k = h
 
   name-short : (rank : ℕ) (b : List ℕ) → length b ≤ 255 → Short (accepted rank (naming b) s)
@@ -137,7 +146,8 @@ no-name k body e =
     subst (λ (t : Bool). NoName (cond t (naming body) rest)) (sym e)
     (by-if NoName (eqb k 2) _ _ (λ z. tt) (λ z. by-if NoName (eqb k 3) _ _ (λ z. tt) (λ z. by-if NoName (eqb k 4) _ _ (λ z. tt) (λ z. by-if NoName (eqb k 5) _ _ (λ z. tt)
     (λ z. by-if NoName (eqb k 6) _ _ (λ z. tt) (λ z. by-if NoName (eqb k 7) _ _ (λ z. tt) (λ z. by-if NoName (eqb k 8) _ _ (λ z. tt) (λ z. by-if NoName (eqb k 9) _ _ (λ z. tt)
-    (λ z. by-if NoName (eqb k 10) _ _ (λ z. tt) (λ z. by-if NoName (eqb k 11) _ _ (λ z. tt) (λ z. by-if NoName (eqb k 12) _ _ (λ z. tt) (λ z. tt))))))))))))
+    (λ z. by-if NoName (eqb k 10) _ _ (λ z. tt) (λ z. by-if NoName (eqb k 11) _ _ (λ z. tt) (λ z. by-if NoName (eqb k 12) _ _ (λ z. tt)
+    (λ z. by-if NoName (eqb k 13) _ _ (λ z. tt) (λ z. tt)))))))))))))
   where
     rest : Message
     rest =
@@ -151,12 +161,13 @@ no-name k body e =
         (cond (eqb k 9) (row (writing (numberAt 0 body) (numberAt 2 body)))
         (cond (eqb k 10) solving
         (cond (eqb k 11) (asking Relating (numberAt 0 body) (numberAt 2 body))
-        (cond (eqb k 12) (asking Supertyping (numberAt 0 body) (numberAt 2 body)) (asking Casting (numberAt 0 body) (numberAt 2 body))))))))))))
+        (cond (eqb k 12) (asking Supertyping (numberAt 0 body) (numberAt 2 body))
+        (cond (eqb k 13) (asking Casting (numberAt 0 body) (numberAt 2 body)) opening)))))))))))
 
 length-name : (k n : ℕ) → eqb k 1 ≡ true → goodLength k n ≡ true → n ≤ 255
 unfolding goodLength
 length-name k n e g =
-    let z = sym (ap (λ (t : Bool). cond t (leb 1 n && leb n 255) (cond (eqb k 2) (leb 3 n && (eqb (n % 2) 1 && leb n 511)) (cond (leb k 4) (eqb n 2) (cond (eqb k 5) (eqb n 11) (cond (eqb k 10) (eqb n 0) (eqb n 4)))))) e) ∙ g in
+    let z = sym (ap (λ (t : Bool). cond t (leb 1 n && leb n 255) (cond (eqb k 2) (leb 3 n && (eqb (n % 2) 1 && leb n 511)) (cond (leb k 4) (eqb n 2) (cond (eqb k 5) (eqb n 11) (cond (eqb k 10) (eqb n 0) (cond (eqb k 14) (eqb n 0) (eqb n 4))))))) e) ∙ g in
     leb-true n 255 (both (leb 1 n) (leb n 255) z .1)
 
 message-short : (k rank : ℕ) (body : List ℕ) (s : Store) → length (s .last) ≤ 255 → goodLength k (length body) ≡ true → Short (accepted rank (messageOf k body) s)

@@ -20,13 +20,13 @@ use Rattle.problems.specs.Kept.{problemOf}
 use Rattle.problemrows.specs.ProblemRows.{Ran, variableRefusal, variableRow, entryRow, pairRow, boundRow}
 use Rattle.problemrows.specs.Kept.{placed, flow-kept, upper-kept, read-kept, write-kept, variable-kept, bound-kept}
 use Rattle.frames.specs.Frames as frames
-use Rattle.frames.specs.Frames.{Store, Stepped, row, messageRefusal, stepped, accepted, withMessage, rankOf}
+use Rattle.frames.specs.Frames.{Store, shown, Stepped, row, messageRefusal, stepped, accepted, withMessage, rankOf}
 use Rattle.framestate.specs.declared.Numbers.{Numbers}
 use Rattle.framestate.specs.declared.Framed.{Framed}
 use Rattle.framestate.specs.declared.Said.the-variants.{Accepted, Refused}
 use Rattle.framestate.specs.FrameState.{Slices, storeOf, Ready, numbersOf, Shows, saidOf, answersAfter, Leaves, messageStep, variableNumbers, boundNumbers, flowNumbers, upperNumbers, readNumbers, writeNumbers, framed, taken}
 use Rattle.rowframes.specs.RowFrames.{RowFrames}
-use Rattle.frameleaves.specs.Own.{front-again, many, own-last, own-pairs, own-variables, own-bounds, own-flows, own-uppers, own-reads, own-writes, many-last, many-variables, many-bounds, many-flows, many-uppers, many-reads, many-writes, own-shows}
+use Rattle.frameleaves.specs.Own.{front-again, many, own-last, own-pairs, own-variables, own-bounds, own-flows, own-uppers, own-reads, own-writes, own-stack, many-last, many-variables, many-bounds, many-flows, many-uppers, many-reads, many-writes, own-shows}
 
 -- ---- a refused row leaves its entries
 
@@ -72,14 +72,14 @@ module _ (s : Store) (kind : ℕ) (r : ProblemRow) (k : ℕ) (q : Problem) where
   with-row : Store
   with-row = record { last = s .last; classes = s .classes; problem = q; rank = rankOf kind }
 
-  row-step : problemRow (s .classes .tables .names) r (s .problem) ≡ placed k q
+  row-step : problemRow (shown s .tables .names) r (s .problem) ≡ placed k q
       → messageStep kind (row r) s ≡ cond (eqb k 0) (stepped frames.Accepted with-row) (stepped (frames.Refused k) s)
   unfolding messageStep messageRefusal accepted withMessage problemRow with-row
   row-step e = ap (λ (z : Placed). cond (eqb (z .refusal) 0) (stepped frames.Accepted (record { last = s .last; classes = s .classes; problem = z .problem; rank = rankOf kind })) (stepped (frames.Refused (z .refusal)) s)) e
 
   -- accepted as the row says, or refused as it came
   pub row-leaves : (before after : Slices) (n m : Numbers) (answers : List ℕ) (f : Framed)
-      → problemRow (s .classes .tables .names) r (s .problem) ≡ placed k q → f ≡ taken k n m
+      → problemRow (shown s .tables .names) r (s .problem) ≡ placed k q → f ≡ taken k n m
       → (k ≡ 0 → Shows (record { last = s .last; classes = s .classes; problem = q; rank = rankOf kind }) before after m)
       → ((k ≡ 0 → ⊥) → Shows s before after n)
       → Leaves (messageStep kind (row r) s) before after answers answers f
@@ -118,13 +118,13 @@ module _ (l : Slices) (n : Numbers) (h : Ready l n) (answers : List ℕ) (r : Fr
       → Leaves (messageStep 4 (row (variable c)) (storeOf l n)) l (withVariables slice) answers answers r
   unfolding numbersOf
   variable-leaves c slice f =
-      let cm = variable-kept (n .tables .names) (n .components) (take (n .variables) (l .variables)) (take (n .bounds) (l .bounds)) (take (n .flows) (l .flows)) (take (n .uppers) (l .uppers)) (take (n .reads) (l .reads)) (take (n .writes) (l .writes)) (h .keeps) c in
+      let cm = variable-kept (n .stack .tables .names) (n .components) (take (n .variables) (l .variables)) (take (n .bounds) (l .bounds)) (take (n .flows) (l .flows)) (take (n .uppers) (l .uppers)) (take (n .reads) (l .reads)) (take (n .writes) (l .writes)) (h .keeps) c in
       row-leaves (storeOf l n) 4 (variable c) (variableRow (n .components) c (take (n .variables) (l .variables)) .refusal) (problemOf (n .components) (variableRow (n .components) c (take (n .variables) (l .variables)) .entries) (take (n .bounds) (l .bounds)) (take (n .flows) (l .flows)) (take (n .uppers) (l .uppers)) (take (n .reads) (l .reads)) (take (n .writes) (l .writes))) l (withVariables slice) n (variableNumbers n (length (variableRow (n .components) c (take (n .variables) (l .variables)) .entries))) answers r (cm .same) (f .result)
       (λ z. (
-      let la = many-last l n h in let v1 = many-bounds l n h in let v2 = many-flows l n h in let v3 = many-uppers l n h in let v4 = many-reads l n h in let v5 = many-writes l n h in
+      let st = own-stack l n h in let la = many-last l n h in let v1 = many-bounds l n h in let v2 = many-flows l n h in let v3 = many-uppers l n h in let v4 = many-reads l n h in let v5 = many-writes l n h in
       let cn : length (variableRow (n .components) c (take (n .variables) (l .variables)) .entries) ≡ length (problemOf (n .components) (variableRow (n .components) c (take (n .variables) (l .variables)) .entries) (take (n .bounds) (l .bounds)) (take (n .flows) (l .flows)) (take (n .uppers) (l .uppers)) (take (n .reads) (l .reads)) (take (n .writes) (l .writes)) .variables) = let z : _≡_ {A = ℕ} (length (variableRow (n .components) c (take (n .variables) (l .variables)) .entries)) (length (variableRow (n .components) c (take (n .variables) (l .variables)) .entries)) = refl in z in
       record {
-        numbers-are = λ i. record { tables = n .tables; last = la i; components = n .components; variables = cn i; bounds = v1 i; flows = v2 i; uppers = v3 i; reads = v4 i; writes = v5 i; rank = 4 };
+        numbers-are = λ i. record { stack = st i; last = la i; components = n .components; variables = cn i; bounds = v1 i; flows = v2 i; uppers = v3 i; reads = v4 i; writes = v5 i; rank = 4 };
         last-is = own-last l n h;
         pairs-are = own-pairs l n h;
         marks-are = refl;
@@ -138,17 +138,17 @@ module _ (l : Slices) (n : Numbers) (h : Ready l n) (answers : List ℕ) (r : Fr
       (λ z. subst (λ (x : List ℕ). Shows (storeOf l n) l (withVariables x) n) (sym (f .entries-are ∙ ap (λ (x : List ℕ). filled x (l .variables)) (variable-stays (n .components) c (take (n .variables) (l .variables)) z) ∙ sym (front-again (n .variables) (l .variables) _ (h .sized .variables) (h .within .variables)))) (own-shows l n h))
 
   -- 05
-  pub bound-leaves : (c k w : ℕ) (fits : w < 2 ^ 64) (slice : List ℕ) → RowFrames (boundRow (n .tables .names) (n .components) c k w (take (n .bounds) (l .bounds))) (l .bounds) slice n (boundNumbers n) r
+  pub bound-leaves : (c k w : ℕ) (fits : w < 2 ^ 64) (slice : List ℕ) → RowFrames (boundRow (n .stack .tables .names) (n .components) c k w (take (n .bounds) (l .bounds))) (l .bounds) slice n (boundNumbers n) r
       → Leaves (messageStep 5 (row (bounded c k w)) (storeOf l n)) l (withBounds slice) answers answers r
   unfolding numbersOf
   bound-leaves c k w fits slice f =
-      let cm = bound-kept (n .tables .names) (n .components) (take (n .variables) (l .variables)) (take (n .bounds) (l .bounds)) (take (n .flows) (l .flows)) (take (n .uppers) (l .uppers)) (take (n .reads) (l .reads)) (take (n .writes) (l .writes)) (h .keeps) (h .sound .good .few) c k w fits in
-      row-leaves (storeOf l n) 5 (bounded c k w) (boundRow (n .tables .names) (n .components) c k w (take (n .bounds) (l .bounds)) .refusal) (problemOf (n .components) (take (n .variables) (l .variables)) (boundRow (n .tables .names) (n .components) c k w (take (n .bounds) (l .bounds)) .entries) (take (n .flows) (l .flows)) (take (n .uppers) (l .uppers)) (take (n .reads) (l .reads)) (take (n .writes) (l .writes))) l (withBounds slice) n (boundNumbers n (length (boundRow (n .tables .names) (n .components) c k w (take (n .bounds) (l .bounds)) .entries))) answers r (cm .same) (f .result)
+      let cm = bound-kept (n .stack .tables .names) (n .components) (take (n .variables) (l .variables)) (take (n .bounds) (l .bounds)) (take (n .flows) (l .flows)) (take (n .uppers) (l .uppers)) (take (n .reads) (l .reads)) (take (n .writes) (l .writes)) (h .keeps) (h .sound .good .few) c k w fits in
+      row-leaves (storeOf l n) 5 (bounded c k w) (boundRow (n .stack .tables .names) (n .components) c k w (take (n .bounds) (l .bounds)) .refusal) (problemOf (n .components) (take (n .variables) (l .variables)) (boundRow (n .stack .tables .names) (n .components) c k w (take (n .bounds) (l .bounds)) .entries) (take (n .flows) (l .flows)) (take (n .uppers) (l .uppers)) (take (n .reads) (l .reads)) (take (n .writes) (l .writes))) l (withBounds slice) n (boundNumbers n (length (boundRow (n .stack .tables .names) (n .components) c k w (take (n .bounds) (l .bounds)) .entries))) answers r (cm .same) (f .result)
       (λ z. (
-      let la = many-last l n h in let v0 = many-variables l n h in let v2 = many-flows l n h in let v3 = many-uppers l n h in let v4 = many-reads l n h in let v5 = many-writes l n h in
-      let cn : length (boundRow (n .tables .names) (n .components) c k w (take (n .bounds) (l .bounds)) .entries) ≡ length (problemOf (n .components) (take (n .variables) (l .variables)) (boundRow (n .tables .names) (n .components) c k w (take (n .bounds) (l .bounds)) .entries) (take (n .flows) (l .flows)) (take (n .uppers) (l .uppers)) (take (n .reads) (l .reads)) (take (n .writes) (l .writes)) .bounds) = sym (length-map (boundRow (n .tables .names) (n .components) c k w (take (n .bounds) (l .bounds)) .entries) boundOf) in
+      let st = own-stack l n h in let la = many-last l n h in let v0 = many-variables l n h in let v2 = many-flows l n h in let v3 = many-uppers l n h in let v4 = many-reads l n h in let v5 = many-writes l n h in
+      let cn : length (boundRow (n .stack .tables .names) (n .components) c k w (take (n .bounds) (l .bounds)) .entries) ≡ length (problemOf (n .components) (take (n .variables) (l .variables)) (boundRow (n .stack .tables .names) (n .components) c k w (take (n .bounds) (l .bounds)) .entries) (take (n .flows) (l .flows)) (take (n .uppers) (l .uppers)) (take (n .reads) (l .reads)) (take (n .writes) (l .writes)) .bounds) = sym (length-map (boundRow (n .stack .tables .names) (n .components) c k w (take (n .bounds) (l .bounds)) .entries) boundOf) in
       record {
-        numbers-are = λ i. record { tables = n .tables; last = la i; components = n .components; variables = v0 i; bounds = cn i; flows = v2 i; uppers = v3 i; reads = v4 i; writes = v5 i; rank = 5 };
+        numbers-are = λ i. record { stack = st i; last = la i; components = n .components; variables = v0 i; bounds = cn i; flows = v2 i; uppers = v3 i; reads = v4 i; writes = v5 i; rank = 5 };
         last-is = own-last l n h;
         pairs-are = own-pairs l n h;
         marks-are = refl;
@@ -159,20 +159,20 @@ module _ (l : Slices) (n : Numbers) (h : Ready l n) (answers : List ℕ) (r : Fr
         reads-are = own-reads l n h;
         writes-are = own-writes l n h;
       }))
-      (λ z. subst (λ (x : List ℕ). Shows (storeOf l n) l (withBounds x) n) (sym (f .entries-are ∙ ap (λ (x : List ℕ). filled x (l .bounds)) (bound-stays (n .tables .names) (n .components) c k w (take (n .bounds) (l .bounds)) z) ∙ sym (front-again (n .bounds) (l .bounds) _ (h .sized .bounds) (h .within .bounds)))) (own-shows l n h))
+      (λ z. subst (λ (x : List ℕ). Shows (storeOf l n) l (withBounds x) n) (sym (f .entries-are ∙ ap (λ (x : List ℕ). filled x (l .bounds)) (bound-stays (n .stack .tables .names) (n .components) c k w (take (n .bounds) (l .bounds)) z) ∙ sym (front-again (n .bounds) (l .bounds) _ (h .sized .bounds) (h .within .bounds)))) (own-shows l n h))
 
   -- 06
   pub flow-leaves : (a b : ℕ) (slice : List ℕ) → RowFrames (pairRow (n .components) 2048 a b (take (n .flows) (l .flows))) (l .flows) slice n (flowNumbers n) r
       → Leaves (messageStep 6 (row (flow a b)) (storeOf l n)) l (withFlows slice) answers answers r
   unfolding numbersOf
   flow-leaves a b slice f =
-      let cm = flow-kept (n .tables .names) (n .components) (take (n .variables) (l .variables)) (take (n .bounds) (l .bounds)) (take (n .flows) (l .flows)) (take (n .uppers) (l .uppers)) (take (n .reads) (l .reads)) (take (n .writes) (l .writes)) (h .keeps) a b in
+      let cm = flow-kept (n .stack .tables .names) (n .components) (take (n .variables) (l .variables)) (take (n .bounds) (l .bounds)) (take (n .flows) (l .flows)) (take (n .uppers) (l .uppers)) (take (n .reads) (l .reads)) (take (n .writes) (l .writes)) (h .keeps) a b in
       row-leaves (storeOf l n) 6 (flow a b) (pairRow (n .components) 2048 a b (take (n .flows) (l .flows)) .refusal) (problemOf (n .components) (take (n .variables) (l .variables)) (take (n .bounds) (l .bounds)) (pairRow (n .components) 2048 a b (take (n .flows) (l .flows)) .entries) (take (n .uppers) (l .uppers)) (take (n .reads) (l .reads)) (take (n .writes) (l .writes))) l (withFlows slice) n (flowNumbers n (length (pairRow (n .components) 2048 a b (take (n .flows) (l .flows)) .entries))) answers r (cm .same) (f .result)
       (λ z. (
-      let la = many-last l n h in let v0 = many-variables l n h in let v1 = many-bounds l n h in let v3 = many-uppers l n h in let v4 = many-reads l n h in let v5 = many-writes l n h in
+      let st = own-stack l n h in let la = many-last l n h in let v0 = many-variables l n h in let v1 = many-bounds l n h in let v3 = many-uppers l n h in let v4 = many-reads l n h in let v5 = many-writes l n h in
       let cn : length (pairRow (n .components) 2048 a b (take (n .flows) (l .flows)) .entries) ≡ length (problemOf (n .components) (take (n .variables) (l .variables)) (take (n .bounds) (l .bounds)) (pairRow (n .components) 2048 a b (take (n .flows) (l .flows)) .entries) (take (n .uppers) (l .uppers)) (take (n .reads) (l .reads)) (take (n .writes) (l .writes)) .flows) = sym (length-map (pairRow (n .components) 2048 a b (take (n .flows) (l .flows)) .entries) pairOf) in
       record {
-        numbers-are = λ i. record { tables = n .tables; last = la i; components = n .components; variables = v0 i; bounds = v1 i; flows = cn i; uppers = v3 i; reads = v4 i; writes = v5 i; rank = 6 };
+        numbers-are = λ i. record { stack = st i; last = la i; components = n .components; variables = v0 i; bounds = v1 i; flows = cn i; uppers = v3 i; reads = v4 i; writes = v5 i; rank = 6 };
         last-is = own-last l n h;
         pairs-are = own-pairs l n h;
         marks-are = refl;
@@ -190,13 +190,13 @@ module _ (l : Slices) (n : Numbers) (h : Ready l n) (answers : List ℕ) (r : Fr
       → Leaves (messageStep 7 (row (upperFlow a b)) (storeOf l n)) l (withUppers slice) answers answers r
   unfolding numbersOf
   upper-leaves a b slice f =
-      let cm = upper-kept (n .tables .names) (n .components) (take (n .variables) (l .variables)) (take (n .bounds) (l .bounds)) (take (n .flows) (l .flows)) (take (n .uppers) (l .uppers)) (take (n .reads) (l .reads)) (take (n .writes) (l .writes)) (h .keeps) a b in
+      let cm = upper-kept (n .stack .tables .names) (n .components) (take (n .variables) (l .variables)) (take (n .bounds) (l .bounds)) (take (n .flows) (l .flows)) (take (n .uppers) (l .uppers)) (take (n .reads) (l .reads)) (take (n .writes) (l .writes)) (h .keeps) a b in
       row-leaves (storeOf l n) 7 (upperFlow a b) (pairRow (n .components) 1024 a b (take (n .uppers) (l .uppers)) .refusal) (problemOf (n .components) (take (n .variables) (l .variables)) (take (n .bounds) (l .bounds)) (take (n .flows) (l .flows)) (pairRow (n .components) 1024 a b (take (n .uppers) (l .uppers)) .entries) (take (n .reads) (l .reads)) (take (n .writes) (l .writes))) l (withUppers slice) n (upperNumbers n (length (pairRow (n .components) 1024 a b (take (n .uppers) (l .uppers)) .entries))) answers r (cm .same) (f .result)
       (λ z. (
-      let la = many-last l n h in let v0 = many-variables l n h in let v1 = many-bounds l n h in let v2 = many-flows l n h in let v4 = many-reads l n h in let v5 = many-writes l n h in
+      let st = own-stack l n h in let la = many-last l n h in let v0 = many-variables l n h in let v1 = many-bounds l n h in let v2 = many-flows l n h in let v4 = many-reads l n h in let v5 = many-writes l n h in
       let cn : length (pairRow (n .components) 1024 a b (take (n .uppers) (l .uppers)) .entries) ≡ length (problemOf (n .components) (take (n .variables) (l .variables)) (take (n .bounds) (l .bounds)) (take (n .flows) (l .flows)) (pairRow (n .components) 1024 a b (take (n .uppers) (l .uppers)) .entries) (take (n .reads) (l .reads)) (take (n .writes) (l .writes)) .upperFlows) = sym (length-map (pairRow (n .components) 1024 a b (take (n .uppers) (l .uppers)) .entries) pairOf) in
       record {
-        numbers-are = λ i. record { tables = n .tables; last = la i; components = n .components; variables = v0 i; bounds = v1 i; flows = v2 i; uppers = cn i; reads = v4 i; writes = v5 i; rank = 7 };
+        numbers-are = λ i. record { stack = st i; last = la i; components = n .components; variables = v0 i; bounds = v1 i; flows = v2 i; uppers = cn i; reads = v4 i; writes = v5 i; rank = 7 };
         last-is = own-last l n h;
         pairs-are = own-pairs l n h;
         marks-are = refl;
@@ -215,13 +215,13 @@ module _ (l : Slices) (n : Numbers) (h : Ready l n) (answers : List ℕ) (r : Fr
   unfolding numbersOf
   read-leaves a b slice given =
       let f = subst (λ (x : ℕ). RowFrames (pairRow (n .components) (1024 - x) a b (take (n .reads) (l .reads))) (l .reads) slice n (readNumbers n) r) (many (n .writes) (l .writes) 1024 (h .sized .writes) (h .within .writes)) given in
-      let cm = read-kept (n .tables .names) (n .components) (take (n .variables) (l .variables)) (take (n .bounds) (l .bounds)) (take (n .flows) (l .flows)) (take (n .uppers) (l .uppers)) (take (n .reads) (l .reads)) (take (n .writes) (l .writes)) (h .keeps) a b in
+      let cm = read-kept (n .stack .tables .names) (n .components) (take (n .variables) (l .variables)) (take (n .bounds) (l .bounds)) (take (n .flows) (l .flows)) (take (n .uppers) (l .uppers)) (take (n .reads) (l .reads)) (take (n .writes) (l .writes)) (h .keeps) a b in
       row-leaves (storeOf l n) 8 (reading a b) (pairRow (n .components) (1024 - length (take (n .writes) (l .writes))) a b (take (n .reads) (l .reads)) .refusal) (problemOf (n .components) (take (n .variables) (l .variables)) (take (n .bounds) (l .bounds)) (take (n .flows) (l .flows)) (take (n .uppers) (l .uppers)) (pairRow (n .components) (1024 - length (take (n .writes) (l .writes))) a b (take (n .reads) (l .reads)) .entries) (take (n .writes) (l .writes))) l (withReads slice) n (readNumbers n (length (pairRow (n .components) (1024 - length (take (n .writes) (l .writes))) a b (take (n .reads) (l .reads)) .entries))) answers r (cm .same) (f .result)
       (λ z. (
-      let la = many-last l n h in let v0 = many-variables l n h in let v1 = many-bounds l n h in let v2 = many-flows l n h in let v3 = many-uppers l n h in let v5 = many-writes l n h in
+      let st = own-stack l n h in let la = many-last l n h in let v0 = many-variables l n h in let v1 = many-bounds l n h in let v2 = many-flows l n h in let v3 = many-uppers l n h in let v5 = many-writes l n h in
       let cn : length (pairRow (n .components) (1024 - length (take (n .writes) (l .writes))) a b (take (n .reads) (l .reads)) .entries) ≡ length (problemOf (n .components) (take (n .variables) (l .variables)) (take (n .bounds) (l .bounds)) (take (n .flows) (l .flows)) (take (n .uppers) (l .uppers)) (pairRow (n .components) (1024 - length (take (n .writes) (l .writes))) a b (take (n .reads) (l .reads)) .entries) (take (n .writes) (l .writes)) .reads) = sym (length-map (pairRow (n .components) (1024 - length (take (n .writes) (l .writes))) a b (take (n .reads) (l .reads)) .entries) pairOf) in
       record {
-        numbers-are = λ i. record { tables = n .tables; last = la i; components = n .components; variables = v0 i; bounds = v1 i; flows = v2 i; uppers = v3 i; reads = cn i; writes = v5 i; rank = 8 };
+        numbers-are = λ i. record { stack = st i; last = la i; components = n .components; variables = v0 i; bounds = v1 i; flows = v2 i; uppers = v3 i; reads = cn i; writes = v5 i; rank = 8 };
         last-is = own-last l n h;
         pairs-are = own-pairs l n h;
         marks-are = refl;
@@ -240,13 +240,13 @@ module _ (l : Slices) (n : Numbers) (h : Ready l n) (answers : List ℕ) (r : Fr
   unfolding numbersOf
   write-leaves a b slice given =
       let f = subst (λ (x : ℕ). RowFrames (pairRow (n .components) (1024 - x) a b (take (n .writes) (l .writes))) (l .writes) slice n (writeNumbers n) r) (many (n .reads) (l .reads) 1024 (h .sized .reads) (h .within .reads)) given in
-      let cm = write-kept (n .tables .names) (n .components) (take (n .variables) (l .variables)) (take (n .bounds) (l .bounds)) (take (n .flows) (l .flows)) (take (n .uppers) (l .uppers)) (take (n .reads) (l .reads)) (take (n .writes) (l .writes)) (h .keeps) a b in
+      let cm = write-kept (n .stack .tables .names) (n .components) (take (n .variables) (l .variables)) (take (n .bounds) (l .bounds)) (take (n .flows) (l .flows)) (take (n .uppers) (l .uppers)) (take (n .reads) (l .reads)) (take (n .writes) (l .writes)) (h .keeps) a b in
       row-leaves (storeOf l n) 9 (writing a b) (pairRow (n .components) (1024 - length (take (n .reads) (l .reads))) a b (take (n .writes) (l .writes)) .refusal) (problemOf (n .components) (take (n .variables) (l .variables)) (take (n .bounds) (l .bounds)) (take (n .flows) (l .flows)) (take (n .uppers) (l .uppers)) (take (n .reads) (l .reads)) (pairRow (n .components) (1024 - length (take (n .reads) (l .reads))) a b (take (n .writes) (l .writes)) .entries)) l (withWrites slice) n (writeNumbers n (length (pairRow (n .components) (1024 - length (take (n .reads) (l .reads))) a b (take (n .writes) (l .writes)) .entries))) answers r (cm .same) (f .result)
       (λ z. (
-      let la = many-last l n h in let v0 = many-variables l n h in let v1 = many-bounds l n h in let v2 = many-flows l n h in let v3 = many-uppers l n h in let v4 = many-reads l n h in
+      let st = own-stack l n h in let la = many-last l n h in let v0 = many-variables l n h in let v1 = many-bounds l n h in let v2 = many-flows l n h in let v3 = many-uppers l n h in let v4 = many-reads l n h in
       let cn : length (pairRow (n .components) (1024 - length (take (n .reads) (l .reads))) a b (take (n .writes) (l .writes)) .entries) ≡ length (problemOf (n .components) (take (n .variables) (l .variables)) (take (n .bounds) (l .bounds)) (take (n .flows) (l .flows)) (take (n .uppers) (l .uppers)) (take (n .reads) (l .reads)) (pairRow (n .components) (1024 - length (take (n .reads) (l .reads))) a b (take (n .writes) (l .writes)) .entries) .writes) = sym (length-map (pairRow (n .components) (1024 - length (take (n .reads) (l .reads))) a b (take (n .writes) (l .writes)) .entries) pairOf) in
       record {
-        numbers-are = λ i. record { tables = n .tables; last = la i; components = n .components; variables = v0 i; bounds = v1 i; flows = v2 i; uppers = v3 i; reads = v4 i; writes = cn i; rank = 9 };
+        numbers-are = λ i. record { stack = st i; last = la i; components = n .components; variables = v0 i; bounds = v1 i; flows = v2 i; uppers = v3 i; reads = v4 i; writes = cn i; rank = 9 };
         last-is = own-last l n h;
         pairs-are = own-pairs l n h;
         marks-are = refl;

@@ -8,11 +8,14 @@ use lib.ListN.{length, take, length-map}
 use lib.Seq.{length-take-le}
 use Rattle.rows.specs.Rows.{filled}
 use Rattle.rows.specs.Keys.{filled-same}
+use Rattle.layers.specs.Layers.{layersRoom}
+use Rattle.layers.specs.Stacks.{numbersOf as stackNumbers, Holds}
 use Rattle.solving.specs.TableKeys.{keysOf, boundOf}
 use Rattle.solving.specs.LinkKeys.{pairOf}
 use Rattle.problems.specs.Stored.{pairKey, keys-back}
 use Rattle.frames.specs.Frames as frames
 use Rattle.frames.specs.Frames.{stepped}
+use Rattle.framelaws.specs.Reached.{sound-room}
 use Rattle.framestate.specs.declared.Numbers.{Numbers}
 use Rattle.framestate.specs.declared.Said.the-variants.{Refused}
 use Rattle.framestate.specs.FrameState.{Slices, storeOf, Ready, numbersOf, Shows, saidOf, answersAfter, Leaves, framed}
@@ -31,8 +34,8 @@ module _ (l : Slices) (n : Numbers) (h : Ready l n) where
   pub own-last : l .last ≡ filled (take (n .last) (l .last)) (l .last)
   own-last = front-again (n .last) (l .last) 255 (h .sized .last) (h .within .last)
 
-  pub own-pairs : l .pairs ≡ filled (take (n .tables .pairs) (l .pairs)) (l .pairs)
-  own-pairs = let a = h .sound .good .counted in let b = h .sound .good .room in front-again (n .tables .pairs) (l .pairs) 4096 (h .sized .pairs) (omega arith)
+  pub own-pairs : l .pairs ≡ filled (take (n .stack .tables .pairs) (l .pairs)) (l .pairs)
+  own-pairs = front-again (n .stack .tables .pairs) (l .pairs) layersRoom (h .sized .pairs) (omega (arith, h .sound .good .counted, sound-room (storeOf l n) (h .sound)))
 
   pub own-variables : l .variables ≡ filled (take (n .variables) (l .variables)) (l .variables)
   own-variables = front-again (n .variables) (l .variables) 2048 (h .sized .variables) (h .within .variables)
@@ -51,6 +54,14 @@ module _ (l : Slices) (n : Numbers) (h : Ready l n) where
 
   pub own-writes : l .writes ≡ filled (map pairKey (map pairOf (take (n .writes) (l .writes)))) (l .writes)
   own-writes = pairs-again (n .writes) (l .writes) 1024 (h .sized .writes) (h .within .writes)
+
+  -- THE LAYERS STAND IN THE SLICES
+  pub own-layers : Holds (l .pairs) (l .marks) (n .stack)
+  own-layers = record { long = h .sized .pairs; upright = h .sound .good; layer-counted = h .counted }
+
+  -- and their numbers are the layers' own
+  pub own-stack : n .stack ≡ stackNumbers (storeOf l n .classes)
+  own-stack = λ i. record { tables = n .stack .tables; layer = record { own = n .stack .layer .own; keys = (h .counted) i }; under = n .stack .under }
 
   -- how many there are
   pub many-last : n .last ≡ length (take (n .last) (l .last))
@@ -78,9 +89,9 @@ module _ (l : Slices) (n : Numbers) (h : Ready l n) where
   pub own-shows : Shows (storeOf l n) l l n
   unfolding numbersOf
   own-shows =
-      let a = many-last in let v = many-variables in let b = many-bounds in let f = many-flows in let u = many-uppers in let r = many-reads in let w = many-writes in
+      let t = own-stack in let a = many-last in let v = many-variables in let b = many-bounds in let f = many-flows in let u = many-uppers in let r = many-reads in let w = many-writes in
       record {
-        numbers-are = λ i. record { tables = n .tables; last = a i; components = n .components; variables = v i; bounds = b i; flows = f i; uppers = u i; reads = r i; writes = w i; rank = n .rank };
+        numbers-are = λ i. record { stack = t i; last = a i; components = n .components; variables = v i; bounds = b i; flows = f i; uppers = u i; reads = r i; writes = w i; rank = n .rank };
         last-is = own-last;
         pairs-are = own-pairs;
         marks-are = refl;

@@ -8,14 +8,17 @@ use lib.Dec.{eqb}
 use lib.ListN.{length, take}
 use Rattle.view.specs.View.{numberOf}
 use Rattle.tables.specs.declared.Tables.{Tables}
-use Rattle.tables.specs.Table.{marksRoom, pairsRoom}
-use Rattle.rows.specs.Rows.{filled, stateOf}
+use Rattle.tables.specs.Table.{marksRoom}
+use Rattle.rows.specs.Rows.{filled}
+use Rattle.layers.specs.declared.StackTables.{StackTables}
+use Rattle.layers.specs.Layers.{layersRoom, layerKeys}
+use Rattle.layers.specs.Stacks.{stackOf, numbersOf as stackNumbers}
 use Rattle.solving.specs.TableKeys.{keysOf}
 use Rattle.problems.specs.Stored.{pairKey}
 use Rattle.problems.specs.Kept.{problemOf, Keeps}
 use Rattle.answering.specs.Answering.{answerWord}
 use Rattle.frames.specs.Frames as frames
-use Rattle.frames.specs.Frames.{Store, Stepped, Message, messageRefusal, stepped, accepted, rankOf}
+use Rattle.frames.specs.Frames.{Store, shown, Stepped, Message, messageRefusal, stepped, accepted, rankOf}
 use Rattle.framelaws.specs.Reached.{Sound}
 use Rattle.framestate.specs.declared.Numbers.{Numbers}
 use Rattle.framestate.specs.declared.Said.{Said}
@@ -37,7 +40,7 @@ pub record Slices : Type 0 where
 abbrev pub storeOf : Slices → Numbers → Store
 storeOf l n = record {
   last = take (n .last) (l .last);
-  classes = stateOf (l .pairs) (l .marks) (n .tables);
+  classes = stackOf (l .pairs) (l .marks) (n .stack);
   problem = problemOf (n .components) (take (n .variables) (l .variables)) (take (n .bounds) (l .bounds)) (take (n .flows) (l .flows)) (take (n .uppers) (l .uppers)) (take (n .reads) (l .reads)) (take (n .writes) (l .writes));
   rank = n .rank;
 }
@@ -45,7 +48,7 @@ storeOf l n = record {
 -- how long the slices are
 pub record Sized (l : Slices) : Type 0 where
   pub last : length (l .last) ≡ 255
-  pub pairs : length (l .pairs) ≡ pairsRoom
+  pub pairs : length (l .pairs) ≡ layersRoom
   pub marks : length (l .marks) ≡ marksRoom
   pub variables : length (l .variables) ≡ 2048
   pub bounds : length (l .bounds) ≡ 4096
@@ -69,14 +72,16 @@ pub record Ready (l : Slices) (n : Numbers) : Type 0 where
   pub sized : Sized l
   pub within : Within n
   pub sound : Sound (storeOf l n)
+  -- the keys of the topmost layer are counted
+  pub counted : n .stack .layer .keys ≡ length (layerKeys (storeOf l n .classes .top))
   -- the keys of the bounds are their own
-  pub keeps : Keeps (n .tables .names) (n .components) (take (n .variables) (l .variables)) (take (n .bounds) (l .bounds)) (take (n .flows) (l .flows)) (take (n .uppers) (l .uppers)) (take (n .reads) (l .reads)) (take (n .writes) (l .writes))
+  pub keeps : Keeps (n .stack .tables .names) (n .components) (take (n .variables) (l .variables)) (take (n .bounds) (l .bounds)) (take (n .flows) (l .flows)) (take (n .uppers) (l .uppers)) (take (n .reads) (l .reads)) (take (n .writes) (l .writes))
 
 -- ---- what a frame leaves
 
 unfoldable pub numbersOf : Store → Numbers
 numbersOf s = record {
-  tables = s .classes .tables;
+  stack = stackNumbers (s .classes);
   last = length (s .last);
   components = s .problem .components;
   variables = length (s .problem .variables);
@@ -92,8 +97,8 @@ numbersOf s = record {
 pub record Shows (s : Store) (before after : Slices) (n : Numbers) : Type 0 where
   pub numbers-are : n ≡ numbersOf s
   pub last-is : after .last ≡ filled (s .last) (before .last)
-  pub pairs-are : after .pairs ≡ filled (s .classes .keys) (before .pairs)
-  pub marks-are : after .marks ≡ s .classes .marks
+  pub pairs-are : after .pairs ≡ filled (shown s .keys) (before .pairs)
+  pub marks-are : after .marks ≡ shown s .marks
   pub variables-are : after .variables ≡ filled (s .problem .variables) (before .variables)
   pub bounds-are : after .bounds ≡ filled (keysOf (s .problem .bounds)) (before .bounds)
   pub flows-are : after .flows ≡ filled (map pairKey (s .problem .flows)) (before .flows)
@@ -132,37 +137,37 @@ messageStep k m s = cond (eqb (messageRefusal m s) 0) (accepted (rankOf k) m s) 
 
 -- after a name: its length, the tables with it
 abbrev pub nameNumbers : Numbers → ℕ → Tables → Numbers
-nameNumbers n last tables = record { tables = tables; last = last; components = n .components; variables = n .variables; bounds = n .bounds; flows = n .flows; uppers = n .uppers; reads = n .reads; writes = n .writes; rank = 1 }
+nameNumbers n last tables = record { stack = record { tables = tables; layer = n .stack .layer; under = n .stack .under }; last = last; components = n .components; variables = n .variables; bounds = n .bounds; flows = n .flows; uppers = n .uppers; reads = n .reads; writes = n .writes; rank = 1 }
 
--- after a record
-abbrev pub recordNumbers : Numbers → Tables → Numbers
-recordNumbers n tables = record { tables = tables; last = n .last; components = n .components; variables = n .variables; bounds = n .bounds; flows = n .flows; uppers = n .uppers; reads = n .reads; writes = n .writes; rank = 2 }
+-- after a record, and where a layer was opened
+abbrev pub recordNumbers : Numbers → StackTables → Numbers
+recordNumbers n stack = record { stack = stack; last = n .last; components = n .components; variables = n .variables; bounds = n .bounds; flows = n .flows; uppers = n .uppers; reads = n .reads; writes = n .writes; rank = 2 }
 
 -- after the count of components, and after a row of each kind, how many there are
 abbrev pub countNumbers : Numbers → ℕ → Numbers
-countNumbers n components = record { tables = n .tables; last = n .last; components = components; variables = n .variables; bounds = n .bounds; flows = n .flows; uppers = n .uppers; reads = n .reads; writes = n .writes; rank = 3 }
+countNumbers n components = record { stack = n .stack; last = n .last; components = components; variables = n .variables; bounds = n .bounds; flows = n .flows; uppers = n .uppers; reads = n .reads; writes = n .writes; rank = 3 }
 
 abbrev pub variableNumbers : Numbers → ℕ → Numbers
-variableNumbers n count = record { tables = n .tables; last = n .last; components = n .components; variables = count; bounds = n .bounds; flows = n .flows; uppers = n .uppers; reads = n .reads; writes = n .writes; rank = 4 }
+variableNumbers n count = record { stack = n .stack; last = n .last; components = n .components; variables = count; bounds = n .bounds; flows = n .flows; uppers = n .uppers; reads = n .reads; writes = n .writes; rank = 4 }
 
 abbrev pub boundNumbers : Numbers → ℕ → Numbers
-boundNumbers n count = record { tables = n .tables; last = n .last; components = n .components; variables = n .variables; bounds = count; flows = n .flows; uppers = n .uppers; reads = n .reads; writes = n .writes; rank = 5 }
+boundNumbers n count = record { stack = n .stack; last = n .last; components = n .components; variables = n .variables; bounds = count; flows = n .flows; uppers = n .uppers; reads = n .reads; writes = n .writes; rank = 5 }
 
 abbrev pub flowNumbers : Numbers → ℕ → Numbers
-flowNumbers n count = record { tables = n .tables; last = n .last; components = n .components; variables = n .variables; bounds = n .bounds; flows = count; uppers = n .uppers; reads = n .reads; writes = n .writes; rank = 6 }
+flowNumbers n count = record { stack = n .stack; last = n .last; components = n .components; variables = n .variables; bounds = n .bounds; flows = count; uppers = n .uppers; reads = n .reads; writes = n .writes; rank = 6 }
 
 abbrev pub upperNumbers : Numbers → ℕ → Numbers
-upperNumbers n count = record { tables = n .tables; last = n .last; components = n .components; variables = n .variables; bounds = n .bounds; flows = n .flows; uppers = count; reads = n .reads; writes = n .writes; rank = 7 }
+upperNumbers n count = record { stack = n .stack; last = n .last; components = n .components; variables = n .variables; bounds = n .bounds; flows = n .flows; uppers = count; reads = n .reads; writes = n .writes; rank = 7 }
 
 abbrev pub readNumbers : Numbers → ℕ → Numbers
-readNumbers n count = record { tables = n .tables; last = n .last; components = n .components; variables = n .variables; bounds = n .bounds; flows = n .flows; uppers = n .uppers; reads = count; writes = n .writes; rank = 8 }
+readNumbers n count = record { stack = n .stack; last = n .last; components = n .components; variables = n .variables; bounds = n .bounds; flows = n .flows; uppers = n .uppers; reads = count; writes = n .writes; rank = 8 }
 
 abbrev pub writeNumbers : Numbers → ℕ → Numbers
-writeNumbers n count = record { tables = n .tables; last = n .last; components = n .components; variables = n .variables; bounds = n .bounds; flows = n .flows; uppers = n .uppers; reads = n .reads; writes = count; rank = 9 }
+writeNumbers n count = record { stack = n .stack; last = n .last; components = n .components; variables = n .variables; bounds = n .bounds; flows = n .flows; uppers = n .uppers; reads = n .reads; writes = count; rank = 9 }
 
 -- after a question or a solve
 abbrev pub askNumbers : Numbers → Numbers
-askNumbers n = record { tables = n .tables; last = n .last; components = n .components; variables = n .variables; bounds = n .bounds; flows = n .flows; uppers = n .uppers; reads = n .reads; writes = n .writes; rank = 10 }
+askNumbers n = record { stack = n .stack; last = n .last; components = n .components; variables = n .variables; bounds = n .bounds; flows = n .flows; uppers = n .uppers; reads = n .reads; writes = n .writes; rank = 10 }
 
 abbrev pub framed : Said → Numbers → Framed
 framed said n = record { said = said; numbers = n }

@@ -1,12 +1,13 @@
 // The state that hex frames build up, as lent slices and one struct of numbers, and what a frame comes to.
+use layers::StackTables;
 use tables::Tables;
 ghost use mathlib.Core.Path.{_≡_};
 ghost use Rattle.framestate.specs.declared.Said.the-variants.{Accepted, Refused};
 ghost use Rattle.framestate.specs.FrameState.{nameNumbers, recordNumbers, countNumbers, variableNumbers, boundNumbers, flowNumbers, upperNumbers, readNumbers, writeNumbers, askNumbers, framed};
 
-// The numbers of a state: of the class tables, how long the last name is, how many components and entries there are, the highest kind accepted.
+// The numbers of a state: of the layers of class tables, how long the last name is, how many components and entries there are, the highest kind accepted.
 pub struct Numbers {
-    pub tables: Tables,
+    pub stack: StackTables,
     pub last: usize,
     pub components: u64,
     pub variables: usize,
@@ -57,8 +58,15 @@ impl Numbers {
     pub fn named(self, last: usize, tables: Tables) -> Numbers
         ensures { λ r. ⌜ r ≡ nameNumbers self last tables ⌝ }
     {
-        Numbers {
+        let before = self.stack;
+        let layer = before.layer;
+        let stack = StackTables {
             tables: tables,
+            layer: layer,
+            under: before.under,
+        };
+        Numbers {
+            stack: stack,
             last: last,
             components: self.components,
             variables: self.variables,
@@ -71,11 +79,11 @@ impl Numbers {
         }
     }
 
-    pub fn recorded(self, tables: Tables) -> Numbers
-        ensures { λ r. ⌜ r ≡ recordNumbers self tables ⌝ }
+    pub fn recorded(self, stack: StackTables) -> Numbers
+        ensures { λ r. ⌜ r ≡ recordNumbers self stack ⌝ }
     {
         Numbers {
-            tables: tables,
+            stack: stack,
             last: self.last,
             components: self.components,
             variables: self.variables,
@@ -91,9 +99,9 @@ impl Numbers {
     pub fn counted(self, components: u64) -> Numbers
         ensures { λ r. ⌜ r ≡ countNumbers self components ⌝ }
     {
-        let tables = self.tables;
+        let stack = self.stack;
         Numbers {
-            tables: tables,
+            stack: stack,
             last: self.last,
             components: components,
             variables: self.variables,
@@ -109,9 +117,9 @@ impl Numbers {
     pub fn with_variables(self, count: usize) -> Numbers
         ensures { λ r. ⌜ r ≡ variableNumbers self count ⌝ }
     {
-        let tables = self.tables;
+        let stack = self.stack;
         Numbers {
-            tables: tables,
+            stack: stack,
             last: self.last,
             components: self.components,
             variables: count,
@@ -127,9 +135,9 @@ impl Numbers {
     pub fn with_bounds(self, count: usize) -> Numbers
         ensures { λ r. ⌜ r ≡ boundNumbers self count ⌝ }
     {
-        let tables = self.tables;
+        let stack = self.stack;
         Numbers {
-            tables: tables,
+            stack: stack,
             last: self.last,
             components: self.components,
             variables: self.variables,
@@ -145,9 +153,9 @@ impl Numbers {
     pub fn with_flows(self, count: usize) -> Numbers
         ensures { λ r. ⌜ r ≡ flowNumbers self count ⌝ }
     {
-        let tables = self.tables;
+        let stack = self.stack;
         Numbers {
-            tables: tables,
+            stack: stack,
             last: self.last,
             components: self.components,
             variables: self.variables,
@@ -163,9 +171,9 @@ impl Numbers {
     pub fn with_uppers(self, count: usize) -> Numbers
         ensures { λ r. ⌜ r ≡ upperNumbers self count ⌝ }
     {
-        let tables = self.tables;
+        let stack = self.stack;
         Numbers {
-            tables: tables,
+            stack: stack,
             last: self.last,
             components: self.components,
             variables: self.variables,
@@ -181,9 +189,9 @@ impl Numbers {
     pub fn with_reads(self, count: usize) -> Numbers
         ensures { λ r. ⌜ r ≡ readNumbers self count ⌝ }
     {
-        let tables = self.tables;
+        let stack = self.stack;
         Numbers {
-            tables: tables,
+            stack: stack,
             last: self.last,
             components: self.components,
             variables: self.variables,
@@ -199,9 +207,9 @@ impl Numbers {
     pub fn with_writes(self, count: usize) -> Numbers
         ensures { λ r. ⌜ r ≡ writeNumbers self count ⌝ }
     {
-        let tables = self.tables;
+        let stack = self.stack;
         Numbers {
-            tables: tables,
+            stack: stack,
             last: self.last,
             components: self.components,
             variables: self.variables,
@@ -217,9 +225,9 @@ impl Numbers {
     pub fn asked(self) -> Numbers
         ensures { λ r. ⌜ r ≡ askNumbers self ⌝ }
     {
-        let tables = self.tables;
+        let stack = self.stack;
         Numbers {
-            tables: tables,
+            stack: stack,
             last: self.last,
             components: self.components,
             variables: self.variables,

@@ -8,6 +8,8 @@ use Rattle.rowframes.proofs.name_frame.Reads as name-frame
 use Rattle.rowframes.proofs.name_frame.Kinds as name-frame-kinds
 use Rattle.rowframes.proofs.record_frame.Reads as record-frame
 use Rattle.rowframes.proofs.record_frame.Kinds as record-frame-kinds
+use Rattle.rowframes.proofs.open_frame.Reads as open-frame
+use Rattle.rowframes.proofs.open_frame.Kinds as open-frame-kinds
 use Rattle.rowframes.proofs.count_frame.Reads as count-frame
 use Rattle.rowframes.proofs.count_frame.Kinds as count-frame-kinds
 use Rattle.rowframes.proofs.variable_frame.Reads as variable-frame
@@ -30,6 +32,10 @@ name-frame-one κs a r₁ r₂ x₁ x₂ p q = (p .result ∙ sym (q .result), p
 pub record-frame-one : (κs : Lfts 3) (a : Dens κs record-frame-kinds.ps) (r₁ r₂ : resT record-frame-kinds.r κs .Denot)
     (x₁ x₂ : AtExit (endedOf 3 record-frame-kinds.ps record-frame-kinds.r) κs) → record-frame.Post κs a r₁ x₁ → record-frame.Post κs a r₂ x₂ → (r₁ ≡ r₂) × (now (x₁ .1 .0) ≡ now (x₂ .1 .0)) × (now (x₁ .1 .1 .0) ≡ now (x₂ .1 .1 .0))
 record-frame-one κs a r₁ r₂ x₁ x₂ p q = (p .result ∙ sym (q .result), p .pairs-are ∙ sym (q .pairs-are), p .marks-are ∙ sym (q .marks-are))
+
+pub open-frame-one : (κs : Lfts 0) (a : Dens κs open-frame-kinds.ps) (r₁ r₂ : resT open-frame-kinds.r κs .Denot)
+    (x₁ x₂ : AtExit (endedOf 0 open-frame-kinds.ps open-frame-kinds.r) κs) → open-frame.Post κs a r₁ x₁ → open-frame.Post κs a r₂ x₂ → r₁ ≡ r₂
+open-frame-one κs a r₁ r₂ x₁ x₂ p q = p ∙ sym q
 
 pub count-frame-one : (κs : Lfts 1) (a : Dens κs count-frame-kinds.ps) (r₁ r₂ : resT count-frame-kinds.r κs .Denot)
     (x₁ x₂ : AtExit (endedOf 1 count-frame-kinds.ps count-frame-kinds.r) κs) → count-frame.Post κs a r₁ x₁ → count-frame.Post κs a r₂ x₂ → r₁ ≡ r₂

@@ -10,8 +10,9 @@ use lib.ListN.{length, take, drop}
 use borrow.Author.Tests.{eq-eqb, ne-eqb}
 use Rattle.tables.specs.declared.Tables.{Tables}
 use Rattle.rows.specs.declared.Outcome.{Outcome}
-use Rattle.rows.specs.Rows as rows
-use Rattle.rows.specs.Rows.{filled, recordRan, Fills}
+use Rattle.rows.specs.Rows.{filled}
+use Rattle.layers.specs.declared.StackOutcome.{StackOutcome}
+use Rattle.layers.specs.Stacks.{Stack, StackRan, stackRan, FillsStack, numbersOf as stackNumbers}
 use Rattle.problemrows.specs.declared.Added.{Added}
 use Rattle.problemrows.specs.ProblemRows as problemrows
 use Rattle.problemrows.specs.ProblemRows.{Adds}
@@ -25,11 +26,11 @@ pub record NameFrames (o : Outcome) (body last last′ : List ℕ) (n : Numbers)
   pub result : r ≡ taken (o .refusal) n (nameNumbers n (length body) (o .tables))
   pub last-is : last′ ≡ cond (eqb (o .refusal) 0) (filled body last) last
 
--- a record
-pub record RecordFrames (after : rows.Ran) (pairs pairs′ marks′ : List ℕ) (n : Numbers) (r : Framed) : Type 0 where
-  pub result : r ≡ taken (after .refusal) n (recordNumbers n (after .state .tables))
-  pub pairs-are : pairs′ ≡ filled (after .state .keys) pairs
-  pub marks-are : marks′ ≡ after .state .marks
+-- a record of the topmost layer
+pub record RecordFrames (after : StackRan) (pairs pairs′ marks′ : List ℕ) (n : Numbers) (r : Framed) : Type 0 where
+  pub result : r ≡ taken (after .refusal) n (recordNumbers n (stackNumbers (after .state)))
+  pub pairs-are : pairs′ ≡ filled (after .state .top .shown .keys) pairs
+  pub marks-are : marks′ ≡ after .state .top .shown .marks
 
 -- a row of a problem; `numbers`: with how many entries there are of its kind then
 pub record RowFrames (after : problemrows.Ran) (a a′ : List ℕ) (n : Numbers) (numbers : ℕ → Numbers) (r : Framed) : Type 0 where
@@ -59,15 +60,19 @@ module _ (o p : Outcome) (body last : List ℕ) (n : Numbers) (e : o ≡ p) wher
   }
 
 -- by what the function was called with, and what that is
-module _ (s after : rows.Ran) (pairs pairs′ marks′ : List ℕ) (n : Numbers) (o : Outcome) (m : Numbers) (r : Framed) where
-  pub record-frames : s ≡ after → Fills s pairs pairs′ marks′ o → m ≡ recordNumbers n (o .tables) → r ≡ taken (o .refusal) n m → RecordFrames after pairs pairs′ marks′ n r
+module _ (s after : StackRan) (pairs pairs′ marks′ : List ℕ) (n : Numbers) (o : StackOutcome) (m : Numbers) (r : Framed) where
+  pub record-frames : s ≡ after → FillsStack s pairs pairs′ marks′ o → m ≡ recordNumbers n (o .stack) → r ≡ taken (o .refusal) n m → RecordFrames after pairs pairs′ marks′ n r
   record-frames e f k q = record {
     result =
-        q ∙ ap (taken (o .refusal) n) k ∙ ap (λ (x : Outcome). taken (x .refusal) n (recordNumbers n (x .tables))) (f .outcome-is)
-        ∙ ap (λ (x : rows.Ran). taken (x .refusal) n (recordNumbers n (x .state .tables))) e;
-    pairs-are = f .pairs-are ∙ ap (λ (x : rows.Ran). filled (x .state .keys) pairs) e;
-    marks-are = f .marks-are ∙ ap (λ (x : rows.Ran). x .state .marks) e;
+        q ∙ ap (taken (o .refusal) n) k ∙ ap (λ (x : StackOutcome). taken (x .refusal) n (recordNumbers n (x .stack))) (f .outcome-is)
+        ∙ ap (λ (x : StackRan). taken (x .refusal) n (recordNumbers n (stackNumbers (x .state)))) e;
+    pairs-are = f .pairs-are ∙ ap (λ (x : StackRan). filled (x .state .top .shown .keys) pairs) e;
+    marks-are = f .marks-are ∙ ap (λ (x : StackRan). x .state .top .shown .marks) e;
   }
+
+-- a layer that is opened
+pub open-frames : (n : Numbers) (o p : StackOutcome) (m : Numbers) (r : Framed) → o ≡ p → m ≡ recordNumbers n (o .stack) → r ≡ taken (o .refusal) n m → r ≡ taken (p .refusal) n (recordNumbers n (p .stack))
+open-frames n o p m r e k q = q ∙ ap (taken (o .refusal) n) k ∙ ap (λ (x : StackOutcome). taken (x .refusal) n (recordNumbers n (x .stack))) e
 
 module _ (s after : problemrows.Ran) (a a′ : List ℕ) (n : Numbers) (numbers : ℕ → Numbers) (d : Added) (m : Numbers) (r : Framed) where
   pub row-frames : s ≡ after → Adds s a a′ d → m ≡ numbers (d .count) → r ≡ taken (d .refusal) n m → RowFrames after a a′ n numbers r
@@ -79,8 +84,8 @@ module _ (s after : problemrows.Ran) (a a′ : List ℕ) (n : Numbers) (numbers 
   }
 
 -- rows of equal fields
-pub same-record : (s : rows.State) (f f′ c c′ : ℕ) (ps ps′ : List ℕ) → f ≡ f′ → c ≡ c′ → ps ≡ ps′ → recordRan s f c ps ≡ recordRan s f′ c′ ps′
-same-record s f f′ c c′ ps ps′ x y z = λ i. recordRan s (x i) (y i) (z i)
+pub same-record : (s : Stack) (f f′ c c′ : ℕ) (ps ps′ : List ℕ) → f ≡ f′ → c ≡ c′ → ps ≡ ps′ → stackRan s f c ps ≡ stackRan s f′ c′ ps′
+same-record s f f′ c c′ ps ps′ x y z = λ i. stackRan s (x i) (y i) (z i)
 
 pub same-variable : (n c c′ : ℕ) (l : List ℕ) → c ≡ c′ → problemrows.variableRow n c l ≡ problemrows.variableRow n c′ l
 same-variable n c c′ l x = λ i. problemrows.variableRow n (x i) l

@@ -1,4 +1,4 @@
-// The frames of rows, 01 to 09: the fields of a body, the row's own function, the numbers after it.
+// The frames of rows, 01 to 09, and of a layer that is opened, 0e: the fields of a body, the row's own function, the numbers after it.
 use framestate::Framed;
 use framestate::Numbers;
 use framestate::accept;
@@ -6,6 +6,8 @@ use framestate::refuse;
 use hexline::number_at;
 use hexline::put_numbers;
 use hexline::word_at_3;
+use layers::add_to_stack;
+use layers::open_layer;
 use problemrows::ARRAYS;
 use problemrows::FLOWS;
 use problemrows::UPPER_FLOWS;
@@ -14,16 +16,15 @@ use problemrows::add_pair;
 use problemrows::add_variable;
 use problemrows::check_count;
 use rows::add_name;
-use rows::add_record;
 ghost use mathlib.Core.Path.{_≡_};
 ghost use Prim.Native.Nat.{_-_, _%_, _≤_, _<_};
 ghost use lib.ListN.{length, take, drop, getD};
 ghost use Rattle.sorted.specs.Sorted.{Sorted};
-ghost use Rattle.tables.specs.Table.{namesRoom, pairsRoom, marksRoom};
-ghost use Rattle.rows.specs.Rows.{nameRow, filled, stateOf, recordRan};
+ghost use Rattle.rows.specs.Rows.{nameRow, filled};
+ghost use Rattle.layers.specs.Stacks.{stackOf, stackRan, Holds, openedTables};
 ghost use Rattle.problemrows.specs.ProblemRows.{countRefusal, variableRow, boundRow, pairRow};
 ghost use Rattle.hexline.specs.Hex.{numberAt, numbersIn, bytesNumber};
-ghost use Rattle.framestate.specs.FrameState.{taken, countNumbers, variableNumbers, boundNumbers, flowNumbers, upperNumbers, readNumbers, writeNumbers};
+ghost use Rattle.framestate.specs.FrameState.{taken, recordNumbers, countNumbers, variableNumbers, boundNumbers, flowNumbers, upperNumbers, readNumbers, writeNumbers};
 ghost use Rattle.rowframes.specs.RowFrames.{NameFrames, RecordFrames, RowFrames};
 
 // One byte of a body.
@@ -59,10 +60,11 @@ fn copy(from: &[u8], to: &mut [u8])
 // 01: a name.
 pub fn name_frame(body: &[u8], last: &mut [u8], n: Numbers) -> Framed
     requires { ⌜ (n .last ≤ length (now last)) × (length (now body) ≤ length (now last)) ⌝ }
-    ensures { λ r. ⌜ NameFrames (nameRow (take (n .last) (now (last .entry))) (now (body .entry)) (n .tables)) (now (body .entry)) (now (last .entry)) (now (last .exit)) n r ⌝ }
+    ensures { λ r. ⌜ NameFrames (nameRow (take (n .last) (now (last .entry))) (now (body .entry)) (n .stack .tables)) (now (body .entry)) (now (last .entry)) (now (last .exit)) n r ⌝ }
 {
     let used = n.last;
-    let t = n.tables;
+    let s = n.stack;
+    let t = s.tables;
     let o = add_name(&last[0..used], body, t);
     if o.refusal != 0 {
         return refuse(n, o.refusal);
@@ -72,19 +74,30 @@ pub fn name_frame(body: &[u8], last: &mut [u8], n: Numbers) -> Framed
     accept(n.named(body.len(), u))
 }
 
-// 02: flags, a class, its parents.
+// 02: flags, a class, its parents, in the topmost layer.
 pub fn record_frame(body: &[u8], pairs: &mut [u64], marks: &mut [u64], n: Numbers) -> Framed
-    requires { ⌜ (3 ≤ length (now body)) × (length (now body) % 2 ≡ 1) × (length (now body) ≤ 511) × (n .tables .names ≤ namesRoom) × (n .tables .pairs ≤ pairsRoom) × (length (now pairs) ≡ pairsRoom) × (length (now marks) ≡ marksRoom) × Sorted (take (n .tables .pairs) (now pairs)) ⌝ }
-    ensures { λ r. ⌜ RecordFrames (recordRan (stateOf (now (pairs .entry)) (now (marks .entry)) (n .tables)) (getD (now (body .entry)) 0 0) (numberAt 1 (now (body .entry))) (numbersIn (drop 3 (now (body .entry))))) (now (pairs .entry)) (now (pairs .exit)) (now (marks .exit)) n r ⌝ }
+    requires { ⌜ (3 ≤ length (now body)) × (length (now body) % 2 ≡ 1) × (length (now body) ≤ 511) × Holds (now pairs) (now marks) (n .stack) ⌝ }
+    ensures { λ r. ⌜ RecordFrames (stackRan (stackOf (now (pairs .entry)) (now (marks .entry)) (n .stack)) (getD (now (body .entry)) 0 0) (numberAt 1 (now (body .entry))) (numbersIn (drop 3 (now (body .entry))))) (now (pairs .entry)) (now (pairs .exit)) (now (marks .exit)) n r ⌝ }
 {
     let mut parents = [0u64; 254];
     let k = put_numbers(&body[3..], &mut parents);
     let flags = byte_at(body, 0);
     let class = number_at(body, 1);
-    let t = n.tables;
-    let o = add_record(flags, class, &parents[0..k], pairs, marks, t);
-    let u = o.tables;
+    let s = n.stack;
+    let o = add_to_stack(flags, class, &parents[0..k], pairs, marks, s);
+    let u = o.stack;
     finish(o.refusal, n, n.recorded(u))
+}
+
+// 0e: a layer more; the slices stay.
+pub fn open_frame(n: Numbers) -> Framed
+    ensures { λ r. ⌜ r ≡ taken (openedTables (n .stack) .refusal) n (recordNumbers n (openedTables (n .stack) .stack)) ⌝ }
+{
+    let s = n.stack;
+    let o = open_layer(s);
+    let u = o.stack;
+    let with = n.recorded(u);
+    finish(o.refusal, n, with)
 }
 
 // 03: the count of components.
@@ -108,13 +121,14 @@ pub fn variable_frame(body: &[u8], variables: &mut [u64], n: Numbers) -> Framed
 
 // 05: component, kind and word of a bound.
 pub fn bound_frame(body: &[u8], bounds: &mut [u64], n: Numbers) -> Framed
-    requires { ⌜ (length (now body) ≡ 11) × (n .tables .names ≤ 1024) × (n .components ≤ 512) × (n .bounds ≤ 4096) × (4096 ≤ length (now bounds)) × Sorted (take (n .bounds) (now bounds)) ⌝ }
-    ensures { λ r. ⌜ RowFrames (boundRow (n .tables .names) (n .components) (numberAt 0 (now (body .entry))) (getD (now (body .entry)) 2 0) (bytesNumber 0 (drop 3 (now (body .entry)))) (take (n .bounds) (now (bounds .entry)))) (now (bounds .entry)) (now (bounds .exit)) n (boundNumbers n) r ⌝ }
+    requires { ⌜ (length (now body) ≡ 11) × (n .stack .tables .names ≤ 1024) × (n .components ≤ 512) × (n .bounds ≤ 4096) × (4096 ≤ length (now bounds)) × Sorted (take (n .bounds) (now bounds)) ⌝ }
+    ensures { λ r. ⌜ RowFrames (boundRow (n .stack .tables .names) (n .components) (numberAt 0 (now (body .entry))) (getD (now (body .entry)) 2 0) (bytesNumber 0 (drop 3 (now (body .entry)))) (take (n .bounds) (now (bounds .entry)))) (now (bounds .entry)) (now (bounds .exit)) n (boundNumbers n) r ⌝ }
 {
     let c = number_at(body, 0);
     let kind = byte_at(body, 2);
     let w = word_at_3(body);
-    let t = n.tables;
+    let s = n.stack;
+    let t = s.tables;
     let a = add_bound(t.names, n.components, bounds, n.bounds, c, kind, w);
     finish(a.refusal, n, n.with_bounds(a.count))
 }

@@ -32,7 +32,7 @@ use Rattle.answering.specs.Answering.{answerWord}
 use Rattle.lineout.specs.Printed.{decimal, wordText, numberText, printed, variableLines, refusalLine, Puts}
 use Rattle.lineout.specs.Laws.{word-none, word-some, number-none, number-some, puts-as}
 use Rattle.frames.specs.Frames as frames
-use Rattle.frames.specs.Frames.{Store, Question, Relating, Supertyping, Casting, Message, naming, recording, row, solving, asking, kindOf, bodyOf, messageOf, rankOf, askChecks, messageRefusal, frameChecks, stepped, answer, accepted, solvedStep, frameBytes, frame}
+use Rattle.frames.specs.Frames.{Store, shown, Question, Relating, Supertyping, Casting, Message, naming, recording, opening, row, solving, asking, kindOf, bodyOf, messageOf, rankOf, askChecks, messageRefusal, frameChecks, stepped, answer, accepted, solvedStep, frameBytes, frame}
 use Rattle.frames.specs.Typeline.{wordOrDash, numberOrDash, printAnswers, print}
 use Rattle.hexline.specs.Hex.{hexBytes}
 use Rattle.framelaws.specs.Reached.{Sound, passed, by-if}
@@ -118,13 +118,13 @@ object-known t q = go (eqb (t .object) (2 ^ 64 - 1)) refl q
 
 module _ (s : Store) (h : Sound s) where
   abbrev t : Tables
-  t = s .classes .tables
+  t = shown s .tables
 
   abbrev w : World
-  w = stateWorld (s .classes)
+  w = stateWorld (shown s)
 
   lawful : (t .object ≡ 2 ^ 64 - 1 → ⊥) → Lawful w
-  lawful o = with-lawful (stateView (s .classes)) (present (t .cloneable)) (present (t .serializable)) (view-good (s .classes .keys) (s .classes .marks) t (h .good .few) (h .known o))
+  lawful o = with-lawful (stateView (shown s)) (present (t .cloneable)) (present (t .serializable)) (view-good (shown s .keys) (shown s .marks) t (h .good .few) (h .known o))
 
   -- a legal word is not all ones
   legal-present : (names x : ℕ) → legalWord names x ≡ true → x ≡ 2 ^ 64 - 1 → ⊥
@@ -149,10 +149,10 @@ module _ (s : Store) (h : Sound s) where
       subst AllPresent (sym (solve-ended w (s .problem) tab n given e .2)) (answers-present tab n given e good (s .problem .variables))
 
   -- a supertype is a class
-  supertype-printable : (a b : ℕ) → Lawful w → a < t .names → b < t .names → Printable (frames.Supertyped (supertype (stateView (s .classes)) a b))
-  supertype-printable a b good x y = go (supertype (stateView (s .classes)) a b) refl
+  supertype-printable : (a b : ℕ) → Lawful w → a < t .names → b < t .names → Printable (frames.Supertyped (supertype (stateView (shown s)) a b))
+  supertype-printable a b good x y = go (supertype (stateView (shown s)) a b) refl
     where
-      go : (o : Option ℕ) → supertype (stateView (s .classes)) a b ≡ o → Printable (frames.Supertyped o)
+      go : (o : Option ℕ) → supertype (stateView (shown s)) a b ≡ o → Printable (frames.Supertyped o)
       go none e = tt
       go (some c) e = λ z. (let k = good .above a b c x y e .0 in let f = h .good .few in omega arith)
 
@@ -160,12 +160,13 @@ module _ (s : Store) (h : Sound s) where
   unfolding accepted messageRefusal answer
   accepted-printable rank (naming n) e = tt
   accepted-printable rank (recording f c ps) e = tt
+  accepted-printable rank opening e = tt
   accepted-printable rank (row r) e = tt
   accepted-printable rank solving e = solved-printable rank (lawful (object-there e)) (solve w (s .problem)) refl
     where
       object-there : firstRefusal (askChecks t []) ≡ 0 → t .object ≡ 2 ^ 64 - 1 → ⊥
       object-there q = object-known t q
-  accepted-printable rank (asking Relating a b) e = relation-small (relation (stateView (s .classes)) a b)
+  accepted-printable rank (asking Relating a b) e = relation-small (relation (stateView (shown s)) a b)
   accepted-printable rank (asking Supertyping a b) e = let p = ask-passed t a b e in supertype-printable a b (lawful (p .2)) (p .0) (p .1)
   accepted-printable rank (asking Casting a b) e = tt
 
@@ -207,16 +208,17 @@ module _ (k v : ℕ) (answers answers′ : List ℕ) where
   front-text (frames.Refused j) h c e = text-is k (frames.Refused j) h
 
 module _ (s : Store) where
-  solved-counted : (rank : ℕ) (o : Solution) → solve (stateWorld (s .classes)) (s .problem) ≡ o → Counted (length (s .problem .variables)) (solvedStep rank s o .said)
+  solved-counted : (rank : ℕ) (o : Solution) → solve (stateWorld (shown s)) (s .problem) ≡ o → Counted (length (s .problem .variables)) (solvedStep rank s o .said)
   solved-counted rank (Unsolved j) e = tt
-  solved-counted rank (Solved tab n given) e = solve-answers (stateWorld (s .classes)) (s .problem) tab n given e .0
+  solved-counted rank (Solved tab n given) e = solve-answers (stateWorld (shown s)) (s .problem) tab n given e .0
 
   accepted-counted : (rank : ℕ) (m : Message) → Counted (length (s .problem .variables)) (accepted rank m s .said)
   unfolding accepted answer
   accepted-counted rank (naming n) = tt
   accepted-counted rank (recording f c ps) = tt
+  accepted-counted rank opening = tt
   accepted-counted rank (row r) = tt
-  accepted-counted rank solving = solved-counted rank (solve (stateWorld (s .classes)) (s .problem)) refl
+  accepted-counted rank solving = solved-counted rank (solve (stateWorld (shown s)) (s .problem)) refl
   accepted-counted rank (asking Relating a b) = tt
   accepted-counted rank (asking Supertyping a b) = tt
   accepted-counted rank (asking Casting a b) = tt

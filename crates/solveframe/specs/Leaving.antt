@@ -20,7 +20,7 @@ use Rattle.solving.specs.declared.Counts.{Counts}
 use Rattle.solving.specs.Solving.{Problem, Solution, Unsolved, Solved as Solution-of, solve}
 use Rattle.solves.specs.SolveResult as results
 use Rattle.frames.specs.Frames as frames
-use Rattle.frames.specs.Frames.{Store, Stepped, solving, askChecks, messageRefusal, stepped, solvedStep, accepted, withMessage}
+use Rattle.frames.specs.Frames.{Store, shown, Stepped, solving, askChecks, messageRefusal, stepped, solvedStep, accepted, withMessage}
 use Rattle.framelaws.specs.Numbers.{solve-number}
 use Rattle.framestate.specs.declared.Numbers.{Numbers}
 use Rattle.framestate.specs.declared.Framed.{Framed}
@@ -35,21 +35,21 @@ use Rattle.solveframe.specs.SolveFrame.{Alone, SolveReady, solvedBy, Sol
 
 -- the solve of what was cut out
 pub alone-cut : (pairs marks rows : List ℕ) (n : Numbers) (i : Within n) (answers answers′ : List ℕ) (r : Counts)
-    → Alone (solve (worldOf pairs marks (n .tables)) (cutProblem rows n i)) answers answers′ r → Alone (solve (worldOf pairs marks (n .tables)) (problemIn rows n)) answers answers′ r
-alone-cut pairs marks rows n i answers answers′ r a = subst (λ (p : Problem). Alone (solve (worldOf pairs marks (n .tables)) p) answers answers′ r) (cut-problem rows n i) a
+    → Alone (solve (worldOf pairs marks (n .stack .tables)) (cutProblem rows n i)) answers answers′ r → Alone (solve (worldOf pairs marks (n .stack .tables)) (problemIn rows n)) answers answers′ r
+alone-cut pairs marks rows n i answers answers′ r a = subst (λ (p : Problem). Alone (solve (worldOf pairs marks (n .stack .tables)) p) answers answers′ r) (cut-problem rows n i) a
 
 module _ (s : Solution) (answers : List ℕ) (n : Numbers) where
-  pub frame-object : (r : Framed) → r ≡ framed (Refused 9) n → n .tables .object ≡ 2 ^ 64 - 1 → SolveFrames s answers answers n r
+  pub frame-object : (r : Framed) → r ≡ framed (Refused 9) n → n .stack .tables .object ≡ 2 ^ 64 - 1 → SolveFrames s answers answers n r
   frame-object r e h =
-      let b = eq-eqb (n .tables .object) (2 ^ 64 - 1) h in
+      let b = eq-eqb (n .stack .tables .object) (2 ^ 64 - 1) h in
       record {
         result = e ∙ sym (ap (λ (x : Bool). cond x (framed (Refused 9) n) (solvedBy (results.countsOf s .refusal) n)) b);
         answers-are = sym (ap (λ (x : Bool). cond x answers (results.answersAfter s answers)) b);
       }
 
-  pub frame-solved : (answers′ : List ℕ) (c : Counts) (r : Framed) → Alone s answers answers′ c → r ≡ solvedBy (c .refusal) n → (n .tables .object ≡ 2 ^ 64 - 1 → ⊥) → SolveFrames s answers answers′ n r
+  pub frame-solved : (answers′ : List ℕ) (c : Counts) (r : Framed) → Alone s answers answers′ c → r ≡ solvedBy (c .refusal) n → (n .stack .tables .object ≡ 2 ^ 64 - 1 → ⊥) → SolveFrames s answers answers′ n r
   frame-solved answers′ c r a e h =
-      let b = ne-eqb (n .tables .object) (2 ^ 64 - 1) h in
+      let b = ne-eqb (n .stack .tables .object) (2 ^ 64 - 1) h in
       record {
         result = e ∙ ap (λ (x : Counts). solvedBy (x .refusal) n) (a .counts) ∙ sym (ap (λ (x : Bool). cond x (framed (Refused 9) n) (solvedBy (results.countsOf s .refusal) n)) b);
         answers-are = a .answers-are ∙ sym (ap (λ (x : Bool). cond x answers (results.answersAfter s answers)) b);
@@ -66,10 +66,10 @@ said-solved k n h = sym (ap (λ (b : Bool). cond b (framed Solved (askNumbers n)
 
 module _ (l : Slices) (n : Numbers) (h : Ready l n) (answers answers′ : List ℕ) (r : Framed) where
   abbrev w : World
-  w = worldOf (l .pairs) (l .marks) (n .tables)
+  w = worldOf (l .pairs) (l .marks) (n .stack .tables)
 
-  world-front : stateWorld (storeOf l n .classes) ≡ w
-  world-front = ap (λ (v : View). worldWith v (present (n .tables .cloneable)) (present (n .tables .serializable))) (view-front l n h answers r)
+  world-front : stateWorld (shown (storeOf l n)) ≡ w
+  world-front = ap (λ (v : View). worldWith v (present (n .stack .tables .cloneable)) (present (n .stack .tables .serializable))) (view-front l n h answers r)
 
   after : Store
   after = record { last = take (n .last) (l .last); classes = storeOf l n .classes; problem = storeOf l n .problem; rank = 10 }
@@ -91,11 +91,11 @@ module _ (l : Slices) (n : Numbers) (h : Ready l n) (answers answers′ : List �
   -- 0a
   pub solve-leaves : SolveFrames (solve w (storeOf l n .problem)) answers answers′ n r → Leaves (messageStep 10 solving (storeOf l n)) l l answers answers′ r
   unfolding messageStep messageRefusal askChecks firstRefusal allBelow accepted
-  solve-leaves f = go (eqb (n .tables .object) (2 ^ 64 - 1)) (f .result) (f .answers-are)
+  solve-leaves f = go (eqb (n .stack .tables .object) (2 ^ 64 - 1)) (f .result) (f .answers-are)
     where
       go : (b : Bool) → r ≡ cond b (framed (Refused 9) n) (solvedBy (results.countsOf (solve w (storeOf l n .problem)) .refusal) n)
           → answers′ ≡ cond b answers (results.answersAfter (solve w (storeOf l n .problem)) answers)
-          → Leaves (cond (eqb (cond b 9 0) 0) (solvedStep 10 (storeOf l n) (solve (stateWorld (storeOf l n .classes)) (storeOf l n .problem))) (stepped (frames.Refused (cond b 9 0)) (storeOf l n))) l l answers answers′ r
+          → Leaves (cond (eqb (cond b 9 0) 0) (solvedStep 10 (storeOf l n) (solve (stateWorld (shown (storeOf l n))) (storeOf l n .problem))) (stepped (frames.Refused (cond b 9 0)) (storeOf l n))) l l answers answers′ r
       go true q a =
           subst (λ (x : List ℕ). Leaves (stepped (frames.Refused 9) (storeOf l n)) l l answers x r) (sym a)
           (subst (Leaves (stepped (frames.Refused 9) (storeOf l n)) l l answers answers) (sym q) (refused-leaves l n h 9 answers))

@@ -5,7 +5,8 @@ use Prim.Native.Nat.{ℕ, _+_, _-_, _≤_}
 use native.Mathlib.Omega.{arith}
 use lib.ListN.{length, take, drop, length-drop}
 use lib.Seq.{take-take, length-take-le}
-use Rattle.tables.specs.Table.{pairsRoom, marksRoom}
+use Rattle.tables.specs.Table.{marksRoom}
+use Rattle.layers.specs.Layers.{layersRoom}
 use Rattle.solving.specs.Solving.{Problem}
 use Rattle.solving.specs.TableKeys.{keysOf, boundOf}
 use Rattle.problems.specs.Held.{Held}
@@ -40,7 +41,7 @@ abbrev pub problemIn : List ℕ → Numbers → Problem
 problemIn rows n = problemOf (n .components) (take (n .variables) (part 0 2048 rows)) (take (n .bounds) (part 2048 4096 rows)) (take (n .flows) (part 6144 2048 rows)) (take (n .uppers) (part 8192 1024 rows)) (take (n .reads) (part 9216 1024 rows)) (take (n .writes) (part 10240 1024 rows))
 
 abbrev pub KeepsIn : List ℕ → Numbers → Type 0
-KeepsIn rows n = Keeps (n .tables .names) (n .components) (take (n .variables) (part 0 2048 rows)) (take (n .bounds) (part 2048 4096 rows)) (take (n .flows) (part 6144 2048 rows)) (take (n .uppers) (part 8192 1024 rows)) (take (n .reads) (part 9216 1024 rows)) (take (n .writes) (part 10240 1024 rows))
+KeepsIn rows n = Keeps (n .stack .tables .names) (n .components) (take (n .variables) (part 0 2048 rows)) (take (n .bounds) (part 2048 4096 rows)) (take (n .flows) (part 6144 2048 rows)) (take (n .uppers) (part 8192 1024 rows)) (take (n .reads) (part 9216 1024 rows)) (take (n .writes) (part 10240 1024 rows))
 
 -- ---- laws
 
@@ -48,7 +49,7 @@ pub part-length : (at room : ℕ) (l : List ℕ) → at + room ≤ length l → 
 part-length at room l h = length-take-le room (drop at l) (let e = length-drop at l in omega arith)
 
 -- slices of these lengths have the parts' lengths
-pub sized : (last pairs marks rows : List ℕ) → length last ≡ 255 → length pairs ≡ pairsRoom → length marks ≡ marksRoom → length rows ≡ problemRoom → Sized (slicesOf last pairs marks rows)
+pub sized : (last pairs marks rows : List ℕ) → length last ≡ 255 → length pairs ≡ layersRoom → length marks ≡ marksRoom → length rows ≡ problemRoom → Sized (slicesOf last pairs marks rows)
 sized last pairs marks rows a b c d = record {
   last = a;
   pairs = b;
@@ -83,9 +84,9 @@ module _ (rows : List ℕ) (n : Numbers) (w : Within n) where
       let x = cut 10240 (n .writes) 1024 rows (w .writes) in
       λ i. problemOf (n .components) (v i) (b i) (f i) (u i) (r i) (x i)
 
-  pub cut-keeps : KeepsIn rows n → Keeps (n .tables .names) (n .components) (take (n .variables - 0) (drop 0 rows)) (take (2048 + n .bounds - 2048) (drop 2048 rows)) (take (6144 + n .flows - 6144) (drop 6144 rows)) (take (8192 + n .uppers - 8192) (drop 8192 rows)) (take (9216 + n .reads - 9216) (drop 9216 rows)) (take (10240 + n .writes - 10240) (drop 10240 rows))
+  pub cut-keeps : KeepsIn rows n → Keeps (n .stack .tables .names) (n .components) (take (n .variables - 0) (drop 0 rows)) (take (2048 + n .bounds - 2048) (drop 2048 rows)) (take (6144 + n .flows - 6144) (drop 6144 rows)) (take (8192 + n .uppers - 8192) (drop 8192 rows)) (take (9216 + n .reads - 9216) (drop 9216 rows)) (take (10240 + n .writes - 10240) (drop 10240 rows))
   cut-keeps k = record {
-    held = subst (Held (n .tables .names)) (sym cut-problem) (k .held);
+    held = subst (Held (n .stack .tables .names)) (sym cut-problem) (k .held);
     keyed = subst (λ (l : List ℕ). keysOf (map boundOf l) ≡ l) (sym (cut 2048 (n .bounds) 4096 rows (w .bounds))) (k .keyed);
   }
 

@@ -23,8 +23,8 @@ pub record Alone (s : Solution) (answers answers′ : List ℕ) (r : Counts) : T
 -- what a state that lines lead to has of these
 pub record SolveReady (marks rows answers : List ℕ) (n : Numbers) : Type 0 where
   pub four-sets : length marks ≡ marksRoom
-  pub few : n .tables .names ≤ namesRoom
-  pub known : (n .tables .object ≡ 2 ^ 64 - 1 → ⊥) → n .tables .object < n .tables .names
+  pub few : n .stack .tables .names ≤ namesRoom
+  pub known : (n .stack .tables .object ≡ 2 ^ 64 - 1 → ⊥) → n .stack .tables .object < n .stack .tables .names
   pub all-rows : length rows ≡ problemRoom
   pub within : Within n
   pub keeps : KeepsIn rows n
@@ -35,5 +35,5 @@ abbrev pub solvedBy : ℕ → Numbers → Framed
 solvedBy refusal n = cond (eqb refusal 0) (framed Solved (askNumbers n)) (framed (Refused refusal) n)
 
 pub record SolveFrames (s : Solution) (answers answers′ : List ℕ) (n : Numbers) (r : Framed) : Type 0 where
-  pub result : r ≡ cond (eqb (n .tables .object) (2 ^ 64 - 1)) (framed (Refused 9) n) (solvedBy (countsOf s .refusal) n)
-  pub answers-are : answers′ ≡ cond (eqb (n .tables .object) (2 ^ 64 - 1)) answers (answersAfter s answers)
+  pub result : r ≡ cond (eqb (n .stack .tables .object) (2 ^ 64 - 1)) (framed (Refused 9) n) (solvedBy (countsOf s .refusal) n)
+  pub answers-are : answers′ ≡ cond (eqb (n .stack .tables .object) (2 ^ 64 - 1)) answers (answersAfter s answers)

@@ -60,10 +60,11 @@ fn solve_alone(
 
 // The solve of the rows that count.
 fn solve_rows(pairs: &[u64], marks: &[u64], rows: &[u64], answers: &mut [u64], n: Numbers) -> Counts
-    requires { ⌜ Classes (now marks) (n .tables) × KeepsIn (now rows) n × Within n × (length (now rows) ≡ problemRoom) × (2048 ≤ length (now answers)) ⌝ }
-    ensures { λ r. ⌜ Alone (solve (worldOf (now (pairs .entry)) (now (marks .entry)) (n .tables)) (problemIn (now (rows .entry)) n)) (now (answers .entry)) (now (answers .exit)) r ⌝ }
+    requires { ⌜ Classes (now marks) (n .stack .tables) × KeepsIn (now rows) n × Within n × (length (now rows) ≡ problemRoom) × (2048 ≤ length (now answers)) ⌝ }
+    ensures { λ r. ⌜ Alone (solve (worldOf (now (pairs .entry)) (now (marks .entry)) (n .stack .tables)) (problemIn (now (rows .entry)) n)) (now (answers .entry)) (now (answers .exit)) r ⌝ }
 {
-    let t = n.tables;
+    let s = n.stack;
+    let t = s.tables;
     let v = n.variables;
     let b = 2048 + n.bounds;
     let f = 6144 + n.flows;
@@ -108,9 +109,10 @@ pub fn solve_frame(
     n: Numbers,
 ) -> Framed
     requires { ⌜ SolveReady (now marks) (now rows) (now answers) n ⌝ }
-    ensures { λ r. ⌜ SolveFrames (solve (worldOf (now (pairs .entry)) (now (marks .entry)) (n .tables)) (problemIn (now (rows .entry)) n)) (now (answers .entry)) (now (answers .exit)) n r ⌝ }
+    ensures { λ r. ⌜ SolveFrames (solve (worldOf (now (pairs .entry)) (now (marks .entry)) (n .stack .tables)) (problemIn (now (rows .entry)) n)) (now (answers .entry)) (now (answers .exit)) n r ⌝ }
 {
-    let t = n.tables;
+    let s = n.stack;
+    let t = s.tables;
     if t.object == u64::MAX {
         return refuse(n, 9);
     }

@@ -9,7 +9,8 @@ use borrow.Rule.Slice.PartMut.{putMid}
 use Rattle.view.specs.View.{relation, relationNumber, supertype, numberOf, cast}
 use Rattle.tables.specs.Table.{viewOf}
 use Rattle.lattice.specs.World.{worldOf}
-use Rattle.rows.specs.Rows.{nameRow, stateOf, recordRan}
+use Rattle.rows.specs.Rows.{nameRow}
+use Rattle.layers.specs.Stacks.{stackOf, stackRan, openedTables}
 use Rattle.solving.specs.Solving.{solve}
 use Rattle.problemrows.specs.ProblemRows.{countRefusal, variableRow, boundRow, pairRow}
 use Rattle.hexline.specs.Hex.{numberAt, numbersIn, bytesNumber}
@@ -18,11 +19,11 @@ use Rattle.framelaws.specs.Reached.{BytesIn, word-fits, drop-bytes}
 use Rattle.framestate.specs.declared.Numbers.{Numbers}
 use Rattle.framestate.specs.declared.Framed.{Framed}
 use Rattle.framestate.specs.declared.Said.the-variants.{Related, Supertyped, Castable}
-use Rattle.framestate.specs.FrameState.{Slices, storeOf, Leaves, saidOf, taken, countNumbers, variableNumbers, boundNumbers, flowNumbers, upperNumbers, readNumbers, writeNumbers}
+use Rattle.framestate.specs.FrameState.{Slices, storeOf, Leaves, saidOf, taken, recordNumbers, countNumbers, variableNumbers, boundNumbers, flowNumbers, upperNumbers, readNumbers, writeNumbers}
 use Rattle.rowframes.specs.RowFrames.{NameFrames, RecordFrames, RowFrames}
 use Rattle.askframes.specs.AskFrames.{askRefusal, asked}
 use Rattle.frameleaves.specs.Kinds.{variable-leaves, bound-leaves, flow-leaves, upper-leaves, read-leaves, write-leaves}
-use Rattle.frameleaves.specs.Classes.{name-leaves, record-leaves, count-leaves, ask-leaves}
+use Rattle.frameleaves.specs.Classes.{name-leaves, record-leaves, open-leaves, count-leaves, ask-leaves}
 use Rattle.solveframe.specs.Parts.{part, problemIn, slicesOf}
 use Rattle.solveframe.specs.SolveFrame.{SolveFrames}
 use Rattle.solveframe.specs.Leaving.{solve-leaves}
@@ -43,16 +44,22 @@ module _ (kind : ℕ) (body last pairs marks rows : List ℕ) (n : Numbers) (s :
   at-part k after after′ answers e p w = at-kind k after′ answers answers e (subst (λ (z : Slices). Leaves (stepOf k body (storeOf l n)) l z answers answers r) (sym p) w)
 
   -- 01
-  pub name-step : (last′ : List ℕ) → kind ≡ 1 → NameFrames (nameRow (take (n .last) last) body (n .tables)) body last last′ n r
+  pub name-step : (last′ : List ℕ) → kind ≡ 1 → NameFrames (nameRow (take (n .last) last) body (n .stack .tables)) body last last′ n r
       → Rests (stepOf kind body (storeOf (slicesOf last pairs marks rows) n)) (slicesOf last pairs marks rows) (slicesOf last′ pairs marks rows) r
   unfolding messageOf
   name-step last′ e f answers = at-kind 1 (slicesOf last′ pairs marks rows) answers answers e (name-leaves l n (s .ready) answers r body last′ f)
 
   -- 02
-  pub record-step : (pairs′ marks′ : List ℕ) → kind ≡ 2 → RecordFrames (recordRan (stateOf pairs marks (n .tables)) (getD body 0 0) (numberAt 1 body) (numbersIn (drop 3 body))) pairs pairs′ marks′ n r
+  pub record-step : (pairs′ marks′ : List ℕ) → kind ≡ 2 → RecordFrames (stackRan (stackOf pairs marks (n .stack)) (getD body 0 0) (numberAt 1 body) (numbersIn (drop 3 body))) pairs pairs′ marks′ n r
       → Rests (stepOf kind body (storeOf (slicesOf last pairs marks rows) n)) (slicesOf last pairs marks rows) (slicesOf last pairs′ marks′ rows) r
   unfolding messageOf
   record-step pairs′ marks′ e f answers = at-kind 2 (slicesOf last pairs′ marks′ rows) answers answers e (record-leaves l n (s .ready) answers r (getD body 0 0) (numberAt 1 body) (numbersIn (drop 3 body)) pairs′ marks′ f)
+
+  -- 0e
+  pub open-step : kind ≡ 14 → r ≡ taken (openedTables (n .stack) .refusal) n (recordNumbers n (openedTables (n .stack) .stack))
+      → Rests (stepOf kind body (storeOf (slicesOf last pairs marks rows) n)) (slicesOf last pairs marks rows) (slicesOf last pairs marks rows) r
+  unfolding messageOf
+  open-step e f answers = at-kind 14 l answers answers e (open-leaves l n (s .ready) answers r f)
 
   -- 03
   pub count-step : kind ≡ 3 → Passed kind (length body) (n .rank) → r ≡ taken (countRefusal (numberAt 0 body)) n (countNumbers n (numberAt 0 body))
@@ -69,7 +76,7 @@ module _ (kind : ℕ) (body last pairs marks rows : List ℕ) (n : Numbers) (s :
 
   -- 05
   pub bound-step : (new : List ℕ) → kind ≡ 5 → length body ≡ 11 → BytesIn body
-      → RowFrames (boundRow (n .tables .names) (n .components) (numberAt 0 body) (getD body 2 0) (bytesNumber 0 (drop 3 body)) (take (n .bounds) (part 2048 4096 rows))) (part 2048 4096 rows) new n (boundNumbers n) r
+      → RowFrames (boundRow (n .stack .tables .names) (n .components) (numberAt 0 body) (getD body 2 0) (bytesNumber 0 (drop 3 body)) (take (n .bounds) (part 2048 4096 rows))) (part 2048 4096 rows) new n (boundNumbers n) r
       → length new ≡ length (part 2048 4096 rows)
       → Rests (stepOf kind body (storeOf (slicesOf last pairs marks rows) n)) (slicesOf last pairs marks rows) (slicesOf last pairs marks (putMid 2048 4096 rows new)) r
   unfolding messageOf
@@ -107,28 +114,28 @@ module _ (kind : ℕ) (body last pairs marks rows : List ℕ) (n : Numbers) (s :
   write-step new e f same answers = at-part 9 _ _ answers e (put-writes last pairs marks rows new (s .all-rows) same) (write-leaves l n (s .ready) answers r (numberAt 0 body) (numberAt 2 body) new f)
 
   -- 0a
-  pub solve-step : (answers answers′ : List ℕ) → kind ≡ 10 → SolveFrames (solve (worldOf pairs marks (n .tables)) (problemIn rows n)) answers answers′ n r
+  pub solve-step : (answers answers′ : List ℕ) → kind ≡ 10 → SolveFrames (solve (worldOf pairs marks (n .stack .tables)) (problemIn rows n)) answers answers′ n r
       → Leaves (stepOf kind body (storeOf (slicesOf last pairs marks rows) n)) (slicesOf last pairs marks rows) (slicesOf last pairs marks rows) answers answers′ r
   unfolding messageOf
   solve-step answers answers′ e f = at-kind 10 l answers answers′ e (solve-leaves l n (s .ready) answers answers′ r f)
 
   -- 0b
   pub relation-step : kind ≡ 11
-      → r ≡ asked (askRefusal (n .tables) (numberAt 0 body) (numberAt 2 body)) (Related (relationNumber (relation (viewOf pairs marks (n .tables)) (numberAt 0 body) (numberAt 2 body)))) n
+      → r ≡ asked (askRefusal (n .stack .tables) (numberAt 0 body) (numberAt 2 body)) (Related (relationNumber (relation (viewOf pairs marks (n .stack .tables)) (numberAt 0 body) (numberAt 2 body)))) n
       → Rests (stepOf kind body (storeOf (slicesOf last pairs marks rows) n)) (slicesOf last pairs marks rows) (slicesOf last pairs marks rows) r
   unfolding messageOf saidOf answer
   relation-step e f answers = at-kind 11 l answers answers e (ask-leaves l n (s .ready) answers r 11 Relating (numberAt 0 body) (numberAt 2 body) refl f)
 
   -- 0c
   pub supertype-step : kind ≡ 12
-      → r ≡ asked (askRefusal (n .tables) (numberAt 0 body) (numberAt 2 body)) (Supertyped (numberOf (supertype (viewOf pairs marks (n .tables)) (numberAt 0 body) (numberAt 2 body)))) n
+      → r ≡ asked (askRefusal (n .stack .tables) (numberAt 0 body) (numberAt 2 body)) (Supertyped (numberOf (supertype (viewOf pairs marks (n .stack .tables)) (numberAt 0 body) (numberAt 2 body)))) n
       → Rests (stepOf kind body (storeOf (slicesOf last pairs marks rows) n)) (slicesOf last pairs marks rows) (slicesOf last pairs marks rows) r
   unfolding messageOf saidOf answer
   supertype-step e f answers = at-kind 12 l answers answers e (ask-leaves l n (s .ready) answers r 12 Supertyping (numberAt 0 body) (numberAt 2 body) refl f)
 
   -- 0d
   pub cast-step : kind ≡ 13
-      → r ≡ asked (askRefusal (n .tables) (numberAt 0 body) (numberAt 2 body)) (Castable (cond (cast (viewOf pairs marks (n .tables)) (numberAt 0 body) (numberAt 2 body)) 1 0)) n
+      → r ≡ asked (askRefusal (n .stack .tables) (numberAt 0 body) (numberAt 2 body)) (Castable (cond (cast (viewOf pairs marks (n .stack .tables)) (numberAt 0 body) (numberAt 2 body)) 1 0)) n
       → Rests (stepOf kind body (storeOf (slicesOf last pairs marks rows) n)) (slicesOf last pairs marks rows) (slicesOf last pairs marks rows) r
   unfolding messageOf saidOf answer
   cast-step e f answers = at-kind 13 l answers answers e (ask-leaves l n (s .ready) answers r 13 Casting (numberAt 0 body) (numberAt 2 body) refl f)

@@ -11,6 +11,7 @@ use rowframes::bound_frame;
 use rowframes::count_frame;
 use rowframes::flow_frame;
 use rowframes::name_frame;
+use rowframes::open_frame;
 use rowframes::read_frame;
 use rowframes::record_frame;
 use rowframes::upper_frame;
@@ -18,16 +19,27 @@ use rowframes::variable_frame;
 use rowframes::write_frame;
 use solveframe::solve_frame;
 ghost use mathlib.Core.Path.{_≡_};
+ghost use mathlib.Core.Bool.{true, false};
 ghost use Prim.Native.Nat.{_≤_};
 ghost use lib.ListN.{length, drop, getD};
 ghost use Rattle.frames.specs.Frames.{frame};
 ghost use Rattle.framelaws.specs.Reached.{BytesIn};
 ghost use Rattle.framestate.specs.FrameState.{storeOf, Leaves};
 ghost use Rattle.solveframe.specs.Parts.{slicesOf};
-ghost use Rattle.stepping.specs.Stepping.{Stands, stepOf, Headed, Rests};
+ghost use Rattle.stepping.specs.Stepping.{Stands, stepOf, classKind, Headed, Rests};
 ghost use Rattle.stepping.specs.Lines.{bytesStep};
 
-// 01 and 02: the class table grows.
+// Whether a kind changes the class table: 01, 02 and 0e.
+fn is_class_kind(kind: u64) -> bool
+    ensures { λ r. ⌜ r ≡ classKind kind ⌝ }
+{
+    if kind <= 2 {
+        return true;
+    }
+    kind == 14
+}
+
+// 01, 02 and 0e: the class table grows.
 fn class_message(
     kind: u64,
     body: &[u8],
@@ -37,13 +49,16 @@ fn class_message(
     rows: &[u64],
     n: Numbers,
 ) -> Framed
-    requires { ⌜ Stands (now last) (now pairs) (now marks) (now rows) n × Headed kind (now body) n × (kind ≤ 2) ⌝ }
+    requires { ⌜ Stands (now last) (now pairs) (now marks) (now rows) n × Headed kind (now body) n × (classKind kind ≡ true) ⌝ }
     ensures { λ r. ⌜ Rests (stepOf kind (now (body .entry)) (storeOf (slicesOf (now (last .entry)) (now (pairs .entry)) (now (marks .entry)) (now (rows .entry))) n)) (slicesOf (now (last .entry)) (now (pairs .entry)) (now (marks .entry)) (now (rows .entry))) (slicesOf (now (last .exit)) (now (pairs .exit)) (now (marks .exit)) (now (rows .entry))) r ⌝ }
 {
     if kind == 1 {
         return name_frame(body, last, n);
     }
-    record_frame(body, pairs, marks, n)
+    if kind == 2 {
+        return record_frame(body, pairs, marks, n);
+    }
+    open_frame(n)
 }
 
 // 03 to 05: components, variables, bounds.
@@ -103,7 +118,7 @@ fn question_message(
     rows: &[u64],
     n: Numbers,
 ) -> Framed
-    requires { ⌜ Stands (now last) (now pairs) (now marks) (now rows) n × Headed kind (now body) n × (11 ≤ kind) ⌝ }
+    requires { ⌜ Stands (now last) (now pairs) (now marks) (now rows) n × Headed kind (now body) n × (11 ≤ kind) × (classKind kind ≡ false) ⌝ }
     ensures { λ r. ⌜ Rests (stepOf kind (now (body .entry)) (storeOf (slicesOf (now (last .entry)) (now (pairs .entry)) (now (marks .entry)) (now (rows .entry))) n)) (slicesOf (now (last .entry)) (now (pairs .entry)) (now (marks .entry)) (now (rows .entry))) (slicesOf (now (last .entry)) (now (pairs .entry)) (now (marks .entry)) (now (rows .entry))) r ⌝ }
 {
     if kind == 11 {
@@ -115,7 +130,7 @@ fn question_message(
     cast_frame(body, pairs, marks, n)
 }
 
-// 03 and later: nothing of these changes the class table.
+// 03 to 0d: nothing of these changes the class table.
 fn later_message(
     kind: u64,
     body: &[u8],
@@ -126,7 +141,7 @@ fn later_message(
     answers: &mut [u64],
     n: Numbers,
 ) -> Framed
-    requires { ⌜ Stands (now last) (now pairs) (now marks) (now rows) n × (length (now answers) ≡ 2048) × Headed kind (now body) n × BytesIn (now body) × (3 ≤ kind) ⌝ }
+    requires { ⌜ Stands (now last) (now pairs) (now marks) (now rows) n × (length (now answers) ≡ 2048) × Headed kind (now body) n × BytesIn (now body) × (classKind kind ≡ false) ⌝ }
     ensures { λ r. ⌜ Leaves (stepOf kind (now (body .entry)) (storeOf (slicesOf (now (last .entry)) (now (pairs .entry)) (now (marks .entry)) (now (rows .entry))) n)) (slicesOf (now (last .entry)) (now (pairs .entry)) (now (marks .entry)) (now (rows .entry))) (slicesOf (now (last .entry)) (now (pairs .entry)) (now (marks .entry)) (now (rows .exit))) (now (answers .entry)) (now (answers .exit)) r ⌝ }
 {
     if kind <= 5 {
@@ -160,7 +175,7 @@ fn frame_bytes(
         return refuse(n, refusal);
     }
     let body = &bytes[1..];
-    if kind <= 2 {
+    if is_class_kind(kind) {
         return class_message(kind, body, last, pairs, marks, rows, n);
     }
     later_message(kind, body, last, pairs, marks, rows, answers, n)

@@ -7,9 +7,12 @@ use native.Mathlib.Omega.{arith}
 use lib.ListN.{length, replicate, set, length-replicate, length-set}
 use mir.Syntax.{w64}
 use mir.Val.{Fits}
-use Rattle.tables.specs.declared.Tables.{Tables}
+use Rattle.sets.specs.declared.Set.{Set}
 use Rattle.framestate.specs.declared.Numbers.{Numbers}
-use Rattle.tables.specs.Table.{pairsRoom, marksRoom}
+use Rattle.tables.specs.Table.{marksRoom}
+use Rattle.layers.specs.declared.StackTables.{StackTables}
+use Rattle.layers.specs.Layers.{layersRoom}
+use Rattle.layers.specs.Laws.{inside-none}
 use Rattle.rows.specs.Rows.{noTables}
 use Rattle.columns.specs.Given.{noMarks}
 use Rattle.problems.specs.Problems.{noProblem}
@@ -26,10 +29,18 @@ pub record Holds (last pairs marks rows answers out : List ℕ) (n : Numbers) (f
   pub all-out : length out ≡ 131072
   pub waits : filled ≤ 49152
 
+-- the numbers of one layer without a name or a record
+abbrev pub emptyLayers : StackTables
+emptyLayers = record {
+  tables = record { names = 0; bytes = 0; object = 2 ^ 64 - 1; cloneable = 2 ^ 64 - 1; serializable = 2 ^ 64 - 1; pairs = 0 };
+  layer = record { own = record { words = replicate 16 0 }; keys = 0 };
+  under = 0;
+}
+
 -- the numbers of the empty state
 abbrev pub emptyNumbers : Numbers
 emptyNumbers = record {
-  tables = record { names = 0; bytes = 0; object = 2 ^ 64 - 1; cloneable = 2 ^ 64 - 1; serializable = 2 ^ 64 - 1; pairs = 0 };
+  stack = emptyLayers;
   last = 0;
   components = 0;
   variables = 0;
@@ -44,6 +55,13 @@ emptyNumbers = record {
 abbrev pub Empty : Numbers → Type 0
 Empty n = n ≡ emptyNumbers
 
+-- as the code makes them
+pub layers-empty : (s : Set) → s .words ≡ replicate 16 0 → _≡_ {A = StackTables} (record { tables = emptyLayers .tables; layer = record { own = s; keys = 0 }; under = 0 }) emptyLayers
+layers-empty s e = λ i. record { tables = emptyLayers .tables; layer = record { own = record { words = e i }; keys = 0 }; under = 0 }
+
+pub numbers-empty : (s : StackTables) → s ≡ emptyLayers → Empty (record { stack = s; last = 0; components = 0; variables = 0; bounds = 0; flows = 0; uppers = 0; reads = 0; writes = 0; rank = 0 })
+numbers-empty s e = λ i. record { stack = e i; last = 0; components = 0; variables = 0; bounds = 0; flows = 0; uppers = 0; reads = 0; writes = 0; rank = 0 }
+
 pub say-room : (filled : ℕ) (out : List ℕ) → filled ≤ 49152 → length out ≡ 131072 → filled + 81920 ≤ length out
 say-room filled out a b = omega arith
 
@@ -53,12 +71,12 @@ module _ (last pairs marks rows : List ℕ) where
   unfolding emptyStore noTables noProblem
   store-empty m = λ i. record {
     last = [];
-    classes = record { tables = emptyNumbers .tables; keys = []; marks = m i };
+    classes = record { top = record { shown = record { tables = emptyLayers .tables; keys = []; marks = m i }; own = replicate 16 0 }; under = 0 };
     problem = record { components = 0; variables = []; bounds = []; flows = []; upperFlows = []; reads = []; writes = [] };
     rank = 0;
   }
 
-  pub stands-empty : length last ≡ 255 → length pairs ≡ pairsRoom → marks ≡ noMarks → length marks ≡ marksRoom → length rows ≡ problemRoom → Stands last pairs marks rows emptyNumbers
+  pub stands-empty : length last ≡ 255 → length pairs ≡ layersRoom → marks ≡ noMarks → length marks ≡ marksRoom → length rows ≡ problemRoom → Stands last pairs marks rows emptyNumbers
   stands-empty a b m c d =
       let sound : Sound (storeOf (slicesOf last pairs marks rows) emptyNumbers) = subst Sound (sym (store-empty m)) sound-empty in
       record {
@@ -66,17 +84,18 @@ module _ (last pairs marks rows : List ℕ) where
           sized = sized last pairs marks rows a b c d;
           within = record { last = omega arith; variables = omega arith; bounds = omega arith; flows = omega arith; uppers = omega arith; reads = omega arith; writes = omega arith };
           sound = sound;
+          counted = ap length (sym (inside-none []));
           keeps = record { held = sound .held; keyed = refl };
         };
         all-rows = d;
       }
 
 -- EMPTY ARRAYS hold it
-pub holds-empty : (last pairs marks rows answers out : List ℕ) → last ≡ replicate 255 0 → pairs ≡ replicate pairsRoom 0 → marks ≡ noMarks → rows ≡ replicate problemRoom 0 → answers ≡ replicate 2048 0 → out ≡ replicate 131072 0
+pub holds-empty : (last pairs marks rows answers out : List ℕ) → last ≡ replicate 255 0 → pairs ≡ replicate layersRoom 0 → marks ≡ noMarks → rows ≡ replicate problemRoom 0 → answers ≡ replicate 2048 0 → out ≡ replicate 131072 0
     → Holds last pairs marks rows answers out emptyNumbers 0
 holds-empty last pairs marks rows answers out a b c d e f = record {
   stands =
-      stands-empty last pairs marks rows (ap length a ∙ length-replicate {A = ℕ} 255 0) (ap length b ∙ length-replicate {A = ℕ} pairsRoom 0) c
+      stands-empty last pairs marks rows (ap length a ∙ length-replicate {A = ℕ} 255 0) (ap length b ∙ length-replicate {A = ℕ} layersRoom 0) c
       (ap length c ∙ length-replicate {A = ℕ} marksRoom 0) (ap length d ∙ length-replicate {A = ℕ} problemRoom 0);
   all-answers = ap length e ∙ length-replicate {A = ℕ} 2048 0;
   all-out = ap length f ∙ length-replicate {A = ℕ} 131072 0;

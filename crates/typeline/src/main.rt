@@ -4,13 +4,16 @@ mod input;
 mod output;
 
 use framestate::Numbers;
+use layers::Layer;
+use layers::StackTables;
 use saying::say_line;
+use sets::Set;
 use tables::Tables;
 ghost use mathlib.Core.Path.{_≡_};
 ghost use Prim.Native.Nat.{_≤_};
 ghost use lib.ListN.{length};
 ghost use Rattle.stepping.specs.Stepping.{Stands};
-ghost use Rattle.typeline.specs.Held.{Holds, emptyNumbers, Empty};
+ghost use Rattle.typeline.specs.Held.{Holds, emptyLayers, emptyNumbers, Empty};
 
 // What goes from line to line: the numbers of the state, how many lines are past, how many bytes there are of the line so far, how much of the
 // output waits, and whether the input ended.
@@ -51,9 +54,9 @@ impl State {
     }
 }
 
-// No name, no row, nothing accepted.
-fn no_numbers() -> Numbers
-    ensures { λ r. ⌜ Empty r ⌝ }
+// One layer without a name or a record.
+fn no_layers() -> StackTables
+    ensures { λ r. ⌜ r ≡ emptyLayers ⌝ }
 {
     let tables = Tables {
         names: 0,
@@ -63,8 +66,24 @@ fn no_numbers() -> Numbers
         serializable: u64::MAX,
         pairs: 0,
     };
-    Numbers {
+    let layer = Layer {
+        own: Set::empty(),
+        keys: 0,
+    };
+    StackTables {
         tables: tables,
+        layer: layer,
+        under: 0,
+    }
+}
+
+// No name, no row, nothing accepted.
+fn no_numbers() -> Numbers
+    ensures { λ r. ⌜ Empty r ⌝ }
+{
+    let stack = no_layers();
+    Numbers {
+        stack: stack,
         last: 0,
         components: 0,
         variables: 0,
@@ -254,7 +273,7 @@ fn main() {
     let mut chunk = [0u8; 65536];
     let mut line = [0u8; 1025];
     let mut last = [0u8; 255];
-    let mut pairs = [0u64; 4096];
+    let mut pairs = [0u64; 16384];
     let mut marks = [0u64; 64];
     let mut rows = [0u64; 11264];
     let mut answers = [0u64; 2048];

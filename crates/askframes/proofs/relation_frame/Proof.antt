@@ -30,8 +30,8 @@ refuse-requires c κs = search needs
 
 returns : tie.Need-returns
 returns c =
-    let a = c .before .before .before .before .before .before .before .before .before .args in
-    asked-none _ _ (a .n) _ (c .before .before .check-ask .ensures ∙ same-refusal (a .n .tables) _ _ _ _ (c .before .before .before .before .before .number-at .ensures .0) (c .before .before .before .before .number-at2 .ensures .0)) _ (c .refuse .ensures) (c .before .if1 .taken)
+    let a = c .before .before .before .before .before .before .before .before .before .before .args in
+    asked-none _ _ (a .n) _ (c .before .before .check-ask .ensures ∙ same-refusal (a .n .stack .tables) _ _ _ _ (c .before .before .before .before .before .before .number-at .ensures .0) (c .before .before .before .before .before .number-at2 .ensures .0)) _ (c .refuse .ensures) (c .before .if1 .taken)
 
 subtype-relation-requires : tie.Need-subtype-relation-requires
 subtype-relation-requires c κs = search needs
@@ -44,11 +44,11 @@ say-requires c κs = search needs
 
 returns-2 : tie.Need-returns-2
 returns-2 c =
-    let a = c .before .before .before .before .before .before .before .before .before .before .before .args in
-    let x = c .before .before .before .before .before .before .before .number-at .ensures .0 in
-    let y = c .before .before .before .before .before .before .number-at2 .ensures .0 in
-    asked-some _ _ (a .n) _ (c .before .before .before .before .check-ask .ensures ∙ same-refusal (a .n .tables) _ _ _ _ x y) _ _ (c .say .ensures) (omega arith)
-    (ap Related (c .before .relation-number .ensures ∙ ap relationNumber (c .before .before .subtype-relation .ensures) ∙ ap₂ (λ (p q : ℕ). relationNumber (relation (viewOf (a .pairs .now) (a .marks .now) (a .n .tables)) p q)) x y))
+    let a = c .before .before .before .before .before .before .before .before .before .before .before .before .args in
+    let x = c .before .before .before .before .before .before .before .before .number-at .ensures .0 in
+    let y = c .before .before .before .before .before .before .before .number-at2 .ensures .0 in
+    asked-some _ _ (a .n) _ (c .before .before .before .before .check-ask .ensures ∙ same-refusal (a .n .stack .tables) _ _ _ _ x y) _ _ (c .say .ensures) (omega arith)
+    (ap Related (c .before .relation-number .ensures ∙ ap relationNumber (c .before .before .subtype-relation .ensures) ∙ ap₂ (λ (p q : ℕ). relationNumber (relation (viewOf (a .pairs .now) (a .marks .now) (a .n .stack .tables)) p q)) x y))
 
 pub relation-frame-spec : {M : Type 1} → statement M
 relation-frame-spec =

@@ -29,25 +29,25 @@ refuse-requires c κs = search needs
 
 returns : tie.Need-returns
 returns c =
-    let a = c .before .before .before .before .before .before .before .before .before .args in
-    asked-none _ _ (a .n) _ (c .before .before .check-ask .ensures ∙ same-refusal (a .n .tables) _ _ _ _ (c .before .before .before .before .before .number-at .ensures .0) (c .before .before .before .before .number-at2 .ensures .0)) _ (c .refuse .ensures) (c .before .if1 .taken)
+    let a = c .before .before .before .before .before .before .before .before .before .before .args in
+    asked-none _ _ (a .n) _ (c .before .before .check-ask .ensures ∙ same-refusal (a .n .stack .tables) _ _ _ _ (c .before .before .before .before .before .before .number-at .ensures .0) (c .before .before .before .before .before .number-at2 .ensures .0)) _ (c .refuse .ensures) (c .before .if1 .taken)
 
 supertype-requires : tie.Need-supertype-requires
 supertype-requires c κs =
-    let s = c .before .before .before .before .before .before .before .before in
-    let k = ask-passed (s .args .n .tables) _ _ (sym (c .before .check-ask .ensures) ∙ (let z : c .before .check-ask .result ≡ 0 = omega arith in z)) in
-    (s .pre .1, s .pre .2 (k .2), k .0, k .1, plain-prepared (s .args .pairs .now) (s .args .marks .now) (s .args .n .tables) (s .pre .3) (λ e n. let r = s .pre .4 in omega arith))
+    let s = c .before .before .before .before .before .before .before .before .before in
+    let k = ask-passed (s .args .n .stack .tables) _ _ (sym (c .before .check-ask .ensures) ∙ (let z : c .before .check-ask .result ≡ 0 = omega arith in z)) in
+    (s .pre .1, s .pre .2 (k .2), k .0, k .1, plain-prepared (s .args .pairs .now) (s .args .marks .now) (s .args .n .stack .tables) (s .pre .3) (λ e n. let r = s .pre .4 in omega arith))
 
 say-requires : tie.Need-say-requires
 say-requires c κs = search needs
 
 returns-2 : tie.Need-returns-2
 returns-2 c =
-    let a = c .before .before .before .before .before .before .before .before .before .before .args in
-    let x = c .before .before .before .before .before .before .number-at .ensures .0 in
-    let y = c .before .before .before .before .before .number-at2 .ensures .0 in
-    asked-some _ _ (a .n) _ (c .before .before .before .check-ask .ensures ∙ same-refusal (a .n .tables) _ _ _ _ x y) _ _ (c .say .ensures) (omega arith)
-    (ap Supertyped (c .before .supertype .ensures ∙ ap₂ (λ (p q : ℕ). numberOf (supertype (viewOf (a .pairs .now) (a .marks .now) (a .n .tables)) p q)) x y))
+    let a = c .before .before .before .before .before .before .before .before .before .before .before .args in
+    let x = c .before .before .before .before .before .before .before .number-at .ensures .0 in
+    let y = c .before .before .before .before .before .before .number-at2 .ensures .0 in
+    asked-some _ _ (a .n) _ (c .before .before .before .check-ask .ensures ∙ same-refusal (a .n .stack .tables) _ _ _ _ x y) _ _ (c .say .ensures) (omega arith)
+    (ap Supertyped (c .before .supertype .ensures ∙ ap₂ (λ (p q : ℕ). numberOf (supertype (viewOf (a .pairs .now) (a .marks .now) (a .n .stack .tables)) p q)) x y))
 
 pub supertype-frame-spec : {M : Type 1} → statement M
 supertype-frame-spec =

@@ -6,7 +6,7 @@ use Prim.Native.Nat.{_%_, _≤_, _<_}
 use native.Mathlib.Omega.{arith}
 use lib.Dec.{eqb, leb}
 use borrow.Author.Tests.{le-leb, lt-leb, eq-eqb, ne-eqb}
-use Rattle.frameheads.specs.Heads.{length-1, length-2, length-4, length-5, length-10, length-pair}
+use Rattle.frameheads.specs.Heads.{length-1, length-2, length-4, length-5, length-10, length-14, length-pair}
 use Rattle.frameheads.proofs.is_length.Statement.{statement}
 use Rattle.frameheads.proofs.is_length.Tie as tie
 use Rattle.frameheads.proofs.is_length.Reads as reads
@@ -37,7 +37,10 @@ returns-8 : tie.Need-returns-8
 returns-8 c = let a = c .before .before .before .before .before .args in sym (length-10 (a .kind) (a .n) (c .if8 .taken))
 
 returns-9 : tie.Need-returns-9
-returns-9 c = let a = c .before .before .before .before .before .args in sym (length-pair (a .kind) (a .n) (c .before .before .before .before .if1 .left) (c .before .before .before .if3 .left) (omega arith) (c .before .if7 .left) (c .if8 .left))
+returns-9 c = let a = c .before .before .before .before .before .before .args in sym (length-14 (a .kind) (a .n) (omega arith))
+
+returns-10 : tie.Need-returns-10
+returns-10 c = let a = c .before .before .before .before .before .before .args in sym (length-pair (a .kind) (a .n) (c .before .before .before .before .before .if1 .left) (c .before .before .before .before .if3 .left) (omega arith) (c .before .before .if7 .left) (c .before .if8 .left) (c .if9 .left))
 
 pub is-length-spec : {M : Type 1} → statement M
 is-length-spec =
@@ -51,4 +54,5 @@ is-length-spec =
     returns-6
     returns-7
     returns-8
-    returns-9)
+    returns-9
+    returns-10)

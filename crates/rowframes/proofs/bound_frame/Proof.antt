@@ -32,8 +32,8 @@ same-length c = search needs
 
 returns : tie.Need-returns
 returns c =
-    let a = c .before .before .before .before .before .before .before .before .before .before .before .before .args in
-    row-frames _ _ _ _ (a .n) (boundNumbers (a .n)) _ _ _ (same-bound _ _ _ _ _ _ _ _ _ (c .before .before .before .before .before .before .before .before .before .number-at .ensures .0) (c .before .before .before .before .before .before .before .before .byte-at .ensures .0) (c .before .before .before .before .before .before .before .word-at-3 .ensures .0))
+    let a = c .before .before .before .before .before .before .before .before .before .before .before .before .before .args in
+    row-frames _ _ _ _ (a .n) (boundNumbers (a .n)) _ _ _ (same-bound _ _ _ _ _ _ _ _ _ (c .before .before .before .before .before .before .before .before .before .before .number-at .ensures .0) (c .before .before .before .before .before .before .before .before .before .byte-at .ensures .0) (c .before .before .before .before .before .before .before .before .word-at-3 .ensures .0))
     (c .before .before .before .before .add-bound .ensures) (c .before .with-bounds .ensures) (c .finish .ensures)
 
 pub bound-frame-spec : {M : Type 1} → statement M

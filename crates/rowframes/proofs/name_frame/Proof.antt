@@ -32,8 +32,8 @@ same-length c = search needs
 
 returns : tie.Need-returns
 returns c =
-    let a = c .before .before .before .before .before .before .before .before .before .args in
-    name-none _ _ (a .body .now) (a .last .now) (a .n) (c .before .before .before .add-name .ensures ∙ ap (λ (l : List ℕ). nameRow l (a .body .now) (a .n .tables)) (part-front (a .n .last) (a .last .now))) _ (c .refuse .ensures) (c .before .if1 .taken)
+    let a = c .before .before .before .before .before .before .before .before .before .before .args in
+    name-none _ _ (a .body .now) (a .last .now) (a .n) (c .before .before .before .add-name .ensures ∙ ap (λ (l : List ℕ). nameRow l (a .body .now) (a .n .stack .tables)) (part-front (a .n .last) (a .last .now))) _ (c .refuse .ensures) (c .before .if1 .taken)
 
 copy-requires : tie.Need-copy-requires
 copy-requires c κs = search needs
@@ -49,8 +49,8 @@ same-length-2 c = search needs
 
 returns-2 : tie.Need-returns-2
 returns-2 c =
-    let a = c .before .before .before .before .before .before .before .before .before .before .before .before .before .before .before .args in
-    name-all _ _ (a .body .now) (a .last .now) (a .n) (c .before .before .before .before .before .before .before .before .before .add-name .ensures ∙ ap (λ (l : List ℕ). nameRow l (a .body .now) (a .n .tables)) (part-front (a .n .last) (a .last .now))) _ _ _ (c .accept .ensures) (c .before .named .ensures) (omega arith) (c .before .before .before .before .before .copy .ensures)
+    let a = c .before .before .before .before .before .before .before .before .before .before .before .before .before .before .before .before .args in
+    name-all _ _ (a .body .now) (a .last .now) (a .n) (c .before .before .before .before .before .before .before .before .before .add-name .ensures ∙ ap (λ (l : List ℕ). nameRow l (a .body .now) (a .n .stack .tables)) (part-front (a .n .last) (a .last .now))) _ _ _ (c .accept .ensures) (c .before .named .ensures) (omega arith) (c .before .before .before .before .before .copy .ensures)
 
 pub name-frame-spec : {M : Type 1} → statement M
 name-frame-spec =

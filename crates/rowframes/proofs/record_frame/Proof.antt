@@ -38,14 +38,14 @@ byte-at-requires c κs = search needs
 number-at-requires : tie.Need-number-at-requires
 number-at-requires c κs = search needs
 
-sub-add-record : tie.Need-sub-add-record
-sub-add-record c = search needs
+sub-add-to-stack : tie.Need-sub-add-to-stack
+sub-add-to-stack c = search needs
 
-part-add-record-start : tie.Need-part-add-record-start
-part-add-record-start c = search needs
+part-add-to-stack-start : tie.Need-part-add-to-stack-start
+part-add-to-stack-start c = search needs
 
-part-add-record-end : tie.Need-part-add-record-end
-part-add-record-end c =
+part-add-to-stack-end : tie.Need-part-add-to-stack-end
+part-add-to-stack-end c =
     let b = c .before .before .before .before .before .before .before .before .before .before .before .args .body .now in
     let l = length-drop 3 b in
     let e = take-all (length b - 3) (drop 3 b) (omega arith) in
@@ -54,8 +54,8 @@ part-add-record-end c =
     let k = c .before .before .before .before .before .put-numbers .kept .1 .0 in
     omega arith
 
-add-record-requires : tie.Need-add-record-requires
-add-record-requires c κs = search needs
+add-to-stack-requires : tie.Need-add-to-stack-requires
+add-to-stack-requires c κs = search needs
 
 recorded-requires : tie.Need-recorded-requires
 recorded-requires c κs = search needs
@@ -77,7 +77,7 @@ returns c =
     let p = c .before .before .before .before .before .before .before .before .before .before .before .before .before .before .before .before .put-numbers in
     record-frames _ _ _ _ _ (c .before .before .before .before .before .before .before .before .before .before .before .before .before .before .before .before .before .before .before .before .before .before .args .n) _ _ _
     (same-record _ _ _ _ _ _ _ (c .before .before .before .before .before .before .before .before .before .before .before .before .before .before .byte-at .ensures .0) (c .before .before .before .before .before .before .before .before .before .before .before .before .before .number-at .ensures .0) (part-front (p .result) _ ∙ ap (take (p .result)) (p .ensures .1) ∙ take-filled _ _ (p .result) (p .ensures .0) ∙ ap numbersIn e))
-    (c .before .before .before .before .before .before .before .add-record .ensures) (c .before .recorded .ensures) (c .finish .ensures)
+    (c .before .before .before .before .before .before .before .add-to-stack .ensures) (c .before .recorded .ensures) (c .finish .ensures)
 
 pub record-frame-spec : {M : Type 1} → statement M
 record-frame-spec =
@@ -90,10 +90,10 @@ record-frame-spec =
     put-numbers-requires
     byte-at-requires
     number-at-requires
-    sub-add-record
-    part-add-record-start
-    part-add-record-end
-    add-record-requires
+    sub-add-to-stack
+    part-add-to-stack-start
+    part-add-to-stack-end
+    add-to-stack-requires
     recorded-requires
     finish-requires
     same-length

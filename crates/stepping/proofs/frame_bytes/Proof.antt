@@ -1,6 +1,6 @@
 -- `frame_bytes` meets its contract: the head's refusal, or the step of the message.
 use mir.Facts.{fits-8-64}
-use mathlib.Core.Path.{refl}
+use mathlib.Core.Path.{refl, sym, _∙_}
 use native.Mathlib.Nat.{le-refl}
 use Rattle.framestate.specs.declared.Said.the-variants.{Refused}
 use Rattle.framestate.specs.FrameState.{framed}
@@ -36,8 +36,11 @@ part-body-start c = c .before .before .before .before .before .before .before .b
 part-body-end : tie.Need-part-body-end
 part-body-end c = le-refl _
 
+is-class-kind-requires : tie.Need-is-class-kind-requires
+is-class-kind-requires c κs = tt
+
 class-message-requires : tie.Need-class-message-requires
-class-message-requires c κs = let s = c .before .before .before .before .before .before .before .before .before .before .before .before .before .before .before in let a = s .args in (s .pre .0, bytes-headed (a .bytes .now) (slicesOf (a .last .now) (a .pairs .now) (a .marks .now) (a .rows .now)) (slicesOf (a .last .now) (a .pairs .now) (a .marks .now) (a .rows .now)) (a .n) (s .pre .0 .ready) (a .answers .now) (a .answers .now) (framed (Refused 0) (a .n)) (c .before .before .before .before .before .before .before .check-head .result) (c .before .before .before .before .before .before .before .check-head .ensures) (c .before .before .before .before .before .before .if1 .left), c .before .before .before .before .if2 .taken)
+class-message-requires c κs = let s = c .before .before .before .before .before .before .before .before .before .before .before .before .before .before .before .before in let a = s .args in (s .pre .0, bytes-headed (a .bytes .now) (slicesOf (a .last .now) (a .pairs .now) (a .marks .now) (a .rows .now)) (slicesOf (a .last .now) (a .pairs .now) (a .marks .now) (a .rows .now)) (a .n) (s .pre .0 .ready) (a .answers .now) (a .answers .now) (framed (Refused 0) (a .n)) (c .before .before .before .before .before .before .before .before .check-head .result) (c .before .before .before .before .before .before .before .before .check-head .ensures) (c .before .before .before .before .before .before .before .if1 .left), sym (c .before .before .before .before .before .is-class-kind .ensures) ∙ c .before .before .before .before .if2 .taken)
 
 same-length : tie.Need-same-length
 same-length c = c .before .before .before .before .before .before .class-message .kept .1 .1 .0
@@ -52,10 +55,10 @@ same-length-4 : tie.Need-same-length-4
 same-length-4 c = refl
 
 returns-2 : tie.Need-returns-2
-returns-2 c = let s = c .before .before .before .before .before .before .before .before .before .before .before .before .before .before .before .before .before .before .before .before .before .before in let a = s .args in bytes-passed (a .bytes .now) (slicesOf (a .last .now) (a .pairs .now) (a .marks .now) (a .rows .now)) (slicesOf (c .before .before .before .before .before .before .class-message .last .1 .1 .0) (c .before .before .before .before .before .before .class-message .last .1 .1 .1 .0) (c .before .before .before .before .before .before .class-message .last .1 .1 .1 .1 .0) (a .rows .now)) (a .n) (s .pre .0 .ready) (a .answers .now) (a .answers .now) (c .before .before .before .before .before .before .class-message .result) (c .before .before .before .before .before .before .before .before .before .before .before .before .before .before .check-head .result) (c .before .before .before .before .before .before .before .before .before .before .before .before .before .before .check-head .ensures) (c .before .before .before .before .before .before .before .before .before .before .before .before .before .if1 .left) (c .before .before .before .before .before .before .class-message .ensures (a .answers .now))
+returns-2 c = let s = c .before .before .before .before .before .before .before .before .before .before .before .before .before .before .before .before .before .before .before .before .before .before .before in let a = s .args in bytes-passed (a .bytes .now) (slicesOf (a .last .now) (a .pairs .now) (a .marks .now) (a .rows .now)) (slicesOf (c .before .before .before .before .before .before .class-message .last .1 .1 .0) (c .before .before .before .before .before .before .class-message .last .1 .1 .1 .0) (c .before .before .before .before .before .before .class-message .last .1 .1 .1 .1 .0) (a .rows .now)) (a .n) (s .pre .0 .ready) (a .answers .now) (a .answers .now) (c .before .before .before .before .before .before .class-message .result) (c .before .before .before .before .before .before .before .before .before .before .before .before .before .before .before .check-head .result) (c .before .before .before .before .before .before .before .before .before .before .before .before .before .before .before .check-head .ensures) (c .before .before .before .before .before .before .before .before .before .before .before .before .before .before .if1 .left) (c .before .before .before .before .before .before .class-message .ensures (a .answers .now))
 
 later-message-requires : tie.Need-later-message-requires
-later-message-requires c κs = let s = c .before .before .before .before .before .before .before .before .before .before .before .before .before .before .before .before in let a = s .args in (s .pre .0, s .pre .1, bytes-headed (a .bytes .now) (slicesOf (a .last .now) (a .pairs .now) (a .marks .now) (a .rows .now)) (slicesOf (a .last .now) (a .pairs .now) (a .marks .now) (a .rows .now)) (a .n) (s .pre .0 .ready) (a .answers .now) (a .answers .now) (framed (Refused 0) (a .n)) (c .before .before .before .before .before .before .before .before .check-head .result) (c .before .before .before .before .before .before .before .before .check-head .ensures) (c .before .before .before .before .before .before .before .if1 .left), bytes-rest (a .bytes .now) (slicesOf (a .last .now) (a .pairs .now) (a .marks .now) (a .rows .now)) (slicesOf (a .last .now) (a .pairs .now) (a .marks .now) (a .rows .now)) (a .n) (s .pre .0 .ready) (a .answers .now) (a .answers .now) (framed (Refused 0) (a .n)) (c .before .before .before .before .before .before .before .before .check-head .result) (c .before .before .before .before .before .before .before .before .check-head .ensures) (s .pre .2), c .before .before .before .before .before .if2 .left)
+later-message-requires c κs = let s = c .before .before .before .before .before .before .before .before .before .before .before .before .before .before .before .before .before in let a = s .args in (s .pre .0, s .pre .1, bytes-headed (a .bytes .now) (slicesOf (a .last .now) (a .pairs .now) (a .marks .now) (a .rows .now)) (slicesOf (a .last .now) (a .pairs .now) (a .marks .now) (a .rows .now)) (a .n) (s .pre .0 .ready) (a .answers .now) (a .answers .now) (framed (Refused 0) (a .n)) (c .before .before .before .before .before .before .before .before .before .check-head .result) (c .before .before .before .before .before .before .before .before .before .check-head .ensures) (c .before .before .before .before .before .before .before .before .if1 .left), bytes-rest (a .bytes .now) (slicesOf (a .last .now) (a .pairs .now) (a .marks .now) (a .rows .now)) (slicesOf (a .last .now) (a .pairs .now) (a .marks .now) (a .rows .now)) (a .n) (s .pre .0 .ready) (a .answers .now) (a .answers .now) (framed (Refused 0) (a .n)) (c .before .before .before .before .before .before .before .before .before .check-head .result) (c .before .before .before .before .before .before .before .before .before .check-head .ensures) (s .pre .2), sym (c .before .before .before .before .before .before .is-class-kind .ensures) ∙ c .before .before .before .before .before .if2 .left)
 
 same-length-5 : tie.Need-same-length-5
 same-length-5 c = refl
@@ -73,7 +76,7 @@ same-length-9 : tie.Need-same-length-9
 same-length-9 c = c .before .before .before .before .later-message .kept .1 .1 .1 .1 .1 .1 .0
 
 returns-3 : tie.Need-returns-3
-returns-3 c = let s = c .before .before .before .before .before .before .before .before .before .before .before .before .before .before .before .before .before .before .before .before .before in let a = s .args in bytes-passed (a .bytes .now) (slicesOf (a .last .now) (a .pairs .now) (a .marks .now) (a .rows .now)) (slicesOf (a .last .now) (a .pairs .now) (a .marks .now) (c .before .before .before .before .later-message .last .1 .1 .1 .1 .1 .0)) (a .n) (s .pre .0 .ready) (a .answers .now) (c .before .before .before .before .later-message .last .1 .1 .1 .1 .1 .1 .0) (c .before .before .before .before .later-message .result) (c .before .before .before .before .before .before .before .before .before .before .before .before .before .check-head .result) (c .before .before .before .before .before .before .before .before .before .before .before .before .before .check-head .ensures) (c .before .before .before .before .before .before .before .before .before .before .before .before .if1 .left) (c .before .before .before .before .later-message .ensures)
+returns-3 c = let s = c .before .before .before .before .before .before .before .before .before .before .before .before .before .before .before .before .before .before .before .before .before .before in let a = s .args in bytes-passed (a .bytes .now) (slicesOf (a .last .now) (a .pairs .now) (a .marks .now) (a .rows .now)) (slicesOf (a .last .now) (a .pairs .now) (a .marks .now) (c .before .before .before .before .later-message .last .1 .1 .1 .1 .1 .0)) (a .n) (s .pre .0 .ready) (a .answers .now) (c .before .before .before .before .later-message .last .1 .1 .1 .1 .1 .1 .0) (c .before .before .before .before .later-message .result) (c .before .before .before .before .before .before .before .before .before .before .before .before .before .before .check-head .result) (c .before .before .before .before .before .before .before .before .before .before .before .before .before .before .check-head .ensures) (c .before .before .before .before .before .before .before .before .before .before .before .before .before .if1 .left) (c .before .before .before .before .later-message .ensures)
 
 pub frame-bytes-spec : {M : Type 1} → statement M
 frame-bytes-spec =
@@ -88,6 +91,7 @@ frame-bytes-spec =
     sub-body
     part-body-start
     part-body-end
+    is-class-kind-requires
     class-message-requires
     same-length
     same-length-2

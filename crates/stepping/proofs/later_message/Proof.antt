@@ -1,13 +1,13 @@
 -- `later_message` meets its contract: by the frame of each kind.
 use mathlib.Core.Path.{refl}
 use Rattle.solveframe.specs.Leaving.{solve-ready}
-use Rattle.stepping.specs.Needs.{past-10}
+use Rattle.stepping.specs.Needs.{past-10, is-later}
 use Rattle.stepping.specs.Kinds.{solve-step}
 use Rattle.stepping.proofs.later_message.Statement.{statement}
 use Rattle.stepping.proofs.later_message.Tie as tie
 
 value-message-requires : tie.Need-value-message-requires
-value-message-requires c κs = (c .before .before .before .before .before .before .before .before .pre .0, c .before .before .before .before .before .before .before .before .pre .2, c .before .before .before .before .before .before .before .before .pre .3, c .before .before .before .before .before .before .before .before .pre .4, c .before .if1 .taken)
+value-message-requires c κs = (c .before .before .before .before .before .before .before .before .pre .0, c .before .before .before .before .before .before .before .before .pre .2, c .before .before .before .before .before .before .before .before .pre .3, is-later (c .before .before .before .before .before .before .before .before .args .kind) (c .before .before .before .before .before .before .before .before .pre .4) .0, c .before .if1 .taken)
 
 same-length : tie.Need-same-length
 same-length c = c .before .before .value-message .kept .1 .1 .1 .1 .1 .0
@@ -37,7 +37,7 @@ returns-3 : tie.Need-returns-3
 returns-3 c = solve-step (c .before .before .before .before .before .before .before .before .before .before .before .before .before .before .args .kind) (c .before .before .before .before .before .before .before .before .before .before .before .before .before .before .args .body .now) (c .before .before .before .before .before .before .before .before .before .before .before .before .before .before .args .last .now) (c .before .before .before .before .before .before .before .before .before .before .before .before .before .before .args .pairs .now) (c .before .before .before .before .before .before .before .before .before .before .before .before .before .before .args .marks .now) (c .before .before .before .before .before .before .before .before .before .before .before .before .before .before .args .rows .now) (c .before .before .before .before .before .before .before .before .before .before .before .before .before .before .args .n) (c .before .before .before .before .before .before .before .before .before .before .before .before .before .before .pre .0) _ (c .before .before .before .before .before .before .before .before .before .before .before .before .before .before .args .answers .now) _ (c .before .before .before .before .before .if3 .taken) (c .before .before .solve-frame .ensures)
 
 question-message-requires : tie.Need-question-message-requires
-question-message-requires c κs = (c .before .before .before .before .before .before .before .before .before .before .pre .0, c .before .before .before .before .before .before .before .before .before .before .pre .2, past-10 (c .before .before .before .before .before .before .before .before .before .before .args .kind) (c .before .before .if2 .left) (c .before .if3 .left))
+question-message-requires c κs = (c .before .before .before .before .before .before .before .before .before .before .pre .0, c .before .before .before .before .before .before .before .before .before .before .pre .2, past-10 (c .before .before .before .before .before .before .before .before .before .before .args .kind) (c .before .before .if2 .left) (c .before .if3 .left), c .before .before .before .before .before .before .before .before .before .before .pre .4)
 
 same-length-5 : tie.Need-same-length-5
 same-length-5 c = refl

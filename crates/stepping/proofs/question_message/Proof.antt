@@ -17,10 +17,10 @@ returns-2 : tie.Need-returns-2
 returns-2 c = supertype-step (c .before .before .before .before .before .before .before .before .args .kind) (c .before .before .before .before .before .before .before .before .args .body .now) (c .before .before .before .before .before .before .before .before .args .last .now) (c .before .before .before .before .before .before .before .before .args .pairs .now) (c .before .before .before .before .before .before .before .before .args .marks .now) (c .before .before .before .before .before .before .before .before .args .rows .now) (c .before .before .before .before .before .before .before .before .args .n) (c .before .before .before .before .before .before .before .before .pre .0) _ (c .before .if2 .taken) (c .supertype-frame .ensures)
 
 cast-frame-requires : tie.Need-cast-frame-requires
-cast-frame-requires c κs = cast-needs (c .before .before .before .before .before .before .before .args .kind) (c .before .before .before .before .before .before .before .args .body .now) (c .before .before .before .before .before .before .before .args .last .now) (c .before .before .before .before .before .before .before .args .pairs .now) (c .before .before .before .before .before .before .before .args .marks .now) (c .before .before .before .before .before .before .before .args .rows .now) (c .before .before .before .before .before .before .before .args .n) (c .before .before .before .before .before .before .before .pre .0) (c .before .before .before .before .before .before .before .pre .1) (is-13 (c .before .before .before .before .before .before .before .args .kind) (c .before .before .before .before .before .before .before .pre .2) (passes (c .before .before .before .before .before .before .before .args .kind) (c .before .before .before .before .before .before .before .args .body .now) (c .before .before .before .before .before .before .before .args .last .now) (c .before .before .before .before .before .before .before .args .pairs .now) (c .before .before .before .before .before .before .before .args .marks .now) (c .before .before .before .before .before .before .before .args .rows .now) (c .before .before .before .before .before .before .before .args .n) (c .before .before .before .before .before .before .before .pre .0) (c .before .before .before .before .before .before .before .pre .1) .to) (c .before .if1 .left) (c .if2 .left))
+cast-frame-requires c κs = cast-needs (c .before .before .before .before .before .before .before .args .kind) (c .before .before .before .before .before .before .before .args .body .now) (c .before .before .before .before .before .before .before .args .last .now) (c .before .before .before .before .before .before .before .args .pairs .now) (c .before .before .before .before .before .before .before .args .marks .now) (c .before .before .before .before .before .before .before .args .rows .now) (c .before .before .before .before .before .before .before .args .n) (c .before .before .before .before .before .before .before .pre .0) (c .before .before .before .before .before .before .before .pre .1) (is-13 (c .before .before .before .before .before .before .before .args .kind) (c .before .before .before .before .before .before .before .pre .2) (passes (c .before .before .before .before .before .before .before .args .kind) (c .before .before .before .before .before .before .before .args .body .now) (c .before .before .before .before .before .before .before .args .last .now) (c .before .before .before .before .before .before .before .args .pairs .now) (c .before .before .before .before .before .before .before .args .marks .now) (c .before .before .before .before .before .before .before .args .rows .now) (c .before .before .before .before .before .before .before .args .n) (c .before .before .before .before .before .before .before .pre .0) (c .before .before .before .before .before .before .before .pre .1) .to) (c .before .before .before .before .before .before .before .pre .3) (c .before .if1 .left) (c .if2 .left))
 
 returns-3 : tie.Need-returns-3
-returns-3 c = cast-step (c .before .before .before .before .before .before .before .before .args .kind) (c .before .before .before .before .before .before .before .before .args .body .now) (c .before .before .before .before .before .before .before .before .args .last .now) (c .before .before .before .before .before .before .before .before .args .pairs .now) (c .before .before .before .before .before .before .before .before .args .marks .now) (c .before .before .before .before .before .before .before .before .args .rows .now) (c .before .before .before .before .before .before .before .before .args .n) (c .before .before .before .before .before .before .before .before .pre .0) _ (is-13 (c .before .before .before .before .before .before .before .before .args .kind) (c .before .before .before .before .before .before .before .before .pre .2) (passes (c .before .before .before .before .before .before .before .before .args .kind) (c .before .before .before .before .before .before .before .before .args .body .now) (c .before .before .before .before .before .before .before .before .args .last .now) (c .before .before .before .before .before .before .before .before .args .pairs .now) (c .before .before .before .before .before .before .before .before .args .marks .now) (c .before .before .before .before .before .before .before .before .args .rows .now) (c .before .before .before .before .before .before .before .before .args .n) (c .before .before .before .before .before .before .before .before .pre .0) (c .before .before .before .before .before .before .before .before .pre .1) .to) (c .before .before .if1 .left) (c .before .if2 .left)) (c .cast-frame .ensures)
+returns-3 c = cast-step (c .before .before .before .before .before .before .before .before .args .kind) (c .before .before .before .before .before .before .before .before .args .body .now) (c .before .before .before .before .before .before .before .before .args .last .now) (c .before .before .before .before .before .before .before .before .args .pairs .now) (c .before .before .before .before .before .before .before .before .args .marks .now) (c .before .before .before .before .before .before .before .before .args .rows .now) (c .before .before .before .before .before .before .before .before .args .n) (c .before .before .before .before .before .before .before .before .pre .0) _ (is-13 (c .before .before .before .before .before .before .before .before .args .kind) (c .before .before .before .before .before .before .before .before .pre .2) (passes (c .before .before .before .before .before .before .before .before .args .kind) (c .before .before .before .before .before .before .before .before .args .body .now) (c .before .before .before .before .before .before .before .before .args .last .now) (c .before .before .before .before .before .before .before .before .args .pairs .now) (c .before .before .before .before .before .before .before .before .args .marks .now) (c .before .before .before .before .before .before .before .before .args .rows .now) (c .before .before .before .before .before .before .before .before .args .n) (c .before .before .before .before .before .before .before .before .pre .0) (c .before .before .before .before .before .before .before .before .pre .1) .to) (c .before .before .before .before .before .before .before .before .pre .3) (c .before .before .if1 .left) (c .before .if2 .left)) (c .cast-frame .ensures)
 
 pub question-message-spec : {M : Type 1} → statement M
 question-message-spec =
