@@ -14,21 +14,30 @@
 
 #include "bracepuffin.h"
 
-enum { STACK = 2 << 20, NAMES = 1024, PAIRS = 4092, PAINT = 0xa5 };
+enum { STACK = 2 << 20, NAMES = 1024, PAIRS = 4092, LAYERS = 4, ROWS = LAYERS * (NAMES + 1), PAINT = 0xa5 };
 
 /* ---- the largest table: 1,023 names that are not ASCII and java/lang/Object, four parents a class. With cycles, classes 2
-   to 65 are above each other, and 0 and 1 below them, so that no order of the classes settles a supertype. */
+   to 65 are above each other, and 0 and 1 below them, so that no order of the classes settles a supertype. Of several
+   layers each has all records. */
 
 #define PREFIX "a\xc3\x9f\xc3\x9f\xc3\x9f\xc3\x9f\xc3\x9f\xc3\x9f\xf0\x9f\x98\x80"
 
 static uint8_t bytes[NAMES * 24];
 static uint64_t name_at[NAMES], name_len[NAMES];
-static uint64_t rec_flags[NAMES], rec_class[NAMES], rec_at[NAMES], rec_len[NAMES], parents[PAIRS];
-static size_t bytes_n;
+static uint64_t rec_flags[ROWS], rec_class[ROWS], rec_at[ROWS], rec_len[ROWS], parents[PAIRS];
+static size_t bytes_n, rows;
 static uint64_t work[BP_WORK];
 
-static void make_table(int cycles) {
-    bytes_n = 0;
+static void add_row(uint64_t flags, uint64_t class_no, uint64_t at, uint64_t len) {
+    rec_flags[rows] = flags;
+    rec_class[rows] = class_no;
+    rec_at[rows] = at;
+    rec_len[rows] = len;
+    rows++;
+}
+
+static void make_table(int cycles, int layers) {
+    bytes_n = rows = 0;
     for (size_t i = 0; i < NAMES; i++) {
         char text[32];
         int n = i + 1 < NAMES ? snprintf(text, sizeof text, PREFIX "%04zu", i) : snprintf(text, sizeof text, "java/lang/Object");
@@ -37,11 +46,11 @@ static void make_table(int cycles) {
         memcpy(bytes + bytes_n, text, (size_t)n);
         bytes_n += (size_t)n;
     }
+    for (int layer = 0; layer < layers; layer++) {
+        if (layer > 0) add_row(BP_OPENS_LAYER, 0, 0, 0);
+        for (size_t i = 0; i < NAMES; i++) add_row(BP_DECLARED, i, 4 * i, i + 1 < NAMES ? 4 : 0);
+    }
     for (size_t i = 0; i < NAMES; i++) {
-        rec_flags[i] = 1;
-        rec_class[i] = i;
-        rec_at[i] = 4 * i;
-        rec_len[i] = i + 1 < NAMES ? 4 : 0;
         for (size_t j = 0; i + 1 < NAMES && j < 4; j++) {
             size_t above = i / 8 * 8 + 8 + (i + j) % 8;
             if (cycles && i < 2) above = 2 + j;
@@ -52,7 +61,7 @@ static void make_table(int cycles) {
 }
 
 #define TABLE \
-    bytes, bytes_n, name_at, NAMES, name_len, NAMES, rec_flags, NAMES, rec_class, NAMES, rec_at, NAMES, rec_len, NAMES, parents, PAIRS
+    bytes, bytes_n, name_at, NAMES, name_len, NAMES, rec_flags, rows, rec_class, rows, rec_at, rows, rec_len, rows, parents, PAIRS
 
 /* ---- the largest problem: every kind of row, arrays of up to 255 dimensions; and one that joins such arrays and asks them of many
    upper bounds, and comes to its end */
@@ -218,8 +227,8 @@ int main(void) {
     size_t most[CALLS] = {0};
     make_problem();
     make_deep();
-    for (int cycles = 0; cycles < 2; cycles++) {
-        make_table(cycles);
+    for (int table = 0; table < 4; table++) {
+        make_table(table % 2, table < 2 ? 1 : LAYERS);
         for (size_t i = 0; i < CALLS; i++) {
             size_t used = stack_of(calls[i].call), other = stack_of(calls[i].also);
             if (used > most[i]) most[i] = used;

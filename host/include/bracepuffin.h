@@ -68,13 +68,15 @@ static uint64_t (*const bp_abi)(void) BP_USED = bp_abi_1;
 enum {
     BP_REFUSED_LENGTH = 3,                /* columns of unequal length; a name of no bytes or of more than 255, or not
                                              inside its slice; a record of more than 254 parents, or whose parents are
-                                             not inside their slice */
+                                             not inside their slice; a row that opens a layer and has a class other
+                                             than 0, or parents, or a place that is not inside */
     BP_REFUSED_NAME_ORDER = 5,            /* a name not above the one before it */
     BP_REFUSED_NUMBER = 6,                /* flags, a class or a parent of a record, a class asked about, or a component
                                              or kind of a problem's row, out of range */
     BP_REFUSED_TYPE = 7,                  /* no type word, or its class number not in the table */
     BP_REFUSED_ROOM = 8,                  /* more than 1,024 names, 24,576 name bytes, 4,096 distinct pairs of a class
-                                             and a parent, or 255 parameters; of a problem, see BP_PROBLEM */
+                                             and a parent in one layer, four layers, or 255 parameters; of a problem,
+                                             see BP_PROBLEM */
     BP_REFUSED_NO_OBJECT = 9,             /* a query or a solve over a table without the name java/lang/Object */
     BP_REFUSED_UTF8 = 10,                 /* a name that is not well-formed UTF-8 */
     BP_REFUSED_UNEXPECTED_END = 11,       /* the descriptor ends too early: offset */
@@ -118,8 +120,16 @@ enum {
  * their parents, and the last declared one gives interface and final. A class is recorded when it has a record, even
  * one without parents. Cycles and parents of java/lang/Object are allowed; parents may be shared or unused.
  *
+ * A row of the records whose flags are BP_OPENS_LAYER is no record: it opens a layer above all rows before it, and the
+ * records after it are of that layer. Its rec_class and its rec_len are 0, and its rec_at lies inside `parents` or at
+ * its end. A table has one layer without such a row, and four at most. What a layer records of a class takes the place
+ * of what the layers below record of it; the records of one layer unite. Interface and final come from the topmost
+ * layer with a declared record of the class, be its parents replaced or not. A class is recorded when a layer has a
+ * record of it. All answers are those over the table that the layers show together.
+ *
  * Each call checks its table: 3 for columns of unequal length, of names and of records; then name by name 3, 10, 5, 8;
- * then record by record 3, 6, 8. A pair that is already there is never refused 8.
+ * then row by row of the records 3, 6, 8, where one that opens a layer has 3 and 8 alone. 4,096 pairs a layer: a pair
+ * that the layer has already is never refused 8, one that only a layer below has counts anew.
  */
 #define BP_TABLE BP_NAMES, BP_IN64(rec_flags), BP_IN64(rec_class), BP_IN64(rec_at), BP_IN64(rec_len), BP_IN64(parents)
 
@@ -139,8 +149,9 @@ enum {
 /* Kinds of bounds. */
 enum { BP_KIND_DOMAIN = 0, BP_KIND_FALLBACK = 1, BP_KIND_UPPER = 2, BP_KIND_LOWER = 3, BP_KIND_EXACT = 4 };
 
-/* Flags of a record; 0 is a record that is not declared. */
+/* Flags of a record; 0 is a record that is not declared. And those of a row that opens a layer, see BP_TABLE. */
 enum { BP_DECLARED = 1, BP_INTERFACE = 2, BP_FINAL = 4 };
+#define BP_OPENS_LAYER 0x8e
 
 /* The least number of words that a working slice must have, and one that has them. */
 #define BP_WORK 8192
@@ -368,7 +379,8 @@ BpAnswer bp_assignable(BP_TABLE, uint64_t value, uint64_t expected, BP_OUT64(wor
 /*
  * Whether queries over this table are refused for its sake, and where: refusal is what each of them is refused with
  * that has a working slice long enough and asks about classes or types of the table. part is a BP_PART_, and row the
- * first refused one of it: name row of the names, record row of the records. What is accepted is 0, 0, 0.
+ * first refused one of it: name row of the names, row of the records, those that open a layer counted too. What is
+ * accepted is 0, 0, 0.
  */
 BpTable bp_check_table(BP_TABLE) BP_NONNULL;
 

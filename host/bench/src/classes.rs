@@ -56,6 +56,15 @@ pub fn program(count: usize) -> Vec<Declared> {
 
 pub fn index(classes: &[Declared]) -> ClassHierarchyIndex {
     let mut index = ClassHierarchyIndex::default();
+    add_all(&mut index, classes);
+    index
+}
+
+/// These records into the topmost layer of an index.
+pub fn add_all<'c>(
+    index: &mut ClassHierarchyIndex,
+    classes: impl IntoIterator<Item = &'c Declared>,
+) {
     for class in classes {
         let info = hierarchy::ReferenceTypeInfo {
             is_interface: class.is_interface,
@@ -63,10 +72,13 @@ pub fn index(classes: &[Declared]) -> ClassHierarchyIndex {
         };
         index.add_declared_type(class.name.clone(), class.parents.clone(), info);
     }
-    index
 }
 
 pub fn table(classes: &[Declared]) -> ClassTable {
+    builder(classes).build().expect("a sound table")
+}
+
+pub fn builder<'c>(classes: impl IntoIterator<Item = &'c Declared>) -> ClassTableBuilder<'c> {
     let mut builder = ClassTableBuilder::new();
     for class in classes {
         let info = ReferenceTypeInfo {
@@ -76,7 +88,7 @@ pub fn table(classes: &[Declared]) -> ClassTable {
         let parents = class.parents.iter().map(String::as_str);
         builder.add_declared_type(&class.name, parents, info);
     }
-    builder.build().expect("a sound table")
+    builder
 }
 
 /// Two classes at the ends of chains, the last ones of a program.
@@ -91,7 +103,9 @@ pub fn rows(effort: Effort) -> Vec<Row> {
     for count in effort.sizes {
         let classes = program(count);
         rows.extend(all_pairs(effort, &classes));
-        rows.extend(each_query(effort, &classes));
+        let (index, table) = (index(&classes), table(&classes));
+        let what = format!("{count} names");
+        rows.extend(each_query(effort, &what, &index, &table, ends(&classes)));
     }
     rows
 }
@@ -152,16 +166,19 @@ fn every_relation(table: &ClassTable) -> u64 {
 }
 
 /// One call of each query: far up a chain, and to a class that is no ancestor.
-fn each_query(effort: Effort, classes: &[Declared]) -> [Row; 6] {
-    let count = classes.len();
-    let (index, table) = (index(classes), table(classes));
-    let [left, right] = ends(classes);
+pub fn each_query(
+    effort: Effort,
+    over: &str,
+    index: &ClassHierarchyIndex,
+    table: &ClassTable,
+    [left, right]: [&str; 2],
+) -> [Row; 6] {
     let number = |name| table.class_number(name).expect("in the table").get();
     let (l, r) = (number(left), number(right));
     let mut work = vec![0; WORK];
     let columns = table.columns();
-    let what = |query: &str| format!("{count} names, {query}");
-    let relations = Relations::of(&table);
+    let what = |query: &str| format!("{over}, {query}");
+    let relations = Relations::of(table);
     [
         Row::of(
             effort,
@@ -181,7 +198,7 @@ fn each_query(effort: Effort, classes: &[Declared]) -> [Row; 6] {
             effort,
             what("distance"),
             || {
-                let distances = hierarchy::distances(&index, black_box(left));
+                let distances = hierarchy::distances(index, black_box(left));
                 distances.get(black_box(right)).copied()
             },
             || slices::distance(columns, black_box(l), black_box(r), &mut work),

@@ -1,8 +1,8 @@
 //! Nanoseconds a call of the Rust of docs/src, of the boundary over slices, and of the Rust wrapper over it, in one run.
 //!
 //!     cargo run --release --offline -p bench                     a table in Markdown
-//!     cargo run --release --offline -p bench -- classes          a part of it: descriptors, classes, types, solves, small,
-//!                                                                 shares, hostile; and by name alone solve-growths
+//!     cargo run --release --offline -p bench -- classes          a part of it: descriptors, classes, types, solves, layered,
+//!                                                                 small, shares, hostile; and by name alone solve-growths
 //!     cargo run --release --offline -p bench -- report           docs/PERFORMANCE.md, with plots beside it
 //!
 //! A report is refused where its figures would say nothing: in a build for tests, and under an emulator; `--force` after
@@ -17,6 +17,7 @@ mod descriptors;
 mod dressed;
 mod growth;
 mod hostile;
+mod layered;
 mod measure;
 mod plot;
 mod problems;

@@ -14,8 +14,9 @@ use judge::solve_cases::{
 };
 use judge::solves::Columns;
 
-use crate::classes::{index, program, table, Declared};
+use crate::classes::{program, Declared};
 use crate::dressed;
+use crate::layered::{index, split, table};
 
 /// How large a problem is, and its table.
 #[derive(Debug, Clone, Copy)]
@@ -50,14 +51,20 @@ pub struct Case {
 impl Case {
     /// A problem of that size that is not refused.
     pub fn of(size: Size) -> Self {
+        Self::in_layers(size, 1)
+    }
+
+    /// The same over a table of that many layers.
+    pub fn in_layers(size: Size, layers: usize) -> Self {
         let classes = declared(size.names);
-        let table = table(&classes);
+        let layers = split(&classes, layers);
+        let (index, table) = (index(&layers), table(&layers));
         let names: Vec<String> = table.names().iter().map(str::to_string).collect();
         let columns = realistic(size, &classes, &names);
         let solved = Lent::of(&columns).solve(table.columns(), &columns);
         assert_eq!(solved.refusal, 0, "{size:?}");
         Self {
-            index: index(&classes),
+            index,
             problem: columns.problem(&names),
             classes,
             table,

@@ -9,7 +9,7 @@ use crate::growth::{self, Growth};
 use crate::measure::{Effort, Row, Times};
 use crate::plot::{duration, svg};
 use crate::small::{self, Cost};
-use crate::{classes, descriptors, hostile, processor, solves, types};
+use crate::{classes, descriptors, hostile, layered, processor, solves, types};
 
 /// A part: its name on the command line, its title, its rows, and a word on what stands behind the figures.
 struct Part {
@@ -19,7 +19,7 @@ struct Part {
     why: &'static str,
 }
 
-const PARTS: [Part; 4] = [
+const PARTS: [Part; 5] = [
     Part {
         name: "descriptors",
         title: "Descriptors",
@@ -54,6 +54,16 @@ const PARTS: [Part; 4] = [
               meet; what each class reaches is worked out anew in each call. In a profile of like problems, joins of classes \
               take a quarter to a third of the time, and sending bounds, looking for them and moving others a fifth to a \
               third.",
+    },
+    Part {
+        name: "layered",
+        title: "Tables of several layers",
+        rows: layered::rows,
+        why: "The classes of the rows before, in layers of equal size; each but the lowest records an eighth of the classes \
+              below it again. The Rust has an index for each layer and looks through them from the topmost down; a call of \
+              the boundary builds the one table that the layers show together, and asks that. What the topmost layer costs \
+              over those below, which are there: the wrapper checks its records and all names, and gives all classes \
+              their numbers anew.",
     },
 ];
 
@@ -343,6 +353,7 @@ mod tests {
         let text = fs::read_to_string(folder.join("PERFORMANCE.md")).expect("the report");
         assert!(text.contains("24 names, all pairs"));
         assert!(text.contains("24 names, 20 components,"));
+        assert!(text.contains("24 names in 4 layers, relation |"));
         assert!(text.contains("that read themselves"));
         for name in [
             "names",

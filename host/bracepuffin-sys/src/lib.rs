@@ -62,6 +62,9 @@ pub const BP_PART_RECORDS: u64 = 2;
 /// Part of a table: java/lang/Object is not among the names.
 pub const BP_PART_OBJECT: u64 = 3;
 
+/// The flags of a row of the records that opens a layer above all rows before it; its class is 0, and it has no parents.
+pub const BP_OPENS_LAYER: u64 = 0x8e;
+
 /// The least number of words that a working slice must have.
 pub const BP_WORK: usize = 8192;
 

@@ -3,6 +3,7 @@
 use std::collections::{HashMap, HashSet};
 
 use crate::classes::{ClassTable, ReferenceTypeInfo, OBJECT};
+use crate::records::Row;
 use crate::{Names, PartTable, TableError};
 
 /// Records of classes as they come. Names need no order: every name that occurs is numbered at the end, and
@@ -101,6 +102,52 @@ impl<'a> ClassTableBuilder<'a> {
         self.table(self.every_name(), self.records.iter())
     }
 
+    /// The table with these records as a layer over another table, which stays as it is and may serve others too. That
+    /// one may have layers itself: four in all, the first of them made by [`build`](Self::build).
+    ///
+    /// What a layer records of a class takes the place of the records below it, a record without parents too; within the
+    /// layer records unite. Interface and final are those of the topmost layer that declares the class, whatever records
+    /// stand above that. The layer may name classes that the table below does not. Names of all layers are one list, so a
+    /// [`ClassNumber`](crate::ClassNumber) of the table below, or a class's [`TypeWord`](crate::TypeWord), is none of the
+    /// new one.
+    ///
+    /// ```
+    /// use bracepuffin::{ClassTableBuilder, Distance, Relation};
+    ///
+    /// // What all models share is checked once.
+    /// let mut shared = ClassTableBuilder::new();
+    /// shared.add("java/lang/Object", []);
+    /// shared.add("a/Device", ["java/lang/Object"]);
+    /// shared.add("a/Radio", ["a/Device"]);
+    /// let shared = shared.build()?;
+    ///
+    /// // A model brings a class of its own, and has another one above a/Radio.
+    /// let mut model = ClassTableBuilder::new();
+    /// model.add("m/Antenna", ["a/Device"]);
+    /// model.add("a/Radio", ["m/Antenna"]);
+    /// let table = model.build_over(&shared)?;
+    /// assert_eq!(table.layers(), 2);
+    /// assert_eq!(table.relation("a/Radio", "m/Antenna"), Relation::Yes);
+    /// assert_eq!(table.distance("a/Radio", "a/Device"), Distance::Steps(2));
+    /// assert_eq!(shared.distance("a/Radio", "a/Device"), Distance::Steps(1));
+    /// # Ok::<(), bracepuffin::TableError>(())
+    /// ```
+    ///
+    /// Checked here are the names of all layers together and the records of this one. The records below were checked when
+    /// their table was built, and are not checked again here: what a record is refused for lies in the names and in its
+    /// own layer. As with every table, a question goes through all that it is lent.
+    ///
+    /// # Errors
+    ///
+    /// Those of [`build`](Self::build), where the names are those of all layers and the pairs those of this one; and a
+    /// fifth layer. The error says which name, record or layer is the first too many.
+    pub fn build_over(&self, below: &ClassTable) -> Result<ClassTable, TableError> {
+        let names = below.names().iter().chain(self.every_name());
+        let names = Names::unchecked(names);
+        let rows = numbered(&names, self.records.iter());
+        below.with_layer(names, rows)
+    }
+
     /// The part of the table that questions about these classes need: they and all above them, with their records. A
     /// builder may hold any number of classes; only the part is limited. Questions about these classes, about those
     /// above them, and about classes that were never named get the answers that the whole table would give.
@@ -172,12 +219,8 @@ impl<'a> ClassTableBuilder<'a> {
     }
 }
 
-/// Class, flags and parents of each record. Pairs that ascend cost a call the least; records of one class stay in their
-/// order.
-fn numbered<'a: 'r, 'r>(
-    names: &Names,
-    records: impl Iterator<Item = &'r Record<'a>>,
-) -> Vec<(u64, u64, Vec<u64>)> {
+/// The row of each record. Pairs that ascend cost a call the least; records of one class stay in their order.
+fn numbered<'a: 'r, 'r>(names: &Names, records: impl Iterator<Item = &'r Record<'a>>) -> Vec<Row> {
     let numbers: HashMap<&str, u64> = names.iter().zip(0..).collect();
     let numbered = records.map(|record| {
         let mut parents: Vec<u64> = record.parents.iter().map(|name| numbers[name]).collect();

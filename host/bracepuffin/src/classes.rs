@@ -5,6 +5,7 @@ use std::collections::BTreeSet;
 use std::fmt;
 
 use crate::ffi::{self, BpAnswer};
+use crate::records::{Records, Row};
 use crate::slices::{self, ClassColumns};
 use crate::{ClassNumber, Names, Refusal, TableError};
 
@@ -13,9 +14,6 @@ pub const OBJECT: &str = "java/lang/Object";
 
 /// The least number of words that a working slice must have.
 pub const WORK: usize = ffi::BP_WORK;
-
-/// The most parents that one record may have. A class may have more in several records.
-const PARENTS: usize = 254;
 
 const DECLARED: u64 = 1;
 const INTERFACE: u64 = 2;
@@ -99,18 +97,14 @@ impl ReferenceTypeInfo {
     }
 }
 
-/// A class table that was checked. Questions by name are never refused: a class that the table does not name is
-/// answered as hierarchy.rs answers, which takes it for one without a record.
+/// A class table that was checked, of one layer or several. Questions by name are never refused: a class that the table
+/// does not name is answered as hierarchy.rs answers, which takes it for one without a record.
 ///
 /// It may be shared between threads, which do not wait for each other: each has a working slice of its own.
 #[derive(Clone)]
 pub struct ClassTable {
     names: Names,
-    flags: Vec<u64>,
-    class: Vec<u64>,
-    at: Vec<u64>,
-    len: Vec<u64>,
-    parents: Vec<u64>,
+    records: Records,
     /// A bit for each class that has a record.
     recorded: [u64; 16],
     object: u64,
@@ -118,61 +112,46 @@ pub struct ClassTable {
 
 impl ClassTable {
     /// The table with these names, java/lang/Object among them, and rows of class, flags and parents.
-    pub(crate) fn new(names: Names, rows: Vec<(u64, u64, Vec<u64>)>) -> Result<Self, TableError> {
-        let mut table = Self {
-            object: names
-                .find(OBJECT)
-                .expect("java/lang/Object is among the names"),
-            names,
-            flags: Vec::new(),
-            class: Vec::new(),
-            at: Vec::new(),
-            len: Vec::new(),
-            parents: Vec::new(),
-            recorded: [0; 16],
-        };
-        for (class, flags, parents) in rows {
-            table.push(class, flags, &parents);
-        }
-        let checked = slices::check_table(table.columns());
-        if checked.refusal != 0 {
-            return Err(TableError::of(checked, &table.names, &table.class));
-        }
-        for class in &table.class {
-            table.recorded[*class as usize / 64] |= 1 << (class % 64);
-        }
-        Ok(table)
+    pub(crate) fn new(names: Names, rows: Vec<Row>) -> Result<Self, TableError> {
+        let records = Records::over_empty(0, rows);
+        check(&names, &records)?;
+        Ok(Self::of_checked(names, records))
     }
 
-    /// A record: as many rows as its parents need, one for none.
-    fn push(&mut self, class: u64, flags: u64, parents: &[u64]) {
-        let rows = parents.len().div_ceil(PARENTS).max(1);
-        for row in 0..rows {
-            let rest = &parents[row * PARENTS..];
-            let part = &rest[..rest.len().min(PARENTS)];
-            self.flags.push(flags);
-            self.class.push(class);
-            self.at.push(self.parents.len() as u64);
-            self.len.push(part.len() as u64);
-            self.parents.extend_from_slice(part);
-        }
+    /// The same with one more layer, of these rows; the names are those of the table and more.
+    ///
+    /// A row is refused for the sake of the names and of its own layer. So the rows of the table, which were accepted, are
+    /// so again, and what is checked is the new layer alone, over as many empty ones as there are layers below it.
+    pub(crate) fn with_layer(&self, names: Names, rows: Vec<Row>) -> Result<Self, TableError> {
+        let layer = Records::over_empty(self.layers(), rows);
+        check(&names, &layer)?;
+        let records = self.renumbered(&names).with_topmost_of(&layer);
+        Ok(Self::of_checked(names, records))
     }
 
     /// The same records over these names too, which the table does not have.
     pub(crate) fn extended(&self, more: &BTreeSet<&str>) -> Result<Self, TableError> {
-        let names = Names::unchecked(self.names.iter().chain(more.iter().copied()));
-        let number = |class: &u64| {
-            let name = self.names.name_at(*class);
-            let found = name.and_then(|name| names.find(name));
-            found.expect("every name is among them")
-        };
-        let rows = (0..self.class.len()).map(|row| {
-            let (at, len) = (self.at[row] as usize, self.len[row] as usize);
-            let parents = self.parents[at..at + len].iter().map(number).collect();
-            (number(&self.class[row]), self.flags[row], parents)
-        });
-        let rows = rows.collect();
-        Self::new(names, rows)
+        let names = Names::new(self.names.iter().chain(more.iter().copied()))?;
+        let records = self.renumbered(&names);
+        Ok(Self::of_checked(names, records))
+    }
+
+    /// The records over other names, those of the table among them.
+    fn renumbered(&self, names: &Names) -> Records {
+        let found = self.names.iter().map(|name| names.find(name));
+        let numbers: Option<Vec<u64>> = found.collect();
+        let numbers = numbers.expect("every name is among them");
+        self.records.renumbered(|class| numbers[class as usize])
+    }
+
+    fn of_checked(names: Names, records: Records) -> Self {
+        let object = names.find(OBJECT);
+        Self {
+            object: object.expect("java/lang/Object is among the names"),
+            recorded: records.recorded(),
+            names,
+            records,
+        }
     }
 
     /// The names of the table.
@@ -180,16 +159,14 @@ impl ClassTable {
         &self.names
     }
 
+    /// How many layers the table has, 1 to 4.
+    pub fn layers(&self) -> usize {
+        self.records.layers()
+    }
+
     /// The columns, for the functions over slices.
     pub fn columns(&self) -> ClassColumns<'_> {
-        ClassColumns {
-            names: self.names.columns(),
-            rec_flags: &self.flags,
-            rec_class: &self.class,
-            rec_at: &self.at,
-            rec_len: &self.len,
-            parents: &self.parents,
-        }
+        self.records.columns(&self.names)
     }
 
     /// The number of a class.
@@ -307,7 +284,8 @@ impl fmt::Debug for ClassTable {
     fn fmt(&self, formatter: &mut fmt::Formatter<'_>) -> fmt::Result {
         let mut shown = formatter.debug_struct("ClassTable");
         shown.field("names", &self.names.len());
-        shown.field("records", &self.class.len());
+        shown.field("layers", &self.layers());
+        shown.field("records", &self.records.len());
         shown.finish_non_exhaustive()
     }
 }
@@ -386,6 +364,15 @@ impl<'t> Ancestors<'t> {
 impl fmt::Debug for Ancestors<'_> {
     fn fmt(&self, formatter: &mut fmt::Formatter<'_>) -> fmt::Result {
         formatter.debug_set().entries(self.names()).finish()
+    }
+}
+
+/// Whether these names and records are accepted.
+fn check(names: &Names, records: &Records) -> Result<(), TableError> {
+    let checked = slices::check_table(records.columns(names));
+    match checked.refusal {
+        0 => Ok(()),
+        _ => Err(TableError::of(checked, names, records)),
     }
 }
 

@@ -4,6 +4,7 @@ use std::error::Error;
 use std::fmt;
 
 use crate::ffi::{self, BpTable};
+use crate::records::{InLayer, Records};
 use crate::{Names, Refusal};
 
 /// Why a table was not made: the refusal, and which of its names or records is the first that is refused.
@@ -38,31 +39,34 @@ pub enum Place {
     Record {
         /// The class that it is of.
         class: String,
-        /// Its place among all records in order of their classes, from 0; one of more than 254 parents is several.
+        /// Its layer, from 0, which is the lowest.
+        layer: usize,
+        /// Its place among the records of its layer in order of their classes, from 0; one of more than 254 parents is
+        /// several.
         row: usize,
-        /// How many records there are.
+        /// How many records the layer has.
         of: usize,
+    },
+    /// A layer as a whole: one too many.
+    Layer {
+        /// Which one, from 0.
+        layer: usize,
     },
     /// The table as a whole.
     Table,
 }
 
 impl TableError {
-    /// The error of a refused table, whose records are of these classes.
-    pub(crate) fn of(checked: BpTable, names: &Names, classes: &[u64]) -> Self {
+    /// The error of a refused table with these records.
+    pub(crate) fn of(checked: BpTable, names: &Names, records: &Records) -> Self {
         let row = checked.row as usize;
-        let name = |class: usize| String::from_utf8_lossy(names.bytes_of(class)).into_owned();
         let place = match checked.part {
             ffi::BP_PART_NAMES => Place::Name {
-                name: name(row),
+                name: shown(names, row),
                 row,
                 of: names.len(),
             },
-            ffi::BP_PART_RECORDS => Place::Record {
-                class: name(classes[row] as usize),
-                row,
-                of: classes.len(),
-            },
+            ffi::BP_PART_RECORDS => Place::of_row(row, names, records),
             _ => Place::Table,
         };
         let refusal = Refusal::of(checked.refusal, 0, 0);
@@ -83,6 +87,30 @@ impl TableError {
     }
 }
 
+impl Place {
+    fn of_row(row: usize, names: &Names, records: &Records) -> Self {
+        let InLayer {
+            layer,
+            row: place,
+            of,
+        } = records.in_layer(row);
+        match records.class_of(row) {
+            Some(class) => Self::Record {
+                class: shown(names, class as usize),
+                layer,
+                row: place,
+                of,
+            },
+            None => Self::Layer { layer: layer + 1 },
+        }
+    }
+}
+
+/// A name that may not be well-formed.
+fn shown(names: &Names, class: usize) -> String {
+    String::from_utf8_lossy(names.bytes_of(class)).into_owned()
+}
+
 impl fmt::Display for TableError {
     fn fmt(&self, formatter: &mut fmt::Formatter<'_>) -> fmt::Result {
         let refusal = self.refusal;
@@ -90,13 +118,19 @@ impl fmt::Display for TableError {
             Place::Name { name, row, of } => {
                 write!(formatter, "{refusal}: name {} of {of}, {name:?}", row + 1)
             }
-            Place::Record { class, row, of } => {
-                let number = row + 1;
-                write!(
-                    formatter,
-                    "{refusal}: record {number} of {of}, of {class:?}"
-                )
+            Place::Record {
+                class,
+                layer,
+                row,
+                of,
+            } => {
+                write!(formatter, "{refusal}: record {} of {of}", row + 1)?;
+                if *layer > 0 {
+                    write!(formatter, " in layer {}", layer + 1)?;
+                }
+                write!(formatter, ", of {class:?}")
             }
+            Place::Layer { layer } => write!(formatter, "{refusal}: layer {}", layer + 1),
             Place::Table => refusal.fmt(formatter),
         }
     }

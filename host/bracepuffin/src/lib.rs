@@ -26,8 +26,8 @@
 //! and errors that a Rust program wants. What a descriptor says, what is written, whether a table is accepted, and
 //! every answer about classes and types comes from the archive. Around it stands Rust, which is tested, not proved:
 //!
-//! - Names are put in order, records numbered and split, and for a write the names picked that the words use; for a
-//!   [`PartTable`], the classes that are above those asked for.
+//! - Names are put in order, records numbered and split, layers put over a table whose records are numbered anew; for a
+//!   write the names are picked that the words use, for a [`PartTable`] the classes that are above those asked for.
 //! - Names that are asked about are looked up here. A class that the table does not name gets the answer of
 //!   hierarchy.rs, which is put together from what the archive says of the other class.
 //! - The types of a method's parameters are cut out of the text between the offsets that the archive gives.
@@ -49,6 +49,7 @@ mod order;
 mod part;
 mod part_table;
 mod read;
+mod records;
 mod refusal;
 mod relations;
 pub mod slices;

@@ -5,7 +5,8 @@ use std::fmt;
 
 use crate::ffi::{self, BpWritten};
 use crate::part::{self, Used};
-use crate::slices::{self, ClassColumns, Columns};
+use crate::records::Records;
+use crate::slices::{self, Columns};
 use crate::types::{ArgType, Base, Categories, PrimitiveType};
 use crate::word::{Mark, CLASS, PAYLOAD, PRIMITIVE, UNKNOWN};
 use crate::{ClassNumber, Refusal, TableError, TypeWord};
@@ -60,8 +61,9 @@ impl Names {
         match slices::lookup(table.columns(), b"").refusal {
             ffi::BP_REFUSED_ABSENT => Ok(table),
             _ => {
-                let checked = slices::check_table(table.without_records());
-                Err(TableError::of(checked, &table, &[]))
+                let none = Records::default();
+                let checked = slices::check_table(none.columns(&table));
+                Err(TableError::of(checked, &table, &none))
             }
         }
     }
@@ -84,17 +86,6 @@ impl Names {
             table.bytes.extend_from_slice(name);
         }
         table
-    }
-
-    fn without_records(&self) -> ClassColumns<'_> {
-        ClassColumns {
-            names: self.columns(),
-            rec_flags: &[],
-            rec_class: &[],
-            rec_at: &[],
-            rec_len: &[],
-            parents: &[],
-        }
     }
 
     /// The number of names.

@@ -20,7 +20,8 @@ use crate::ffi;
 #[derive(Debug, Clone, Copy, PartialEq, Eq, Hash)]
 #[non_exhaustive]
 pub enum Refusal {
-    /// 3: a name of no bytes or more than 255; columns of unequal length, or a place that is not inside its slice.
+    /// 3: a name of no bytes or more than 255; columns of unequal length, or a place that is not inside its slice; a row
+    /// that opens a layer and has a class or parents.
     Length,
     /// 5: a name that is not above the one before it.
     NameOrder,
@@ -28,7 +29,8 @@ pub enum Refusal {
     Number,
     /// 7: no type word, or its class is not in the table; a class's word of another table.
     Type,
-    /// 8: more than 1,024 names, 24,576 bytes of names, 4,096 pairs of a class and a parent, or 255 parameters.
+    /// 8: more than 1,024 names, 24,576 bytes of names, 4,096 pairs of a class and a parent in a layer, four layers, or 255
+    /// parameters.
     Room,
     /// 9: java/lang/Object is not among the names.
     NoObject,

@@ -23,7 +23,7 @@ pub struct Columns<'a> {
 pub struct ClassColumns<'a> {
     /// The names.
     pub names: Columns<'a>,
-    /// The flags of each record.
+    /// The flags of each record; [`ffi::BP_OPENS_LAYER`] for a row that opens a layer.
     pub rec_flags: &'a [u64],
     /// The class of each record.
     pub rec_class: &'a [u64],

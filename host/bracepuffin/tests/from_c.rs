@@ -26,8 +26,9 @@ const REFUSALS: [(&str, u64); 21] = refusals! {
 const METHOD_BYTES: usize = 2 + (PARAMETERS + 1) * TYPE_BYTES;
 
 /// What the header's macros are.
-const MACROS: [(&str, u64); 14] = [
+const MACROS: [(&str, u64); 15] = [
     ("BP_PARAMS", PARAMETERS as u64),
+    ("BP_OPENS_LAYER", ffi::BP_OPENS_LAYER),
     ("BP_WORK", WORK as u64),
     ("BP_BOUNDS", ffi::BP_BOUNDS as u64),
     ("BP_PART_COLUMNS", ffi::BP_PART_COLUMNS),

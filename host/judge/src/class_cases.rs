@@ -2,7 +2,7 @@
 //! occur in programs, and tables in layers.
 
 use crate::classes::{Classes, MAX_PARENTS, OBJECT};
-use crate::layers::{Layers, Row};
+use crate::layers::{Layers, Row, OPENS};
 use crate::rng::Rng;
 
 /// Flags that a record may have: undeclared, or declared with its facts.
@@ -118,7 +118,7 @@ pub fn damage_classes(rng: &mut Rng, classes: &mut Classes) {
     let records = classes.flags.len() as u64;
     let row = rng.below(records.max(1)) as usize;
     let name = rng.below(classes.names.at.len().max(1) as u64) as usize;
-    match rng.below(12) {
+    match rng.below(13) {
         0 => drop(classes.flags.pop()),
         1 => drop(classes.class.pop()),
         2 => classes.at.push(0),
@@ -134,6 +134,8 @@ pub fn damage_classes(rng: &mut Rng, classes: &mut Classes) {
             let place = rng.below(classes.parents.len() as u64) as usize;
             classes.parents[place] = far;
         }
+        // A record of class 0 without parents opens a layer then.
+        12 if row < classes.flags.len() => classes.flags[row] = OPENS,
         _ => {}
     }
 }

@@ -7,6 +7,7 @@ use dexdec::hierarchy::{
     self, ClassHierarchyIndex, ReferenceTypeInfo, SubtypeRelation, TypeHierarchy,
 };
 
+use crate::layers::{Row, MAX_LAYERS, OPENS};
 use crate::paper::Table;
 
 pub const WORK: usize = 8192;
@@ -16,7 +17,8 @@ pub const OBJECT: &str = "java/lang/Object";
 
 const NONE: u64 = u64::MAX;
 
-/// A class table as it is lent: record i has flags, a class, and `len[i]` entries of `parents` from `at[i]` on.
+/// A class table as it is lent: record i has flags, a class, and `len[i]` entries of `parents` from `at[i]` on. One whose
+/// flags are 0x8e opens a layer.
 #[derive(Debug, Clone, Default, PartialEq, Eq)]
 pub struct Classes {
     pub names: Table,
@@ -50,6 +52,15 @@ impl Classes {
         self.parents.get(at..at.checked_add(len)?)
     }
 
+    /// The records, each of which lies inside its slice.
+    pub fn rows(&self) -> Vec<Row> {
+        let row = |row| {
+            let parents = self.parents_of(row).expect("inside");
+            Row::record(self.flags[row], self.class[row], parents)
+        };
+        (0..self.flags.len()).map(row).collect()
+    }
+
     /// The names, if all rows are sound; else the first refusal in row order.
     pub fn names(&self) -> Result<Vec<String>, u64> {
         self.checked().map_err(|[number, ..]| number)
@@ -64,15 +75,32 @@ impl Classes {
         }
         let of_names = |(number, row): (u64, usize)| [number, 1, row as u64];
         let names = self.names.checked().map_err(of_names)?;
-        let mut pairs = BTreeSet::new();
+        let mut made = Made::default();
         for row in 0..records {
-            let record = self.record(row, names.len() as u64, &mut pairs);
-            record.map_err(|number| [number, 2, row as u64])?;
+            let taken = match self.flags[row] {
+                OPENS => self.opening(row, &mut made),
+                _ => self.record(row, names.len() as u64, &mut made.pairs),
+            };
+            taken.map_err(|number| [number, 2, row as u64])?;
         }
         Ok(names)
     }
 
-    /// One record over that many names, after the pairs of those before it.
+    /// A row that opens a layer, after those before it: of class 0, without parents; there is no room for a fifth layer.
+    fn opening(&self, row: usize, made: &mut Made) -> Result<(), u64> {
+        let parents = self.parents_of(row).ok_or(3_u64)?;
+        if self.class[row] != 0 || !parents.is_empty() {
+            return Err(3);
+        }
+        made.opened += 1;
+        made.pairs.clear();
+        match 1 + made.opened > MAX_LAYERS {
+            true => Err(8),
+            false => Ok(()),
+        }
+    }
+
+    /// One record over that many names, after the pairs of those before it in its layer.
     fn record(&self, row: usize, names: u64, pairs: &mut BTreeSet<(u64, u64)>) -> Result<(), u64> {
         let parents = self.parents_of(row).ok_or(3_u64)?;
         if self.len[row] > MAX_PARENTS {
@@ -119,15 +147,18 @@ impl Classes {
         }
     }
 
-    /// The index of hierarchy.rs over the same records, for a table that is not refused.
+    /// The indexes of hierarchy.rs over the same records, one for each layer, for a table that is not refused.
     pub fn judge(&self) -> Judge {
-        let mut judge = Judge::without_records(self.names().expect("a sound table"));
-        for row in 0..self.flags.len() {
-            let parents = self.parents_of(row).expect("inside");
-            judge.record(self.flags[row], self.class[row], parents);
-        }
-        judge
+        let lowest = Judge::without_records(self.names().expect("a sound table"));
+        self.rows().iter().fold(lowest, Judge::with_row)
     }
+}
+
+/// What rows have made: how many layers over the lowest, and the distinct pairs of the topmost.
+#[derive(Default)]
+struct Made {
+    opened: usize,
+    pairs: BTreeSet<(u64, u64)>,
 }
 
 /// 1 is declared, 2 interface, 4 final; the last two need the first.

@@ -1,4 +1,4 @@
-//! Class tables in layers: what such a table shows as the rows of one plain table, and hierarchy.rs with an index for
+//! Class tables in layers: their rows, what they show as the rows of one plain table, and hierarchy.rs with an index for
 //! each layer, so that the two can be asked the same.
 
 use std::sync::Arc;
@@ -9,6 +9,9 @@ use crate::classes::{Classes, Judge};
 
 /// The flags of a row that opens a layer.
 pub const OPENS: u64 = 0x8e;
+
+/// No table has more.
+pub const MAX_LAYERS: usize = 4;
 
 /// A record of the topmost layer, or the opening of a layer above all rows before it.
 #[derive(Debug, Clone, PartialEq, Eq)]
@@ -75,19 +78,30 @@ pub struct Layers {
 }
 
 impl Layers {
+    /// The table as it is lent.
+    pub fn lent(&self) -> Classes {
+        Classes::of_rows(&self.names, &self.rows)
+    }
+
     /// The plain table that shows the same.
     pub fn shown(&self) -> Classes {
-        let mut classes = Classes::of(&self.names);
-        for row in shown_rows(&self.rows) {
-            classes.push(row.flags, row.class, &row.parents);
-        }
-        classes
+        Classes::of_rows(&self.names, &shown_rows(&self.rows))
     }
 
     /// The indexes of hierarchy.rs over one another, asked through the topmost.
     pub fn stack(&self) -> Judge {
-        let lowest = Judge::without_records(self.names.clone());
-        self.rows.iter().fold(lowest, Judge::with_row)
+        self.lent().judge()
+    }
+}
+
+impl Classes {
+    /// These names, ascending, and these rows.
+    pub fn of_rows<T: AsRef<[u8]>>(names: &[T], rows: &[Row]) -> Self {
+        let mut classes = Self::of(names);
+        for row in rows {
+            classes.push(row.flags, row.class, &row.parents);
+        }
+        classes
     }
 }
 

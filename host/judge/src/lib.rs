@@ -9,6 +9,7 @@
 pub mod cases;
 pub mod class_cases;
 pub mod classes;
+pub mod layer_cases;
 pub mod layers;
 pub mod line_cases;
 pub mod lines;

@@ -6,9 +6,11 @@ use std::collections::BTreeSet;
 use crate::cases::any_names;
 use crate::class_cases::{any_classes, class_names, fullest_classes, layered_classes};
 use crate::classes::{Classes, MAX_PAIRS, OBJECT};
+use crate::layer_cases::{full_layers, open_layers, telling_layers};
+use crate::layers::OPENS;
 use crate::lines::{
-    Lines, BOUND, CAST, COUNT, FLOW, MAX_FRAME, NAME, READ, RECORD, RELATION, SOLVE, SUPERTYPE,
-    UPPER_FLOW, VARIABLE, WRITE,
+    Lines, BOUND, CAST, COUNT, FLOW, MAX_FRAME, NAME, OPEN, READ, RECORD, RELATION, SOLVE,
+    SUPERTYPE, UPPER_FLOW, VARIABLE, WRITE,
 };
 use crate::paper::MAX_NAMES;
 use crate::rng::Rng;
@@ -59,15 +61,14 @@ pub fn hex(frame: &[u8]) -> Vec<u8> {
     digits.into_bytes()
 }
 
-/// The names and the records of a table whose numbers fit into two bytes.
+/// The names, the records and the layers of a table whose numbers fit into two bytes.
 pub fn table_frames(classes: &Classes) -> Vec<Vec<u8>> {
-    let names = classes.names().expect("a sound table");
+    let names = classes.names.names().expect("sound names");
     let mut frames: Vec<Vec<u8>> = names.iter().map(|text| name(text.as_bytes())).collect();
-    for row in 0..classes.flags.len() {
-        let (at, len) = (classes.at[row] as usize, classes.len[row] as usize);
-        let parents = &classes.parents[at..at + len];
-        frames.push(record(classes.flags[row], classes.class[row], parents));
-    }
+    frames.extend(classes.rows().iter().map(|row| match row.opens() {
+        true => vec![OPEN],
+        false => record(row.flags, row.class, &row.parents),
+    }));
     frames
 }
 
@@ -186,6 +187,9 @@ pub fn any_script(rng: &mut Rng) -> Vec<u8> {
         1 => Classes::of(&any_names(rng, 6)),
         _ => any_classes(rng, 8),
     };
+    // One to five layers.
+    let more = *rng.pick(&[0, 0, 0, 1, 2, 3, 4]);
+    let classes = open_layers(rng, &classes, more);
     let names = classes.names.at.len() as u64;
     let mut problem = any_problem(rng, names.max(1), 5);
     if rng.below(8) == 0 {
@@ -210,9 +214,10 @@ pub fn any_script(rng: &mut Rng) -> Vec<u8> {
         }
     }
     for _ in 0..rng.below(30) {
-        let frame = match rng.below(8) {
+        let frame = match rng.below(9) {
             0 => vec![SOLVE],
-            1 if !frames.is_empty() => rng.pick(&frames).clone(),
+            1 => vec![OPEN],
+            2 if !frames.is_empty() => rng.pick(&frames).clone(),
             _ => question(rng, names),
         };
         match rng.below(100) < harm {
@@ -274,6 +279,7 @@ pub fn forms() -> Vec<Vec<u8>> {
         b" 0161\n0161 \n0161\n0161",
         b"0a\n0161\n0a",
         b"0e\n00\nff\n0d\n0a00",
+        b"0f\n0e\n0161\n0e00\n0e\n0e\n0e\n0e",
         b"016A\n016a\n016a",
         b"\xff\xfe\0\n\x80\n0161",
     ]
@@ -313,6 +319,7 @@ pub fn full_scripts() -> Vec<(&'static str, Vec<u8>)> {
             script(&[one(COUNT, 513), one(COUNT, 512), one(COUNT, 1)]),
         ),
     ];
+    scripts.extend(layer_scripts());
     let table = table_frames(&no_records());
     let ask = [vec![SOLVE], pair(RELATION, 0, 1), vec![SOLVE]];
     for (what, problem, _) in full_problems() {
@@ -397,6 +404,58 @@ fn many_pairs() -> Vec<u8> {
     script(&frames)
 }
 
+/// Layers that tell their rules apart, with every question; full ones, and one too many; and where a layer may be opened.
+fn layer_scripts() -> Vec<(&'static str, Vec<u8>)> {
+    let mut scripts = Vec::new();
+    for (what, classes) in telling_layers() {
+        let mut frames = table_frames(&classes);
+        let names = classes.names.at.len() as u64;
+        for kind in [RELATION, SUPERTYPE, CAST] {
+            let pairs = (0..names * names).map(|row| pair(kind, row / names, row % names));
+            frames.extend(pairs);
+        }
+        scripts.push((what, script(&frames)));
+    }
+    let mut rng = Rng::new(1, "layers of lines");
+    for (what, classes, _) in full_layers() {
+        let mut frames = table_frames(&classes);
+        // After what is refused: what the topmost layer has is there, and another class is new to it.
+        let last = frames.last().expect("a record or a layer").clone();
+        frames.extend([last, record(1, 901, &[]), record(1, 902, &[903])]);
+        frames.extend((0..20).map(|_| question(&mut rng, 400)));
+        scripts.push((what, script(&frames)));
+    }
+    scripts.push(("places of a layer", places_of_layers()));
+    scripts
+}
+
+/// A layer before the names, between records, after a count, a question and a solve; with a body; as flags of a record.
+fn places_of_layers() -> Vec<u8> {
+    let object = name(OBJECT.as_bytes());
+    let (opening, with_body) = (vec![OPEN], vec![OPEN, 0]);
+    let as_record = record(OPENS, 0, &[]);
+    script(&[
+        object.clone(),
+        with_body.clone(),
+        as_record.clone(),
+        opening.clone(),
+        name(b"z"),
+        record(5, 0, &[0]),
+        as_record,
+        opening.clone(),
+        pair(RELATION, 0, 1),
+        one(COUNT, 1),
+        with_body.clone(),
+        opening.clone(),
+        pair(CAST, 0, 0),
+        with_body,
+        opening.clone(),
+        vec![SOLVE],
+        opening,
+        object,
+    ])
+}
+
 // ---- the stored run
 
 /// A long script over 1,024 names, with every refusal that a line can have in it.
@@ -439,6 +498,9 @@ pub fn stored_script(seed: u64) -> Vec<u8> {
             writer.frame(&[SOLVE], &mut rng);
         }
     }
+    // A layer comes too late, and with a body it is none. Scripts of layers stand in `full_scripts`.
+    writer.push(&hex(&[OPEN]));
+    writer.push(&hex(&[OPEN, 0]));
     writer.input
 }
 

@@ -4,6 +4,7 @@
 use std::collections::BTreeSet;
 
 use crate::classes::{is_flags, Classes, Judge, MAX_PAIRS, OBJECT};
+use crate::layers::{MAX_LAYERS, OPENS};
 use crate::paper::{MAX_NAMES, MAX_NAME_BYTES};
 use crate::solves::{
     Columns, Solved, KINDS, MAX_ARRAYS, MAX_BOUNDS, MAX_COMPONENTS, MAX_FLOWS, MAX_UPPER_FLOWS,
@@ -24,6 +25,7 @@ pub const SOLVE: u8 = 0x0a;
 pub const RELATION: u8 = 0x0b;
 pub const SUPERTYPE: u8 = 0x0c;
 pub const CAST: u8 = 0x0d;
+pub const OPEN: u8 = 0x0e;
 
 /// No frame has more bytes.
 pub const MAX_FRAME: usize = 512;
@@ -54,6 +56,7 @@ enum Frame {
     Name(String),
     /// Flags, class, parents.
     Record(u64, u64, Vec<u64>),
+    Open,
     Count(u64),
     Variable(u64),
     Bound([u64; 3]),
@@ -67,13 +70,15 @@ enum Frame {
 pub struct Lines {
     names: Vec<String>,
     name_bytes: usize,
+    /// How many layers were opened, and the pairs of the topmost.
+    opened: usize,
     pairs: BTreeSet<(u64, u64)>,
     classes: Classes,
     problem: Columns,
     bounds: BTreeSet<[u64; 3]>,
     /// Distinct ones: flows, upper flows, and both kinds of array constraint together.
     links: [BTreeSet<(u8, u64, u64)>; 3],
-    /// The highest kind; 0a stands for 0b to 0d too.
+    /// The highest kind; 0a stands for 0b to 0d too, 02 for 0e.
     rank: u8,
     /// Both are made when asked for, and gone with the next row that changes them.
     judge: Option<Judge>,
@@ -105,13 +110,16 @@ impl Lines {
     fn checked(&self, line: &[u8]) -> Result<(Frame, u8), u64> {
         let bytes = bytes_of(line).ok_or(1_u64)?;
         let (kind, body) = (bytes[0], &bytes[1..]);
-        if !(NAME..=CAST).contains(&kind) {
+        if !(NAME..=OPEN).contains(&kind) {
             return Err(2);
         }
         if !is_length(kind, body.len()) {
             return Err(3);
         }
-        let rank = kind.min(SOLVE);
+        let rank = match kind {
+            OPEN => RECORD,
+            _ => kind.min(SOLVE),
+        };
         if rank < self.rank || kind == COUNT && self.rank == COUNT {
             return Err(4);
         }
@@ -127,6 +135,7 @@ impl Lines {
             VARIABLE => self.variable(numbers(body)[0]),
             BOUND => self.bound([numbers(body)[0], u64::from(body[2]), whole(&body[3..])]),
             SOLVE => self.has_object().map(|()| Frame::Solve),
+            OPEN => self.open(),
             FLOW..=WRITE => self.link(kind, &numbers(body)),
             _ => self.question(kind, &numbers(body)),
         }
@@ -156,6 +165,12 @@ impl Lines {
             room(self.pairs.len() + added, MAX_PAIRS)?;
         }
         Ok(Frame::Record(flags, class, parents.to_vec()))
+    }
+
+    /// The lowest layer is there without being opened.
+    fn open(&self) -> Result<Frame, u64> {
+        room(1 + self.opened + 1, MAX_LAYERS)?;
+        Ok(Frame::Open)
     }
 
     fn count(&self, count: u64) -> Result<Frame, u64> {
@@ -207,7 +222,7 @@ impl Lines {
     /// An accepted row into the tables.
     fn put(&mut self, row: Frame) {
         self.solved = None;
-        if matches!(row, Frame::Name(_) | Frame::Record(..)) {
+        if matches!(row, Frame::Name(_) | Frame::Record(..) | Frame::Open) {
             self.judge = None;
         }
         let problem = &mut self.problem;
@@ -221,6 +236,11 @@ impl Lines {
                 self.pairs
                     .extend(parents.iter().map(|parent| (class, *parent)));
                 self.classes.push(flags, class, &parents);
+            }
+            Frame::Open => {
+                self.opened += 1;
+                self.pairs.clear();
+                self.classes.push(OPENS, 0, &[]);
             }
             Frame::Count(count) => problem.components = count,
             Frame::Variable(component) => problem.variables.push(component),
@@ -331,7 +351,7 @@ fn is_length(kind: u8, length: usize) -> bool {
         RECORD => (3..=3 + 2 * 254).contains(&length) && length % 2 == 1,
         COUNT | VARIABLE => length == 2,
         BOUND => length == 2 + 1 + 8,
-        SOLVE => length == 0,
+        SOLVE | OPEN => length == 0,
         _ => length == 4,
     }
 }

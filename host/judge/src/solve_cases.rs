@@ -321,6 +321,22 @@ pub fn any_problem(rng: &mut Rng, names: u64, most: u64) -> Columns {
     columns
 }
 
+/// Classes alone that meet along flows: what they come to goes by the table more often than with types of every kind.
+pub fn class_problem(rng: &mut Rng, names: u64) -> Columns {
+    let components = 2 + rng.below(4);
+    let mut columns = Columns::of(components);
+    for component in 0..components {
+        for _ in 0..1 + rng.below(2) {
+            let kind = *rng.pick(&[LOWER, LOWER, UPPER, EXACT]);
+            let word = array(rng.below(6) / 5, class(rng.below(names)));
+            columns.bound(component, kind, word);
+        }
+    }
+    columns.flows = any_pairs(rng, components, components + 1);
+    columns.upper_flows = any_pairs(rng, components, 2);
+    columns
+}
+
 /// An array of about 255 dimensions, and one write or read of it as the only link. A cycle would take its elements apart one
 /// by one, each turn of which asks every pair of upper bounds: lattice.rs needs minutes for that.
 pub fn make_deep(rng: &mut Rng, columns: &mut Columns) {

@@ -2,10 +2,12 @@
 //! the same.
 
 use dexdec::hierarchy::{direct_parents, reference_type};
-use judge::class_cases::{any_layers, FLAGS};
-use judge::classes::{Judge, OBJECT};
+use judge::class_cases::{any_classes, any_layers, FLAGS};
+use judge::classes::{Classes, Judge, OBJECT};
+use judge::layer_cases::{open_layers, telling_layers};
 use judge::layers::{recorded_above, shown_rows, Layers, Row};
 use judge::rng::Rng;
+use judge::solve_cases::{any_problem, any_type, class_problem};
 
 /// The four names of the cases below.
 const A: u64 = 0;
@@ -69,6 +71,53 @@ fn random_stacks() {
     }
     assert!(heights.iter().all(|count| *count > 500), "{heights:?}");
     assert!(hidden > 500 && without_record > 500);
+}
+
+/// The layers of a sound table.
+fn layers_of(classes: &Classes) -> Layers {
+    Layers {
+        names: classes.names().expect("a sound table"),
+        rows: classes.rows(),
+    }
+}
+
+#[test]
+fn telling_stacks() {
+    for (_, classes) in telling_layers() {
+        let layers = layers_of(&classes);
+        assert_eq!(layers.lent(), classes);
+        agree(&layers.stack(), &layers);
+    }
+}
+
+/// Joins, assignability and solves ask classes through the layers alone, so they too are those over what is shown.
+#[test]
+fn types_and_solves_over_stacks() {
+    let mut rng = Rng::new(1, "types over layers");
+    let [mut answered, mut other] = [0; 2];
+    for number in 0..1_500 {
+        let plain = any_classes(&mut rng, 8);
+        let classes = open_layers(&mut rng, &plain, 1 + number % 3);
+        let shown = layers_of(&classes).shown();
+        let names = classes.names.at.len() as u64;
+        let judges = [&classes, &shown].map(Classes::judge);
+        for _ in 0..8 {
+            let (left, right) = (any_type(&mut rng, names), any_type(&mut rng, names));
+            let asked = judges
+                .each_ref()
+                .map(|judge| [judge.join(left, right), judge.assignable(left, right)]);
+            assert_eq!(asked[0], asked[1], "{left:x} {right:x} {classes:?}");
+        }
+        let problem = match number % 4 {
+            0 => any_problem(&mut rng, names, 5),
+            _ => class_problem(&mut rng, names),
+        };
+        let solved = [&classes, &shown].map(|table| table.solve(&problem, problem.least()));
+        assert_eq!(solved[0], solved[1], "{problem:?} {classes:?}");
+        answered += u64::from(solved[0].refusal == 0);
+        other += u64::from(plain.solve(&problem, problem.least()) != solved[0]);
+    }
+    assert!(answered > 1_000 && other > 30, "{answered} {other}");
 }
 
 /// An index keeps what it was asked. None of that may be answered by a layer above it, or after one more record.

@@ -4,6 +4,7 @@
 use std::collections::BTreeMap;
 
 use judge::class_cases::{any_classes, layered_classes};
+use judge::layer_cases::open_layers;
 use judge::line_cases::*;
 use judge::lines::{lines, printed, Lines, COUNT, FLOW, READ, RELATION, SOLVE, VARIABLE, WRITE};
 use judge::rng::Rng;
@@ -65,7 +66,7 @@ fn a_solve_that_is_refused_is_not_accepted() {
 #[test]
 fn each_check_and_their_order() {
     let cases: [(&[&str], &str); 22] = [
-        (&["0e", "00", "ff00"], "E 1 2, E 2 2, E 3 2"),
+        (&["0f", "00", "ff00"], "E 1 2, E 2 2, E 3 2"),
         (
             &["01", "0200", "03", "0a00", "0b0000"],
             "E 1 3, E 2 3, E 3 3, E 4 3, E 5 3",
@@ -141,6 +142,48 @@ fn each_check_and_their_order() {
     }
 }
 
+/// A layer: its body, its rank, a fifth one; and that one which is refused was not opened.
+#[test]
+fn layers_that_are_opened_and_refused() {
+    let cases: [(&[&str], &str); 8] = [
+        (&["0e00", "0e0e", "0e"], "E 1 3, E 2 3"),
+        (&["0e", "0e", "0e", "0e", "0e"], "E 4 8, E 5 8"),
+        // It ranks as a record: no name after it, records before and after it, nothing of a later kind before it.
+        (&["0161", "0e", "0162", "02000000", "0e"], "E 3 4"),
+        (&["0161", "02000000", "0e", "02000000"], ""),
+        (&["030001", "0e", "0e00"], "E 2 4, E 3 3"),
+        (&[OBJECT, "0b00000000", "0e"], "R 0, E 3 4"),
+        (&[OBJECT, "0a", "0e", "0e00"], "E 3 4, E 4 3"),
+        // Flags 8e are those of a row in columns.
+        (&["0161", "028e0000", "028e000000"], "E 2 6, E 3 3"),
+    ];
+    for (input, expected) in cases {
+        assert_eq!(of(input), expected, "{input:?}");
+    }
+}
+
+/// a is below b, then in a layer below c, then below nothing; its facts stay.
+#[test]
+fn a_layer_takes_the_place_of_those_below() {
+    let rows = [
+        "0161",
+        "0162",
+        "0163",
+        OBJECT,
+        "020100000001",
+        "02030002",
+        "0e",
+        "020000000002",
+    ];
+    let asked = ["0b00000001", "0b00000002", "0c00000001", "0d00000002"];
+    let of_rows = |rows: &[&str]| of(&[rows, &asked].concat());
+    assert_eq!(of_rows(&rows[..6]), "R 0, R 2, L 1, C 1");
+    assert_eq!(of_rows(&rows[..7]), "R 0, R 2, L 1, C 1");
+    assert_eq!(of_rows(&rows), "R 1, R 0, L 3, C 1");
+    let above = [&rows[..], &["0e", "02000000"]].concat();
+    assert_eq!(of_rows(&above), "R 1, R 1, L 3, C 1");
+}
+
 /// A solve twice, a variable without an answer, and an entry that is there already.
 #[test]
 fn what_is_asked_again_is_answered_again() {
@@ -181,11 +224,13 @@ fn can_be_lines(problem: &Columns) -> bool {
 fn lines_say_what_columns_say() {
     let mut rng = Rng::new(1, "lines and columns");
     let mut met = BTreeMap::<u64, usize>::new();
-    for number in 0..3_000 {
+    for number in 0..6_000 {
         let classes = match number % 3 {
             0 => layered_classes(&mut rng, 12, 5),
             _ => any_classes(&mut rng, 8),
         };
+        let more = *rng.pick(&[0, 0, 0, 0, 1, 2, 3, 4]);
+        let classes = open_layers(&mut rng, &classes, more);
         let names = classes.names.at.len() as u64;
         let mut problem = any_problem(&mut rng, names, 5);
         if number % 4 == 3 {
@@ -242,11 +287,18 @@ fn refusals(text: &str) -> BTreeMap<u64, usize> {
 #[test]
 fn every_room_of_a_table_from_both_sides() {
     let scripts: BTreeMap<_, _> = full_scripts().into_iter().collect();
-    let expected: [(&str, &[(u64, usize)]); 4] = [
+    let expected: [(&str, &[(u64, usize)]); 10] = [
         ("names", &[(5, 1), (8, 2), (10, 1)]),
         ("name bytes", &[(5, 1), (8, 3)]),
         ("pairs", &[(8, 3)]),
         ("count", &[(4, 1), (8, 1)]),
+        // Each ends with its last row again, a class that the topmost layer does not have, and one with a new pair.
+        ("four full layers", &[(8, 1)]),
+        ("a fifth layer", &[(8, 3)]),
+        ("one pair too many in the second", &[(8, 3)]),
+        ("one pair over a full layer", &[]),
+        ("empty layers over a full one", &[(8, 1)]),
+        ("places of a layer", &[(3, 3), (4, 5)]),
     ];
     for (name, shares) in expected {
         let met = refusals(&printed(&scripts[name]));

@@ -1,7 +1,8 @@
 //! Where a table is refused: the rows before the one that is told are taken, and with it the refusal is the one that is told.
 
-use judge::class_cases::any_classes;
 use judge::classes::{Classes, OBJECT, WORK};
+use judge::layer_cases::{any_stack, faulty_layers, full_layers};
+use judge::layers::OPENS;
 use judge::rng::Rng;
 
 /// The table with its first names and records alone.
@@ -17,7 +18,7 @@ fn cut(table: &Classes, names: usize, records: usize) -> Classes {
 
 /// One entry of a column, a byte of the names or a whole row, changed.
 fn damage(rng: &mut Rng, table: &mut Classes) {
-    let number = *rng.pick(&[0, 1, 2, 4, 8, 255, 256, 1 << 32, u64::MAX]);
+    let number = *rng.pick(&[0, 1, 2, 4, 8, OPENS, 255, 256, 1 << 32, u64::MAX]);
     let columns = [
         &mut table.names.at,
         &mut table.names.len,
@@ -45,7 +46,7 @@ fn the_row_that_is_told_is_the_first_refused() {
     let mut rng = Rng::new(1, "table_checks");
     let mut parts = [0; 4];
     for _ in 0..4_000 {
-        let mut table = any_classes(&mut rng, 6);
+        let mut table = any_stack(&mut rng, 6);
         for _ in 0..rng.below(3) {
             damage(&mut rng, &mut table);
         }
@@ -66,6 +67,20 @@ fn the_row_that_is_told_is_the_first_refused() {
         assert_eq!(with.check(), told, "{table:?}");
     }
     assert!(parts.iter().all(|count| *count > 20), "{parts:?}");
+}
+
+/// A row that opens a layer, and how many pairs and layers there is room for.
+#[test]
+fn layers_that_are_refused() {
+    for (what, table, told) in faulty_layers().into_iter().chain(full_layers()) {
+        assert_eq!(table.check(), told, "{what}");
+        // What is asked about comes after the rows and before the name of Object.
+        let asked = match told[0] {
+            0 | 9 => 6,
+            refusal => refusal,
+        };
+        assert_eq!(table.refusal(&[u64::MAX], WORK), asked, "{what}");
+    }
 }
 
 #[test]

@@ -37,7 +37,7 @@ fn bases(names: &[String]) -> Vec<ArgType> {
 }
 
 /// Those, and arrays of one and more dimensions of some of them.
-fn some_types(rng: &mut Rng, names: &[String], most: usize) -> Vec<u64> {
+pub(crate) fn some_types(rng: &mut Rng, names: &[String], most: usize) -> Vec<u64> {
     let bases = bases(names);
     let mut types = bases.clone();
     types.extend(bases.iter().cloned().map(ArgType::array));
@@ -74,7 +74,8 @@ fn answers(
     [refusal].into_iter().chain(each).collect()
 }
 
-fn all(out: &mut Out, table: &Classes, types: &[u64], asked: &[u64], room: usize) {
+/// A table in a line, then each of the words asked about beside each of the types.
+pub(crate) fn all(out: &mut Out, table: &Classes, types: &[u64], asked: &[u64], room: usize) {
     table_case(out, table, types, room);
     let judge = (table.word_refusal(&[INT], room) == 0).then(|| table.judge());
     let judge = judge.as_ref();

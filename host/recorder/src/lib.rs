@@ -1,11 +1,13 @@
 //! Test vectors: for each function its arguments and the answer that the Rust gives, one case a line.
 //!
 //! `FILES` lists the files and each file its functions; a new function is one more row there. Each function draws
-//! from a stream of its own, made of the seed and its name, so a new row changes no line of the others. `run` makes a whole
-//! input of the program that reads hex lines, with its output.
+//! from a stream of its own, made of the seed and its name, so a new row changes no line of the others. Cases of the same
+//! functions over tables of several layers stand at the end. `run` makes a whole input of the program that reads hex lines,
+//! with its output.
 
 mod descriptors;
 mod joins;
+mod layers;
 pub mod out;
 mod sets;
 mod solves;
@@ -28,6 +30,8 @@ pub struct File {
     pub most_tokens: usize,
     /// What is recorded, in the order of the file.
     pub functions: &'static [Function],
+    /// Writes cases of these over tables of several layers, which stand after all others.
+    pub over_layers: fn(&mut Rng, &mut Out),
 }
 
 /// A recorded function.
@@ -124,6 +128,9 @@ const SOLVES: &[Function] = &[
 /// For a function whose lines stand after those of the tables that they are about.
 fn with_the_table(_: &mut Rng, _: &mut Out) {}
 
+/// For a file that knows no tables.
+fn no_tables(_: &mut Rng, _: &mut Out) {}
+
 /// Every file that can be recorded.
 pub static FILES: [File; 4] = [
     File {
@@ -133,6 +140,7 @@ pub static FILES: [File; 4] = [
             # members, ascending. A word w stands for a type over 1,024 names. ffffffffffffffff: no answer.\n",
         most_tokens: 128,
         functions: LEAVES,
+        over_layers: no_tables,
     },
     File {
         name: "descriptors",
@@ -146,6 +154,7 @@ pub static FILES: [File; 4] = [
             # too long for a line; the tests of host/bracepuffin have them.\n",
         most_tokens: 400,
         functions: DESCRIPTORS,
+        over_layers: no_tables,
     },
     File {
         name: "queries",
@@ -157,9 +166,11 @@ pub static FILES: [File; 4] = [
             # asked about. room: how many working words are lent. A table holds until the next one. A refused answer\n\
             # has its number, then zeros. ffffffffffffffff: no answer.\n\
             # rules: those of the scope paper, written apart in host/judge/src/classes.rs and types.rs. Tables that\n\
-            # pass the limits (8) are too long for a line; the tests of host/bracepuffin have them.\n",
+            # pass the limits (8) are too long for a line; the tests of host/bracepuffin have them.\n\
+            # At the end: tables of several layers, where a record with flags 8e opens one; a fifth is 8.\n",
         most_tokens: 1600,
         functions: QUERIES,
+        over_layers: layers::queries,
     },
     File {
         name: "solves",
@@ -171,9 +182,11 @@ pub static FILES: [File; 4] = [
             # upper_flows: lists of sources and of targets; reads: of arrays and results; writes: of arrays and values. A\n\
             # table holds until the next one. A refused answer has its number, then zeros. ffffffffffffffff: no type.\n\
             # rules: those of the scope paper, written apart in host/judge/src/solves.rs. Problems with too many rows (8),\n\
-            # and those with thousands of final bounds, are too long for a line; the tests of host/bracepuffin have them.\n",
+            # and those with thousands of final bounds, are too long for a line; the tests of host/bracepuffin have them.\n\
+            # At the end: tables of several layers, where a record with flags 8e opens one.\n",
         most_tokens: 1600,
         functions: SOLVES,
+        over_layers: layers::solves,
     },
 ];
 
@@ -185,7 +198,9 @@ pub fn record(file: &File, seed: u64, size: u64) -> String {
         (function.record)(&mut Rng::new(seed, function.name), &mut out);
         text.push_str(&out.lines());
     }
-    text
+    let mut out = Out::new("layers", size, file.most_tokens);
+    (file.over_layers)(&mut Rng::new(seed, "layers"), &mut out);
+    text + &out.lines()
 }
 
 /// The seed of the stored run of the program that reads hex lines.

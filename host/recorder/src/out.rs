@@ -58,7 +58,8 @@ impl Out {
         self.tokens_of(self.name, arguments, answer)
     }
 
-    fn tokens_of(&mut self, name: &str, arguments: &[String], answer: &[String]) -> bool {
+    /// The same for a function of that name.
+    pub fn tokens_of(&mut self, name: &str, arguments: &[String], answer: &[String]) -> bool {
         let line = format!("{name} {} = {}\n", arguments.join(" "), answer.join(" "));
         // The line break counts.
         if arguments.len() + answer.len() > self.most_tokens || line.len() > MAX_BYTES {

@@ -23,7 +23,7 @@ fn answer(solved: &Solved) -> Vec<u64> {
 }
 
 /// The table in a line, and how a problem without components ends over it.
-fn begin(out: &mut Out, table: &Classes) {
+pub(crate) fn begin(out: &mut Out, table: &Classes) {
     let mut arguments = vec![bytes(&table.names.store)];
     let columns = [
         &table.names.at,
@@ -62,7 +62,7 @@ fn arguments(columns: &Columns, lent: Lent) -> Vec<u64> {
 }
 
 /// A problem over the last table, left out where the line would be too long.
-fn solve(out: &mut Out, name: &str, table: &Classes, columns: &Columns, lent: Lent) {
+pub(crate) fn solve(out: &mut Out, name: &str, table: &Classes, columns: &Columns, lent: Lent) {
     let solved = table.solve(columns, lent);
     out.case_if_short(name, &arguments(columns, lent), &answer(&solved));
 }

@@ -190,14 +190,14 @@ pub(crate) fn table_case(out: &mut Out, table: &Classes, types: &[u64], room: us
 }
 
 /// What is asked about a table: nothing but refusals if it has no judge.
-struct Asked<'a> {
+pub(crate) struct Asked<'a> {
     table: &'a Classes,
     room: usize,
     judge: Option<Judge>,
 }
 
 impl<'a> Asked<'a> {
-    fn new(out: &mut Out, table: &'a Classes, room: usize) -> Self {
+    pub(crate) fn new(out: &mut Out, table: &'a Classes, room: usize) -> Self {
         table_case(out, table, &[], room);
         let judge = table.names().is_ok().then(|| table.judge());
         Self { table, room, judge }
@@ -241,7 +241,7 @@ impl<'a> Asked<'a> {
         out.case_of("ancestors", &[class], &answer);
     }
 
-    fn all(&self, out: &mut Out) {
+    pub(crate) fn all(&self, out: &mut Out) {
         let count = self.table.names.at.len() as u64;
         for a in 0..count {
             self.ancestors(out, a);
@@ -249,7 +249,7 @@ impl<'a> Asked<'a> {
         }
     }
 
-    fn some(&self, rng: &mut Rng, out: &mut Out, pairs: u64) {
+    pub(crate) fn some(&self, rng: &mut Rng, out: &mut Out, pairs: u64) {
         let count = self.table.names.at.len().max(1) as u64;
         for number in 0..pairs {
             self.pair(out, rng.below(count), rng.below(count));
@@ -339,8 +339,9 @@ fn without_object(rng: &mut Rng, out: &mut Out) {
 // ---- tables alone
 
 /// A table in a line, and where it is refused.
-fn check_case(out: &mut Out, table: &Classes) {
-    let fits = out.tokens_if_short(&columns(table, &[], WORK), &numbers(&table.check()));
+pub(crate) fn check_case(out: &mut Out, table: &Classes) {
+    let arguments = columns(table, &[], WORK);
+    let fits = out.tokens_of("t_check", &arguments, &numbers(&table.check()));
     assert!(fits, "{table:?}");
 }
 

@@ -217,7 +217,8 @@ fn every_answer_about_tables_occurs() {
         }
         shares.len()
     };
-    let refusals = "0 3 5 6 9 a 16";
+    // 8 is that of a fifth layer.
+    let refusals = "0 3 5 6 8 9 a 16";
     for function in ["table", "pair", "ancestors"] {
         assert_eq!(many(function, 0, refusals, 4), numbers(refusals).len());
     }
@@ -225,6 +226,46 @@ fn every_answer_about_tables_occurs() {
     assert_eq!(many("pair", 1, "0 1 2", 500), 3);
     many("pair", 2, "0 1 2 3 3fffffffffffffff ffffffffffffffff", 20);
     assert_eq!(many("pair", 4, "0 1", 500), 2);
+}
+
+/// How many rows of a table open a layer: the first list of columns after the names, or after the types asked about.
+fn openings(arguments: &str, column: usize) -> usize {
+    let numbers_alone = arguments.split(' ').filter(|token| !token.starts_with('x'));
+    let numbers_alone = numbers(&Vec::from_iter(numbers_alone).join(" "));
+    let skipped = usize::from(column == 3);
+    let flags = &lists(&numbers_alone[skipped..])[column];
+    flags.iter().filter(|flags| **flags == 0x8e).count()
+}
+
+/// Tables of two to four layers, and of five, which are refused.
+#[test]
+fn tables_of_several_layers_are_there() {
+    let heights = |text: &str, function: &str, column: usize| {
+        let mut heights = BTreeMap::<(usize, bool), usize>::new();
+        for (_, arguments, answer) in cases(text).filter(|(name, ..)| *name == function) {
+            let refused = !answer.starts_with("0 ");
+            let height = 1 + openings(arguments, column);
+            *heights.entry((height, refused)).or_default() += 1;
+        }
+        heights
+    };
+    for (text, function, column, least) in [
+        (QUERIES, "table", 3, 8),
+        (QUERIES, "t_check", 3, 5),
+        (SOLVES, "table", 2, 4),
+    ] {
+        let heights = heights(text, function, column);
+        for height in 2..5 {
+            let share = heights.get(&(height, false)).copied().unwrap_or(0);
+            assert!(share >= least, "{function} {height}: {heights:?}");
+        }
+        // Five or more are always refused.
+        assert!(heights
+            .keys()
+            .all(|(height, refused)| *height < 5 || *refused));
+    }
+    let fifth = heights(QUERIES, "t_check", 3).get(&(5, true)).copied();
+    assert!(fifth >= Some(3), "{fifth:?}");
 }
 
 /// Every pair of some hundred types over one table, and every refusal.

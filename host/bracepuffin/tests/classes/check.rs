@@ -1,14 +1,15 @@
 //! Where a table is refused: `check_table` against the rules of the paper, and against what each query is refused with.
 
 use bracepuffin::slices;
-use judge::class_cases::{any_classes, damage_classes, fullest_classes};
+use judge::class_cases::{damage_classes, fullest_classes};
 use judge::classes::{Classes, WORK};
+use judge::layer_cases::any_stack;
 use judge::rng::Rng;
 
 use crate::{cases, columns, work, QUERIES};
 
 /// Refusal, part and row.
-fn check(classes: &Classes) -> [u64; 3] {
+pub(crate) fn check(classes: &Classes) -> [u64; 3] {
     let checked = slices::check_table(columns(classes));
     [checked.refusal, checked.part, checked.row]
 }
@@ -106,7 +107,7 @@ fn random_tables() {
     let mut seen = [0; 4];
     let mut work = work();
     for _ in 0..cases(6_000) {
-        let mut classes = any_classes(&mut rng, 6);
+        let mut classes = any_stack(&mut rng, 6);
         for _ in 0..rng.below(3) {
             damage_classes(&mut rng, &mut classes);
         }

@@ -2,7 +2,7 @@
 
 use judge::classes::Classes;
 
-use crate::{agree, answer, set_of, work, Query};
+use crate::{agree_on_all, answer, set_of, work, Query};
 
 const FAR: u64 = 4_611_686_018_427_387_903;
 const NONE: u64 = u64::MAX;
@@ -17,12 +17,7 @@ fn with_names(names: &[&str], records: &[(u64, u64, &[u64])]) -> Classes {
     for (flags, class, parents) in records {
         classes.push(*flags, *class, parents);
     }
-    let (judge, count) = (classes.judge(), names.len() as u64);
-    for left in 0..count {
-        for right in 0..count {
-            agree(&classes, &judge, left, right, &mut work());
-        }
-    }
+    agree_on_all(&classes);
     classes
 }
 

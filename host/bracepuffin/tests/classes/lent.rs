@@ -14,7 +14,12 @@ fn sound() -> Classes {
 }
 
 /// Asks with that many words between guards, all poisoned: the result, the words, and that the guards stayed.
-fn lend(query: Query, classes: &Classes, room: usize, fill: u64) -> (u64, Vec<u64>, Vec<u64>) {
+pub(crate) fn lend(
+    query: Query,
+    classes: &Classes,
+    room: usize,
+    fill: u64,
+) -> (u64, Vec<u64>, Vec<u64>) {
     let mut lent = vec![POISON; room + 2 * GUARD];
     lent[GUARD..GUARD + room].fill(fill);
     let (refusal, rest) = query.ask(classes, 0, 1, &mut lent[GUARD..GUARD + room]);

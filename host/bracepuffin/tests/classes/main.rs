@@ -9,6 +9,7 @@
 mod check;
 mod every;
 mod facts;
+mod layers;
 mod lent;
 mod limits;
 mod random;
@@ -108,5 +109,16 @@ fn agree(classes: &Classes, judge: &Judge, left: u64, right: u64, work: &mut [u6
             (0, expected),
             "{query:?} {left} {right} {classes:?}"
         );
+    }
+}
+
+/// Asks both sides everything about every pair.
+fn agree_on_all(classes: &Classes) {
+    let (judge, mut work) = (classes.judge(), work());
+    let count = judge.names.len() as u64;
+    for left in 0..count {
+        for right in 0..count {
+            agree(classes, &judge, left, right, &mut work);
+        }
     }
 }

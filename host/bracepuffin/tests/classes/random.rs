@@ -2,12 +2,13 @@
 
 use judge::class_cases::{any_classes, damage_classes, fullest_classes, layered_classes};
 use judge::classes::{Classes, WORK};
+use judge::layer_cases::any_stack;
 use judge::rng::Rng;
 
-use crate::{agree, cases, work, Query, POISON, QUERIES};
+use crate::{agree, agree_on_all, cases, work, Query, POISON, QUERIES};
 
 /// Both sides on that many random pairs.
-fn some_pairs(rng: &mut Rng, classes: &Classes, pairs: u64) {
+pub(crate) fn some_pairs(rng: &mut Rng, classes: &Classes, pairs: u64) {
     let judge = classes.judge();
     let count = judge.names.len() as u64;
     let mut work = work();
@@ -20,16 +21,8 @@ fn some_pairs(rng: &mut Rng, classes: &Classes, pairs: u64) {
 #[test]
 fn small_tables() {
     let mut rng = Rng::new(1, "small class tables");
-    let mut work = work();
     for _ in 0..cases(80) {
-        let classes = any_classes(&mut rng, 7);
-        let judge = classes.judge();
-        let count = judge.names.len() as u64;
-        for left in 0..count {
-            for right in 0..count {
-                agree(&classes, &judge, left, right, &mut work);
-            }
-        }
+        agree_on_all(&any_classes(&mut rng, 7));
     }
 }
 
@@ -67,7 +60,7 @@ fn tables_with_faults() {
     let mut rng = Rng::new(1, "class tables with faults");
     let mut refusals = [0; 24];
     for _ in 0..cases(2_500) {
-        let mut classes = any_classes(&mut rng, 6);
+        let mut classes = any_stack(&mut rng, 6);
         for _ in 0..1 + rng.below(2) {
             damage_classes(&mut rng, &mut classes);
         }
@@ -86,7 +79,7 @@ fn tables_with_faults() {
         }
     }
     assert!(
-        [0, 3, 5, 6, 10, 22]
+        [0, 3, 5, 6, 8, 10, 22]
             .iter()
             .all(|number| refusals[*number] > 0),
         "{refusals:?}"

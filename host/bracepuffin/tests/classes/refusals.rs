@@ -162,9 +162,13 @@ fn flags() {
         };
         assert_eq!(refusal(&one(&NAMES, flags, 0, &[])), expected, "{flags}");
     }
-    for flags in [128, 142, 143, 1 << 32 | 1, u64::MAX] {
+    for flags in [128, 141, 143, 1 << 32 | 1, 1 << 32 | 142, u64::MAX] {
         assert_eq!(refusal(&one(&NAMES, flags, 0, &[])), 6);
     }
+    // What opens a layer.
+    assert_eq!(refusal(&one(&NAMES, 142, 0, &[])), 0);
+    assert_eq!(refusal(&one(&NAMES, 142, 1, &[])), 3);
+    assert_eq!(refusal(&one(&NAMES, 142, 0, &[1])), 3);
 }
 
 #[test]

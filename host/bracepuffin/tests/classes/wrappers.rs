@@ -138,6 +138,7 @@ fn tables_that_are_refused() {
     // Classes 0 to 3 have five rows each and one; 5 comes after them.
     let place = Place::Record {
         class: "5".to_string(),
+        layer: 0,
         row: 24,
         of: 25,
     };
@@ -146,6 +147,100 @@ fn tables_that_are_refused() {
         error.to_string(),
         "one entry too many: record 25 of 25, of \"5\""
     );
+}
+
+/// Layers over one table: each has its own answers, and the table below stays as it is.
+#[test]
+fn layers_over_one_table() -> Result<(), TableError> {
+    let mut classes = ClassTableBuilder::new();
+    classes.add_declared_type("m/A", ["m/B"], ReferenceTypeInfo::PLAIN);
+    classes.add_declared_type("m/I", [], ReferenceTypeInfo::INTERFACE);
+    let shared = classes.build()?;
+    // Names before and after those below, so that every class has another number.
+    let mut model = ClassTableBuilder::new();
+    model.add("a/New", ["m/A"]).add("m/A", ["z/New"]);
+    let table = model.build_over(&shared)?;
+    let mut other = ClassTableBuilder::new();
+    other.add("m/A", []);
+    let bare = other.build_over(&shared)?;
+    let top = other.build_over(&table)?;
+    let above = |table: &ClassTable, class| -> Vec<String> {
+        table.ancestors(class).names().map(str::to_string).collect()
+    };
+    assert_eq!(above(&shared, "m/A"), [OBJECT, "m/A", "m/B"]);
+    assert_eq!(above(&table, "m/A"), [OBJECT, "m/A", "z/New"]);
+    assert_eq!(above(&table, "a/New"), ["a/New", OBJECT, "m/A", "z/New"]);
+    assert_eq!(above(&bare, "m/A"), [OBJECT, "m/A"]);
+    assert_eq!(above(&top, "a/New"), ["a/New", OBJECT, "m/A"]);
+    assert_eq!(
+        [&shared, &table, &bare, &top].map(|t| t.layers()),
+        [1, 2, 2, 3]
+    );
+    // The facts are those that the lowest layer declares.
+    assert!(top.cast("m/A", "m/I") && top.relation("m/A", "m/I") == Relation::No);
+    assert_eq!(table.relation("m/A", "m/I"), Relation::Unknown);
+    assert_eq!(Relations::of(&top).relation("m/A", "m/B"), Relation::No);
+    // A number of the table below is none of a table over it, and names that only the layers bring are there.
+    let number = shared.class_number("m/A").expect("in the table");
+    assert_eq!(table.names().name(number), None);
+    assert_eq!(table.class_number("a/New").map(|class| class.get()), Ok(0));
+    assert_eq!(
+        format!("{top:?}"),
+        "ClassTable { names: 6, layers: 3, records: 5, .. }"
+    );
+    Ok(())
+}
+
+#[test]
+fn layers_that_are_refused() {
+    let names: Vec<String> = (0..1023).map(|number| format!("{number:04}")).collect();
+    let every = || names.iter().map(String::as_str);
+    let mut full = ClassTableBuilder::new();
+    for class in &names[..4] {
+        full.add(class, every().chain([OBJECT]));
+    }
+    let mut table = full.build().expect("4,096 pairs");
+    // Each layer has room of its own for as many pairs.
+    for layers in 2..=4 {
+        table = full.build_over(&table).expect("4,096 pairs a layer");
+        assert_eq!(table.layers(), layers);
+    }
+    let mut one = ClassTableBuilder::new();
+    one.add("0007", ["0008"]);
+    let error = one.build_over(&table).expect_err("a fifth layer");
+    assert_eq!(error.refusal(), Refusal::Room);
+    assert_eq!(error.place(), &Place::Layer { layer: 4 });
+    assert_eq!(error.to_string(), "one entry too many: layer 5");
+    // One pair too many: of the layer, whatever stands below.
+    let below = one.build().expect("one pair");
+    let error = full.add("0009", ["0008"]).build_over(&below);
+    let error = error.expect_err("4,097 pairs");
+    let place = Place::Record {
+        class: "0009".to_string(),
+        layer: 1,
+        row: 20,
+        of: 21,
+    };
+    assert_eq!((error.refusal(), error.place()), (Refusal::Room, &place));
+    assert_eq!(
+        error.to_string(),
+        "one entry too many: record 21 of 21 in layer 2, of \"0009\""
+    );
+    // The names of all layers are one list.
+    let error = ClassTableBuilder::new().name("zz").build_over(&table);
+    let error = error.expect_err("1,025 names");
+    assert!(matches!(
+        error.place(),
+        Place::Name {
+            row: 1024,
+            of: 1025,
+            ..
+        }
+    ));
+    let mut long = ClassTableBuilder::new();
+    let name = "n".repeat(256);
+    let error = long.name(&name).build_over(&below).expect_err("256 bytes");
+    assert!(matches!(error.place(), Place::Name { name: found, .. } if *found == name));
 }
 
 #[test]
@@ -174,7 +269,7 @@ fn a_table_is_shared_and_cloned() {
     assert_eq!(table.names().name(class), Some("b"));
     assert_eq!(
         format!("{table:?}"),
-        "ClassTable { names: 3, records: 1, .. }"
+        "ClassTable { names: 3, layers: 1, records: 1, .. }"
     );
 }
 

@@ -34,6 +34,8 @@ macro_rules! println {
 
 #[path = "../../examples/first.rs"]
 mod first;
+#[path = "../../examples/layers.rs"]
+mod layers;
 #[path = "../../examples/manual.rs"]
 mod manual;
 #[path = "../../examples/notice.rs"]
@@ -47,6 +49,7 @@ fn printed(path: &str) -> String {
     };
     match path {
         "host/bracepuffin/examples/first.rs" => rust(first::main),
+        "host/bracepuffin/examples/layers.rs" => rust(layers::main),
         "host/bracepuffin/examples/manual.rs" => rust(manual::main),
         "host/bracepuffin/examples/notice.rs" => rust(notice::main),
         "host/examples/call.c" => prints(&file(path), "manual_call", &["-std=c99"]),
@@ -148,4 +151,16 @@ fn modified_utf8_is_refused() {
         let descriptor = [b"L", name, b";"].concat();
         assert_eq!(read_type(&descriptor), Err(refusal));
     }
+}
+
+/// No document need show it.
+#[test]
+fn the_example_of_layers() {
+    let expected = "No
+Yes
+{\"a/Device\", \"a/Radio\", \"java/lang/Object\", \"m/Antenna\"}
+4 layers
+refusal 8: one entry too many: layer 5
+";
+    assert_eq!(printed("host/bracepuffin/examples/layers.rs"), expected);
 }

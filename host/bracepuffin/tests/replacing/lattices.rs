@@ -4,10 +4,11 @@ use std::collections::BTreeSet;
 
 use dexdec::{lattice, turns, ArgType, Kind, Problem, SsaVar};
 use judge::class_cases::any_classes;
+use judge::layer_cases::open_layers;
 use judge::rng::Rng;
 
 use crate::dressed::ours;
-use crate::{asked, builder, cases, index, records, Replaced};
+use crate::{asked, cases, index, layers, table, Replaced};
 
 /// A type over these classes, of any kind.
 fn any_type(rng: &mut Rng, classes: &[String]) -> ArgType {
@@ -37,11 +38,11 @@ fn any_type(rng: &mut Rng, classes: &[String]) -> ArgType {
 fn joins_and_assignability() {
     let mut rng = Rng::new(1, "joins by the wrapper");
     let mut absent = 0;
-    for _ in 0..cases(150) {
+    for number in 0..cases(150) {
         let classes = any_classes(&mut rng, 6);
-        let records = records(&classes);
-        let table = builder(&records).build().expect("a sound table");
-        let index = index(&records);
+        let classes = open_layers(&mut rng, &classes, number % 4);
+        let layers = layers(&classes);
+        let (table, index) = (table(&layers), index(&layers));
         let asked = asked(&mut rng, &classes, 6);
         for _ in 0..24 {
             let (left, right) = (any_type(&mut rng, &asked), any_type(&mut rng, &asked));
@@ -49,11 +50,11 @@ fn joins_and_assignability() {
             absent += u64::from(table.word(our_left).is_err() || table.word(our_right).is_err());
             let expected = lattice::join(left.clone(), right.clone(), &index);
             let joined = table.join(our_left, our_right);
-            assert_eq!(joined, ours(&expected), "{left:?} {right:?} {records:?}");
+            assert_eq!(joined, ours(&expected), "{left:?} {right:?} {layers:?}");
             assert_eq!(joined.to_string(), expected.to_string());
             let expected = lattice::is_assignable(&left, &right, &index);
             let assignable = table.is_assignable(our_left, our_right);
-            assert_eq!(assignable, expected, "{left:?} {right:?} {records:?}");
+            assert_eq!(assignable, expected, "{left:?} {right:?} {layers:?}");
         }
     }
     assert!(absent > 0);
@@ -101,11 +102,12 @@ pub(crate) fn any_problem(rng: &mut Rng, classes: &[String]) -> Problem {
 fn solves_over_the_wrapper() {
     let mut rng = Rng::new(1, "solves over the wrapper");
     let mut answered = 0;
-    for _ in 0..cases(120) {
+    for number in 0..cases(120) {
         let classes = any_classes(&mut rng, 6);
-        let records = records(&classes);
-        let table = builder(&records).build().expect("a sound table");
-        let (ours, theirs) = (Replaced::over(&table), index(&records));
+        let classes = open_layers(&mut rng, &classes, number % 4);
+        let layers = layers(&classes);
+        let table = table(&layers);
+        let (ours, theirs) = (Replaced::over(&table), index(&layers));
         let asked = asked(&mut rng, &classes, 6);
         let problem = any_problem(&mut rng, &asked);
         let expected = turns::solve(&problem, &theirs);

@@ -2,8 +2,9 @@
 //! `ClassHierarchyIndex`, is a `TypeHierarchy` for lattice.rs, and is compared with the index on random tables, on all
 //! their classes and on some that no record names.
 //!
-//! What is private in lattice.rs is reached through `dexdec::lattice`; `TypeLattice::solve` itself runs over both.
-//! `ClassHierarchyIndex::layered` has no counterpart, and `freeze_distances` needs none: `Replaced` is never mutated.
+//! What is private in lattice.rs is reached through `dexdec::lattice`; `TypeLattice::solve` itself runs over both. For
+//! `ClassHierarchyIndex::layered` stands `build_over`, and tables have up to four layers. `freeze_distances` needs no
+//! counterpart, since `Replaced` is never mutated; an index of several layers is not frozen: it would answer otherwise.
 
 #[path = "../shared/dressed.rs"]
 mod dressed;
@@ -14,10 +15,14 @@ mod parts;
 mod shared;
 mod solves;
 
+use std::sync::Arc;
+
 use bracepuffin::{ClassTable, ClassTableBuilder, ReferenceTypeInfo, Relation, Relations};
 use dexdec::hierarchy::{self, ClassHierarchyIndex, SubtypeRelation, TypeHierarchy};
 use judge::class_cases::{any_classes, layered_classes};
 use judge::classes::Classes;
+use judge::layer_cases::open_layers;
+use judge::layers::Row;
 use judge::rng::Rng;
 
 use shared::cases;
@@ -74,25 +79,26 @@ struct Given {
     info: Option<ReferenceTypeInfo>,
 }
 
-/// The records of a table, by name.
-fn records(classes: &Classes) -> Vec<Given> {
+/// The records of each layer of a table, by name, the lowest first.
+fn layers(classes: &Classes) -> Vec<Vec<Given>> {
     let names = classes.names().expect("a sound table");
     let name = |number: &u64| names[*number as usize].clone();
-    let rows = 0..classes.flags.len();
-    let given = rows.map(|row| {
-        let (at, len) = (classes.at[row] as usize, classes.len[row] as usize);
-        let flags = classes.flags[row];
+    let given = |row: &Row| {
         let info = ReferenceTypeInfo {
-            is_interface: flags & 2 != 0,
-            is_final: flags & 4 != 0,
+            is_interface: row.flags & 2 != 0,
+            is_final: row.flags & 4 != 0,
         };
         Given {
-            class: name(&classes.class[row]),
-            parents: classes.parents[at..at + len].iter().map(name).collect(),
-            info: (flags != 0).then_some(info),
+            class: name(&row.class),
+            parents: row.parents.iter().map(name).collect(),
+            info: (row.flags != 0).then_some(info),
         }
-    });
-    given.collect()
+    };
+    let rows = classes.rows();
+    let layers = rows.split(Row::opens);
+    layers
+        .map(|rows| rows.iter().map(given).collect())
+        .collect()
 }
 
 fn builder(records: &[Given]) -> ClassTableBuilder<'_> {
@@ -107,8 +113,28 @@ fn builder(records: &[Given]) -> ClassTableBuilder<'_> {
     builder
 }
 
-fn index(records: &[Given]) -> ClassHierarchyIndex {
+/// The wrapper's table of these layers.
+fn table(layers: &[Vec<Given>]) -> ClassTable {
+    let (lowest, above) = layers.split_first().expect("a lowest layer");
+    let lowest = builder(lowest).build().expect("a sound table");
+    above.iter().fold(lowest, |below, layer| {
+        let table = builder(layer).build_over(&below);
+        table.expect("a sound layer")
+    })
+}
+
+fn index(layers: &[Vec<Given>]) -> ClassHierarchyIndex {
+    let (lowest, above) = layers.split_first().expect("a lowest layer");
     let mut index = ClassHierarchyIndex::default();
+    add_all(&mut index, lowest);
+    for layer in above {
+        index = ClassHierarchyIndex::layered(Arc::new(index));
+        add_all(&mut index, layer);
+    }
+    index
+}
+
+fn add_all(index: &mut ClassHierarchyIndex, records: &[Given]) {
     for record in records {
         let (class, parents) = (record.class.clone(), record.parents.clone());
         match record.info {
@@ -122,7 +148,6 @@ fn index(records: &[Given]) -> ClassHierarchyIndex {
             }
         }
     }
-    index
 }
 
 /// The names of a table, and some that it does not have: before and after all others, those that lattice.rs knows, and
@@ -145,12 +170,13 @@ fn the_calls_of_the_index() {
     let mut tables: Vec<Classes> = (0..cases(25)).map(|_| any_classes(&mut rng, 7)).collect();
     tables.push(layered_classes(&mut rng, 40, 0));
     tables.push(layered_classes(&mut rng, 40, 9));
-    for classes in tables {
-        let records = records(&classes);
-        let table = builder(&records).build().expect("a sound table");
-        let (ours, mut theirs) = (Replaced::over(&table), index(&records));
+    for (place, classes) in tables.into_iter().enumerate() {
+        let classes = open_layers(&mut rng, &classes, place as u64 % 4);
+        let layers = layers(&classes);
+        let table = table(&layers);
+        let (ours, mut theirs) = (Replaced::over(&table), index(&layers));
         let asked = asked(&mut rng, &classes, 8);
-        if rng.below(2) == 0 {
+        if layers.len() == 1 && rng.below(2) == 0 {
             theirs.freeze_distances();
         }
         for left in &asked {

@@ -6,7 +6,7 @@ use judge::class_cases::{any_classes, layered_classes};
 use judge::classes::Classes;
 use judge::rng::Rng;
 
-use crate::{builder, cases, index, records, relation, Given};
+use crate::{builder, cases, index, layers, relation, Given};
 
 /// Three names of a table, and one that it does not have.
 fn questions(rng: &mut Rng, classes: &Classes) -> Vec<String> {
@@ -23,8 +23,8 @@ fn the_answers_of_the_whole() {
     tables.push(layered_classes(&mut rng, 300, 20));
     let mut left_out = 0;
     for classes in tables {
-        let records = records(&classes);
-        let (builder, index) = (builder(&records), index(&records));
+        let layers = layers(&classes);
+        let (builder, index) = (builder(&layers[0]), index(&layers));
         let asked = questions(&mut rng, &classes);
         let part = builder
             .build_for(asked.iter().map(String::as_str))

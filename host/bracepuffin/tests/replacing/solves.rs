@@ -4,21 +4,22 @@
 use bracepuffin::{ArgType, ArrayConstraint, BoundKind, ClassTable, Refusal, TypeConstraints};
 use dexdec::{lattice, turns, SsaVar};
 use judge::class_cases::any_classes;
+use judge::layer_cases::open_layers;
 use judge::rng::Rng;
 
 use crate::dressed::{constraints, kind, ours};
 use crate::lattices::any_problem;
-use crate::{asked, builder, cases, index, records};
+use crate::{asked, cases, index, layers, table};
 
 #[test]
 fn random_problems() {
     let mut rng = Rng::new(1, "solves by the wrapper");
     let (mut answered, mut absent) = (0, 0);
-    for _ in 0..cases(250) {
+    for number in 0..cases(250) {
         let classes = any_classes(&mut rng, 6);
-        let records = records(&classes);
-        let table = builder(&records).build().expect("a sound table");
-        let index = index(&records);
+        let classes = open_layers(&mut rng, &classes, number % 4);
+        let layers = layers(&classes);
+        let (table, index) = (table(&layers), index(&layers));
         let names = asked(&mut rng, &classes, 6);
         // No table holds the empty name and the one of 300 bytes, and so no problem over it.
         let names: Vec<String> = names
@@ -36,14 +37,14 @@ fn random_problems() {
         assert_eq!(
             Vec::from_iter(solved.types),
             expected,
-            "{problem:?} {records:?}"
+            "{problem:?} {layers:?}"
         );
         let rows = lattice::propagate(&problem, &index);
         let rows: Vec<_> = rows
             .iter()
             .map(|(root, bound, ty)| (*root, kind(*bound), ours(ty)))
             .collect();
-        assert_eq!(solved.bounds, rows, "{problem:?} {records:?}");
+        assert_eq!(solved.bounds, rows, "{problem:?} {layers:?}");
         assert_eq!(solved.turns, turns);
         answered += expected.len();
         let bounds = constraints.bounds.values().flatten();

@@ -1,7 +1,10 @@
 //! Problems that tell readings apart, each fault alone and two at once: the first in order is the refusal.
 
 use judge::classes::Classes;
-use judge::solve_cases::{faulty, no_records, telling_problems};
+use judge::layer_cases::{faulty_layers, full_layers, telling_layers};
+use judge::solve_cases::{
+    class, faulty, no_records, problem, telling_problems, EXACT, LOWER, UPPER,
+};
 
 use crate::agree;
 
@@ -59,5 +62,35 @@ fn two_faults_at_once() {
             }
             assert_ne!(agree(table, &both).refusal, 0);
         }
+    }
+}
+
+/// Classes of a table in layers that meet along flows: what they come to goes by what the layers show together, and a layer
+/// that is refused is so before any row of the problem.
+#[test]
+fn layers() {
+    let bounds = [
+        (0, LOWER, class(0)),
+        (1, LOWER, class(1)),
+        (2, UPPER, class(2)),
+        (3, EXACT, class(0)),
+        (3, LOWER, class(1)),
+    ];
+    let flows = [(0, 4), (1, 4), (4, 2), (3, 2)];
+    let mut problem = problem(5, &bounds, [&flows, &[], &[], &[]]);
+    for (_, classes) in telling_layers() {
+        assert_eq!(agree(&classes, &problem).refusal, 0);
+    }
+    for (what, classes, [refusal, ..]) in full_layers() {
+        assert_eq!(agree(&classes, &problem).refusal, refusal, "{what}");
+    }
+    problem.bound(0, LOWER, class(9));
+    for (what, classes, [refusal, ..]) in faulty_layers() {
+        // The class that no table has comes after the rows of the table and before the name of Object.
+        let expected = match refusal {
+            0 | 9 => 7,
+            refusal => refusal,
+        };
+        assert_eq!(agree(&classes, &problem).refusal, expected, "{what}");
     }
 }

@@ -1,8 +1,8 @@
 //! Each slice of a solve, lent and read, against a page that may not be touched: one word before or behind it ends the process.
 
 use bracepuffin::slices::{self, ClassColumns, Columns, SolvedColumns};
-use judge::class_cases::any_classes;
 use judge::classes::Classes;
+use judge::layer_cases::{any_stack, faulty_layers};
 use judge::rng::Rng;
 use judge::solve_cases::{any_problem, damage_problem, faulty, telling_problems};
 use judge::solves;
@@ -198,8 +198,12 @@ fn pages_beside_the_slices_are_not_touched() {
         for (classes, problem, _) in faulty() {
             agree(&classes, &problem, fence);
         }
+        let small = judge::solve_cases::problem(1, &[], [&[]; 4]);
+        for (_, classes, _) in faulty_layers() {
+            agree(&classes, &small, fence);
+        }
         for round in 0..cases(200) {
-            let classes = any_classes(&mut rng, 12);
+            let classes = any_stack(&mut rng, 12);
             let mut problem = any_problem(&mut rng, classes.names.at.len() as u64, 8);
             if round % 3 == 0 {
                 damage_problem(&mut rng, &mut problem);

@@ -1,10 +1,12 @@
-//! Random problems over random tables: a few components, many, long chains and cycles, sound and damaged.
+//! Random problems over random tables of one to four layers: a few components, many, long chains and cycles, sound and
+//! damaged.
 
 use std::collections::BTreeMap;
 
 use judge::class_cases::{any_classes, damage_classes, layered_classes};
+use judge::layer_cases::{any_stack, open_layers};
 use judge::rng::Rng;
-use judge::solve_cases::{any_problem, array, class, damage_problem, BOOLEAN, INT};
+use judge::solve_cases::{any_problem, array, class, class_problem, damage_problem, BOOLEAN, INT};
 use judge::solves::Columns;
 
 use crate::{agree, agree_over, cases, POISON};
@@ -18,6 +20,7 @@ fn small_problems() {
             0 => layered_classes(&mut rng, 12, 5),
             _ => any_classes(&mut rng, 8),
         };
+        let classes = open_layers(&mut rng, &classes, number % 4);
         let names = classes.names.at.len() as u64;
         let most = if number % 8 == 0 { 12 } else { 5 };
         let problem = any_problem(&mut rng, names, most);
@@ -25,6 +28,22 @@ fn small_problems() {
         added += solved.bounds.len().saturating_sub(problem.bounds[0].len());
     }
     assert!(added as u64 >= cases(6_000), "{added}");
+}
+
+/// Classes alone, over tables of two to four layers.
+#[test]
+fn problems_over_layers() {
+    let mut rng = Rng::new(1, "problems over layers");
+    let mut other = 0;
+    for number in 0..cases(3_000) {
+        let plain = any_classes(&mut rng, 8);
+        let classes = open_layers(&mut rng, &plain, 1 + number % 3);
+        let problem = class_problem(&mut rng, classes.names.at.len() as u64);
+        let solved = agree(&classes, &problem);
+        other += u64::from(plain.solve(&problem, problem.least()) != solved);
+    }
+    // Layers are not the same as one table of all records.
+    assert!(other >= cases(30), "{other}");
 }
 
 #[test]
@@ -35,6 +54,7 @@ fn larger_problems() {
             0 => layered_classes(&mut rng, 40, 10),
             _ => any_classes(&mut rng, 40),
         };
+        let classes = open_layers(&mut rng, &classes, number % 4);
         let names = classes.names.at.len() as u64;
         agree(&classes, &any_problem(&mut rng, names, 60));
     }
@@ -75,7 +95,7 @@ fn damaged_problems() {
     let mut rng = Rng::new(1, "damaged problems");
     let mut met = BTreeMap::<u64, u64>::new();
     for number in 0..cases(4_000) {
-        let mut classes = any_classes(&mut rng, 6);
+        let mut classes = any_stack(&mut rng, 6);
         let names = classes.names.at.len() as u64;
         let mut problem = any_problem(&mut rng, names, 5);
         (0..1 + rng.below(2)).for_each(|_| damage_problem(&mut rng, &mut problem));

@@ -3,6 +3,7 @@
 use bracepuffin::slices;
 use judge::class_cases::any_classes;
 use judge::classes::{Classes, Judge};
+use judge::layer_cases::{open_layers, telling_layers};
 use judge::rng::Rng;
 
 use crate::{array, cases, columns, unknown, work, CLASS};
@@ -132,6 +133,23 @@ fn all_pairs_of_types_over_other_tables() {
     }
 }
 
+/// Every class beside every other, its array and a primitive, over the stacks that tell the rules of layers apart.
+#[test]
+fn all_pairs_of_classes_over_telling_stacks() {
+    let mut work = work();
+    for (_, classes) in telling_layers() {
+        let judge = classes.judge();
+        let classes_alone = (0..judge.names.len() as u64).map(|class| CLASS | class);
+        let mut types = vec![5];
+        types.extend(classes_alone.flat_map(|class| [class, array(1, class)]));
+        for left in &types {
+            for right in &types {
+                agree(&classes, &judge, *left, *right, &mut work);
+            }
+        }
+    }
+}
+
 /// A list is joined from its front in the order of types, as `join_all` does.
 #[test]
 fn random_lists_joined_one_by_one() {
@@ -158,17 +176,19 @@ fn random_lists_joined_one_by_one() {
     }
 }
 
-/// Classes are related in each way in random tables, in some of which both interfaces of arrays are names.
+/// Classes are related in each way in random tables of one to four layers, in some of which both interfaces of arrays are
+/// names.
 #[test]
 fn random_pairs_over_random_tables() {
     let mut rng = Rng::new(1, "types over class tables");
     let mut work = work();
-    for _ in 0..cases(60) {
+    for number in 0..cases(60) {
         let mut classes = any_classes(&mut rng, 9);
         if rng.below(2) == 0 {
             classes = related();
             classes.push(0, rng.below(7), &[rng.below(7)]);
         }
+        let classes = open_layers(&mut rng, &classes, number % 4);
         let judge = classes.judge();
         let numbers: Vec<u64> = (0..judge.names.len() as u64).collect();
         let bases = bases(&numbers);

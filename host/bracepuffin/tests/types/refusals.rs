@@ -1,6 +1,7 @@
 //! Refusals of joins and assignability, their order and lent memory: 22; the table; 7; 9.
 
 use judge::classes::{Classes, WORK};
+use judge::layers::OPENS;
 
 use crate::{array, columns, unknown, CLASS, POISON, QUERIES};
 
@@ -82,7 +83,12 @@ fn the_table_comes_before_the_words() {
     let mut parent = names("z");
     parent.push(0, 0, &[2]);
     let room = Classes::of(&(0..1025).map(|i| format!("{i:04}")).collect::<Vec<_>>());
+    let [mut fifth, mut of_class] = [names("z"), names("z")];
+    (0..4).for_each(|_| fifth.push(OPENS, 0, &[]));
+    of_class.push(OPENS, 1, &[]);
     for (classes, expected) in [
+        (&fifth, 8),
+        (&of_class, 3),
         (&unequal, 3),
         (&order, 5),
         (&utf8, 10),
