@@ -29,15 +29,15 @@
  *     bp_write_type             1
  *     bp_write_method           1
  *     bp_lookup                 1
- *     bp_check_table          162
- *     bp_relation             131
- *     bp_distance             131
- *     bp_ancestors            131
- *     bp_supertype            134
- *     bp_cast                 131
- *     bp_join                 187
- *     bp_assignable           131
- *     bp_solve                578
+ *     bp_check_table          260
+ *     bp_relation             261
+ *     bp_distance             261
+ *     bp_ancestors            261
+ *     bp_supertype            263
+ *     bp_cast                 261
+ *     bp_join                 316
+ *     bp_assignable           261
+ *     bp_solve                675
  * stack: end
  *
  * A type is handed over as a word of 64 bits, see BP_PRIMITIVE, BP_CLASS and BP_ARRAY.

@@ -152,15 +152,3 @@ fn modified_utf8_is_refused() {
         assert_eq!(read_type(&descriptor), Err(refusal));
     }
 }
-
-/// No document need show it.
-#[test]
-fn the_example_of_layers() {
-    let expected = "No
-Yes
-{\"a/Device\", \"a/Radio\", \"java/lang/Object\", \"m/Antenna\"}
-4 layers
-refusal 8: one entry too many: layer 5
-";
-    assert_eq!(printed("host/bracepuffin/examples/layers.rs"), expected);
-}
