@@ -6,10 +6,11 @@ use Prim.Native.Nat.{ℕ, _-_, _^_}
 use lib.Dec.{eqb}
 use lib.ListN.{length, replicate}
 use Rattle.checks.specs.Checks.{Check, check, firstRefusal}
-use Rattle.view.specs.View.{ancestors}
+use Rattle.view.specs.View.{View, ancestors}
 use Rattle.tables.specs.declared.Tables.{Tables}
 use Rattle.tables.specs.Table.{marksRoom, viewOf}
 use Rattle.prepared.specs.Prepared.{tableRoom}
+use Rattle.lattice.specs.Lattice.{World}
 use Rattle.lattice.specs.World.{worldOf}
 use Rattle.joins.specs.Joins.{Fits}
 use Rattle.rows.specs.declared.Outcome.{Outcome}
@@ -62,6 +63,21 @@ pub record Opens (g : Given) (types : Bool) (a b : ℕ) (pairs marks : List ℕ)
 abbrev pub NoRows : List ℕ → Type 0
 NoRows pairs = length pairs ≡ tableRoom → ⊥
 
--- what is told of a table with layers: the ancestors of the first number, or the answer
+-- the ancestors are asked of one class: both numbers are it
+abbrev pub Single : Bool → Question → ℕ → ℕ → Type 0
+Single set q a b = set ≡ true → (ofTypes q ≡ false) × (b ≡ a)
+
+-- a table that was opened, and where nothing is refused two numbers that may be asked about
+pub record Askable (o : Outcome) (q : Question) (a b : ℕ) (pairs marks : List ℕ) : Type 0 where
+  pub keys-alone : NoRows pairs
+  pub wide : o .refusal ≡ 0 → length marks ≡ marksRoom
+  pub fits : o .refusal ≡ 0 → Fits (o .tables)
+  pub numbers-in : o .refusal ≡ 0 → goodNumbers (ofTypes q) (o .tables .names) (a ∷ b ∷ []) ≡ true
+
+-- what it tells: the ancestors of the first number, or the answer
+abbrev pub TellsOver : Outcome → View → World → Bool → Question → ℕ → ℕ → Answer → Ancestors → Type 0
+TellsOver o v w set q a b answer found = (set ≡ false → answer ≡ answered (o .refusal) (valueOf v w q a b)) × (set ≡ true → found ≡ gathered (o .refusal) (ancestors v a))
+
+-- the same of the rows
 abbrev pub Tells : Given → Bool → Question → ℕ → ℕ → Answer → Ancestors → Type 0
-Tells g set q a b answer ancestors = (set ≡ false → answer ≡ tableAnswer g q a b) × (set ≡ true → ancestors ≡ tableAncestors g a)
+Tells g set q a b answer found = (set ≡ false → answer ≡ tableAnswer g q a b) × (set ≡ true → found ≡ tableAncestors g a)

@@ -22,6 +22,7 @@ use Rattle.rows.specs.declared.Outcome.{Outcome}
 use Rattle.rows.specs.Rows.{noTables, allBelow, State, stateOf}
 use Rattle.columns.specs.Columns.{nameRows}
 use Rattle.columns.specs.Given.{Given, evenLengths, even, noMarks}
+use Rattle.layers.specs.Layers.{layersRoom}
 use Rattle.layers.specs.Stacks.{StackRan}
 use Rattle.layercolumns.specs.LayerColumns.{stackTable, RoomFor, Shows}
 use Rattle.tableview.specs.TableRows.{rowsView, rowsWorld}
@@ -34,7 +35,7 @@ use Rattle.questions.specs.declared.Question.the-variants.{Relation, Dis
 use Rattle.questions.specs.declared.Answer.{Answer}
 use Rattle.questions.specs.declared.Ancestors.{Ancestors}
 use Rattle.questions.specs.Questions.{ofTypes, goodNumbers, tableChecks, refusalOf, valueOf, answered, gathered, answerOf, ancestorsOf, workAfter, Asked, Gathers}
-use Rattle.questions.specs.Inside.{ranChecks, tableAnswer, tableAncestors, noAncestors, Ready, Opens, NoRows, Tells}
+use Rattle.questions.specs.Inside.{ranChecks, tableAnswer, tableAncestors, noAncestors, Ready, Opens, NoRows, Single, Askable, TellsOver, Tells}
 
 -- ---- the table: what the rows leave; of unequal columns no entry is made
 
@@ -250,6 +251,9 @@ module _ (g : Given) (types : Bool) (a b : ℕ) (pairs′ marks′ : List ℕ) (
 pub no-rows : (fs pairs pairs′ : List ℕ) → RoomFor fs pairs → length pairs′ ≡ length pairs → NoRows pairs′
 no-rows fs pairs pairs′ r e h = let l = r .layered (λ k. omega arith) in omega arith
 
+pub layers-no-rows : (pairs : List ℕ) → length pairs ≡ layersRoom → NoRows pairs
+layers-no-rows pairs l h = omega arith
+
 -- ---- what is asked, by what the crates below answer over the slices
 
 module _ (pairs marks : List ℕ) (t : Tables) (q : Question) (a b x : ℕ) where
@@ -340,12 +344,51 @@ module _ (g : Given) (class : ℕ) (pairs marks : List ℕ) (o : Outcome) (p : O
 
 -- ---- of a table with layers
 
-module _ (g : Given) (set : Bool) (q : Question) (a b : ℕ) (answer : Answer) (ancestors : Ancestors) where
-  pub tells-answer : set ≡ false → answer ≡ tableAnswer g q a b → Tells g set q a b answer ancestors
-  tells-answer e h = (λ f. h, λ f. absurd (false≢true (sym e ∙ f)))
+module _ (o : Outcome) (v : View) (w : World) (set : Bool) (q : Question) (a b : ℕ) (answer : Answer) (found : Ancestors) where
+  pub tells-refused : (o .refusal ≡ 0 → ⊥) → answer ≡ record { refusal = o .refusal; value = 0 } → found ≡ noAncestors (o .refusal) → TellsOver o v w set q a b answer found
+  tells-refused n e f = (
+    λ s. e ∙ answered-none (o .refusal) (o .refusal) refl (valueOf v w q a b) n,
+    λ s. f ∙ gathered-none (o .refusal) (o .refusal) refl (ancestors v a) n,
+  )
 
-  pub tells-ancestors : set ≡ true → ancestors ≡ tableAncestors g a → Tells g set q a b answer ancestors
-  tells-ancestors e h = (λ f. absurd (false≢true (sym f ∙ e)), λ f. h)
+  module _ (z : o .refusal ≡ 0) where
+    pub tells-answer : set ≡ false → (x : ℕ) → answer ≡ record { refusal = 0; value = x } → x ≡ valueOf v w q a b → TellsOver o v w set q a b answer found
+    tells-answer s x e d = (λ f. e ∙ answered-value (o .refusal) (o .refusal) refl x (valueOf v w q a b) z d, λ f. absurd (false≢true (sym s ∙ f)))
+
+    pub tells-ancestors : set ≡ true → (words : List ℕ) → found ≡ gathered 0 words → words ≡ ancestors v a → TellsOver o v w set q a b answer found
+    tells-ancestors s words e d = (λ f. absurd (false≢true (sym f ∙ s)), λ f. e ∙ gathered-all (o .refusal) (o .refusal) refl words (ancestors v a) z d)
+
+-- what an opened table tells is what the rows say
+module _ (g : Given) (set : Bool) (q : Question) (types : Bool) (t : types ≡ ofTypes q) (a b : ℕ) (both : Single set q a b) (pairs marks : List ℕ) (o : Outcome)
+    (p : Opens g types a b pairs marks o) where
+  pub opened-askable : NoRows pairs → Askable o q a b pairs marks
+  opened-askable n = record {
+    keys-alone = n;
+    wide = λ z. p .ready z .wide;
+    fits = λ z. p .ready z .fits;
+    numbers-in = λ z. numbers-asked g q types t a b pairs marks o p z;
+  }
+
+  -- for the ancestors both numbers are the class
+  one-class : set ≡ true → Opens g false a a pairs marks o
+  one-class s = subst (λ (y : Bool). Opens g y a a pairs marks o) (t ∙ both s .0) (subst (λ (y : ℕ). Opens g types a y pairs marks o) (both s .1) p)
+
+  pub opened-tells : (answer : Answer) (found : Ancestors) → TellsOver o (viewOf pairs marks (o .tables)) (worldOf pairs marks (o .tables)) set q a b answer found → Tells g set q a b answer found
+  opened-tells answer found k = (λ s. k .0 s ∙ asked (eqb (o .refusal) 0) refl, λ s. k .1 s ∙ all (one-class s) (eqb (o .refusal) 0) refl)
+    where
+      x : ℕ
+      x = valueOf (viewOf pairs marks (o .tables)) (worldOf pairs marks (o .tables)) q a b
+
+      words : List ℕ
+      words = ancestors (viewOf pairs marks (o .tables)) a
+
+      asked : (c : Bool) → eqb (o .refusal) 0 ≡ c → answered (o .refusal) x ≡ tableAnswer g q a b
+      asked true e = let z = eqb-true (o .refusal) 0 e in sym (answered-value (o .refusal) (o .refusal) refl x x z refl) ∙ asked-value g q types t a b pairs marks o p z x refl
+      asked false e = let n = eqb-false (o .refusal) 0 e in sym (answered-none (o .refusal) (o .refusal) refl x n) ∙ asked-none g q types t a b pairs marks o p n
+
+      all : Opens g false a a pairs marks o → (c : Bool) → eqb (o .refusal) 0 ≡ c → gathered (o .refusal) words ≡ tableAncestors g a
+      all w true e = let z = eqb-true (o .refusal) 0 e in ancestors-all g a pairs marks o w words (gathered (o .refusal) words) (ap (λ (k : ℕ). gathered k words) z) z refl
+      all w false e = let n = eqb-false (o .refusal) 0 e in ancestors-none g a pairs marks o w (gathered (o .refusal) words) (sym (gathered-none (o .refusal) (o .refusal) refl words n)) n
 
 -- ---- the work
 

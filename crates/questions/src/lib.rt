@@ -27,7 +27,7 @@ ghost use Rattle.rows.specs.Rows.{noTables, allBelow};
 ghost use Rattle.columns.specs.Given.{given, evenLengths, noMarks};
 ghost use Rattle.layercolumns.specs.LayerColumns.{RoomFor};
 ghost use Rattle.questions.specs.Questions.{ofTypes, goodNumbers, valueOf, gathered, Asked, Gathers};
-ghost use Rattle.questions.specs.Inside.{Builds, ranChecks, tableAnswer, tableAncestors, noAncestors, Opens, NoRows, Tells};
+ghost use Rattle.questions.specs.Inside.{Builds, ranChecks, tableAnswer, tableAncestors, noAncestors, Opens, NoRows, Single, Askable, TellsOver, Tells};
 
 // The least length of the work.
 const ROOM: usize = 8192;
@@ -407,9 +407,46 @@ fn ancestors_over(
     gather(hierarchy::ancestors(pairs, marks, o.tables, class))
 }
 
-// ---- both, over what there is of layers
+// ---- both, over a table with layers
 
-// Over a table with layers. One function for both, so that it stands by itself and its array is in no other's frame.
+// What an opened table tells: the ancestors of the first number, or the answer.
+fn tell(o: Outcome, pairs: &[u64], marks: &[u64], set: bool, q: Question, a: u64, b: u64) -> Told
+    requires { ⌜ Askable o q a b (now pairs) (now marks) ⌝ }
+    ensures { λ r. ⌜ TellsOver o (viewOf (now (pairs .entry)) (now (marks .entry)) (o .tables)) (worldOf (now (pairs .entry)) (now (marks .entry)) (o .tables)) set q a b (r .answer) (r .ancestors) ⌝ }
+{
+    if o.refusal != 0 {
+        let refused = Answer {
+            refusal: o.refusal,
+            value: 0,
+        };
+        return Told {
+            answer: refused,
+            ancestors: none_gathered(o.refusal),
+        };
+    }
+    let none = Answer {
+        refusal: 0,
+        value: 0,
+    };
+    if set {
+        let found = gather(hierarchy::ancestors(pairs, marks, o.tables, a));
+        return Told {
+            answer: none,
+            ancestors: found,
+        };
+    }
+    let value = value_of(pairs, marks, o.tables, q, a, b);
+    let answer = Answer {
+        refusal: 0,
+        value: value,
+    };
+    Told {
+        answer: answer,
+        ancestors: none_gathered(0),
+    }
+}
+
+// Over a table with layers. It opens the table itself and serves both, so that it stands by itself and its array is in no other's frame.
 fn ask_layers(
     names: &[u8],
     name_at: &[u64],
@@ -424,34 +461,13 @@ fn ask_layers(
     a: u64,
     b: u64,
 ) -> Told
+    requires { ⌜ Single set q a b ⌝ }
     ensures { λ r. ⌜ Tells (given (now (names .entry)) (now («name_at» .entry)) (now («name_len» .entry)) (now («rec_flags» .entry)) (now («rec_class» .entry)) (now («rec_at» .entry)) (now («rec_len» .entry)) (now (parents .entry))) set q a b (r .answer) (r .ancestors) ⌝ }
 {
     let mut pairs = [0u64; SHOWN];
     let mut marks = [0u64; MARKS];
-    if set {
-        let found = ancestors_over(
-            names,
-            name_at,
-            name_len,
-            rec_flags,
-            rec_class,
-            rec_at,
-            rec_len,
-            parents,
-            a,
-            &mut pairs,
-            &mut marks,
-        );
-        let none = Answer {
-            refusal: 0,
-            value: 0,
-        };
-        return Told {
-            answer: none,
-            ancestors: found,
-        };
-    }
-    let answer = ask_over(
+    let types = of_types(q);
+    let o = open_table(
         names,
         name_at,
         name_len,
@@ -460,16 +476,13 @@ fn ask_layers(
         rec_at,
         rec_len,
         parents,
-        q,
+        types,
         a,
         b,
         &mut pairs,
         &mut marks,
     );
-    Told {
-        answer: answer,
-        ancestors: none_gathered(0),
-    }
+    tell(o, &pairs, &marks, set, q, a, b)
 }
 
 // The answer to a question about two classes, or two types.

@@ -22,7 +22,7 @@ first-open-requires : tie.Need-first-open-requires
 first-open-requires c κs = search needs
 
 ask-layers-requires : tie.Need-ask-layers-requires
-ask-layers-requires c κs = search needs
+ask-layers-requires c κs = λ e. (refl, refl)
 
 clear-requires : tie.Need-clear-requires
 clear-requires c κs = search needs

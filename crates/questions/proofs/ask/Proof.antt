@@ -1,6 +1,8 @@
 -- `ask` meets its contract: a work that is too short, or the answer, and the work cleared behind it.
 use borrow.Author.Needs.{needs}
 use mathlib.Core.Path.{_≡_, refl, sym, ap, _∙_}
+use mathlib.Core.Bool.{false≢true}
+use mathlib.Core.Bool.{false≢true}
 use Prim.Native.Nat.{ℕ}
 use lib.ListN.{length, replicate}
 use Rattle.columns.specs.Given.{Given, given}
@@ -19,7 +21,7 @@ first-open-requires : tie.Need-first-open-requires
 first-open-requires c κs = search needs
 
 ask-layers-requires : tie.Need-ask-layers-requires
-ask-layers-requires c κs = search needs
+ask-layers-requires c κs = λ e. absurd (false≢true e)
 
 clear-requires : tie.Need-clear-requires
 clear-requires c κs = search needs

@@ -1,56 +1,56 @@
--- `ask_layers` meets its contract: the ancestors, or the answer, in a slice with room for four layers.
+-- `ask_layers` meets its contract: what the table tells that was opened in an array with room for four layers.
 use borrow.Author.Needs.{needs}
 use Rattle.columns.specs.Given.{Given, given}
 use Rattle.layercolumns.specs.Laws.{room-layers}
-use Rattle.questions.specs.Laws.{tells-answer, tells-ancestors}
+use Rattle.questions.specs.Laws.{layers-no-rows, opened-askable, opened-tells}
 use Rattle.questions.proofs.ask_layers.Statement.{statement}
 use Rattle.questions.proofs.ask_layers.Tie as tie
 
-slice-aggregate-ancestors-over : tie.Need-slice-aggregate-ancestors-over
-slice-aggregate-ancestors-over c = search needs
+of-types-requires : tie.Need-of-types-requires
+of-types-requires c κs = search needs
 
-slice-aggregate-ancestors-over-2 : tie.Need-slice-aggregate-ancestors-over-2
-slice-aggregate-ancestors-over-2 c = search needs
+slice-aggregate-open-table : tie.Need-slice-aggregate-open-table
+slice-aggregate-open-table c = search needs
 
-ancestors-over-requires : tie.Need-ancestors-over-requires
-ancestors-over-requires c κs = (room-layers _ _ (search needs), search needs)
+slice-aggregate-open-table-2 : tie.Need-slice-aggregate-open-table-2
+slice-aggregate-open-table-2 c = search needs
+
+open-table-requires : tie.Need-open-table-requires
+open-table-requires c κs = (room-layers _ _ (search needs), search needs)
+
+slice-aggregate-tell : tie.Need-slice-aggregate-tell
+slice-aggregate-tell c = search needs
+
+slice-aggregate-tell-2 : tie.Need-slice-aggregate-tell-2
+slice-aggregate-tell-2 c = search needs
+
+tell-requires : tie.Need-tell-requires
+tell-requires c κs =
+    let s = c .before .before .before .before .before .before .before .before .before .before .before .before .before .before .before .before in
+    let a = s .args in
+    let g : Given = given (a .names .now) (a .name-at .now) (a .name-len .now) (a .rec-flags .now) (a .rec-class .now) (a .rec-at .now) (a .rec-len .now) (a .parents .now) in
+    let t = c .before .before .before .before .before .before .before .of-types in
+    let o = c .before .before .before .before .open-table in
+    opened-askable g (a .set) (a .q) (t .result) (t .ensures) (a .a) (a .b) (s .pre) _ _ (o .result) (o .ensures) (layers-no-rows (o .last .1 .1 .1 .1 .1 .1 .1 .1 .1 .1 .1 .0) (search needs))
 
 returns : tie.Need-returns
 returns c =
-    let a = c .before .before .before .before .before .before .before .before .before .before .before .before .before .before .args in
+    let s = c .before .before .before .before .before .before .before .before .before .before .before .before .before .before .before .before .before in
+    let a = s .args in
     let g : Given = given (a .names .now) (a .name-at .now) (a .name-len .now) (a .rec-flags .now) (a .rec-class .now) (a .rec-at .now) (a .rec-len .now) (a .parents .now) in
-    let found = c .before .before .ancestors-over in
-    tells-ancestors g (a .set) (a .q) (a .a) (a .b) _ (found .result) (c .before .before .before .before .before .if1 .taken) (found .ensures)
-
-slice-aggregate-ask-over : tie.Need-slice-aggregate-ask-over
-slice-aggregate-ask-over c = search needs
-
-slice-aggregate-ask-over-2 : tie.Need-slice-aggregate-ask-over-2
-slice-aggregate-ask-over-2 c = search needs
-
-ask-over-requires : tie.Need-ask-over-requires
-ask-over-requires c κs = (room-layers _ _ (search needs), search needs)
-
-none-gathered-requires : tie.Need-none-gathered-requires
-none-gathered-requires c κs = search needs
-
-returns-2 : tie.Need-returns-2
-returns-2 c =
-    let a = c .before .before .before .before .before .before .before .before .before .before .before .before .before .before .before .args in
-    let g : Given = given (a .names .now) (a .name-at .now) (a .name-len .now) (a .rec-flags .now) (a .rec-class .now) (a .rec-at .now) (a .rec-len .now) (a .parents .now) in
-    let told = c .before .before .before .ask-over in
-    tells-answer g (a .set) (a .q) (a .a) (a .b) (told .result) _ (c .before .before .before .before .before .before .if1 .left) (told .ensures)
+    let t = c .before .before .before .before .before .before .before .before .of-types in
+    let o = c .before .before .before .before .before .open-table in
+    opened-tells g (a .set) (a .q) (t .result) (t .ensures) (a .a) (a .b) (s .pre) _ _ (o .result) (o .ensures) _ _ (c .tell .ensures)
 
 pub ask-layers-spec : {M : Type 1} → statement M
 ask-layers-spec =
     tie.close
     (tie.spec
-    slice-aggregate-ancestors-over
-    slice-aggregate-ancestors-over-2
-    ancestors-over-requires
-    returns
-    slice-aggregate-ask-over
-    slice-aggregate-ask-over-2
-    ask-over-requires
-    none-gathered-requires
-    returns-2)
+    of-types-requires
+    slice-aggregate-open-table
+    slice-aggregate-open-table-2
+    open-table-requires
+    slice-aggregate-tell
+    slice-aggregate-tell-2
+    tell-requires
+    returns)
