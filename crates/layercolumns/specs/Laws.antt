@@ -251,6 +251,14 @@ module _ (parents fs cs ats ls : List ℕ) (s : State) (hc : length fs ≡ lengt
         (ap (stackRows parents (drop k fs) (drop k cs) (drop k ats) (drop k ls)) (sym (ap (λ (m : StackTables). stackOf pairs₁ marks₁ m) is ∙ kept .stack-is))))
         rest
 
+-- where the first row opens a layer they are all rows
+pub rows-all : (parents fs cs ats ls pairs marks : List ℕ) (t : Tables) (k : ℕ) → k ≡ 0 → (n : StackTables) → n ≡ lowestTables t → (pairs′ marks′ : List ℕ) (r : StackOutcome)
+    → Keeps (stackRows parents (drop k fs) (drop k cs) (drop k ats) (drop k ls) (stackOf pairs marks n)) pairs′ marks′ r
+    → Keeps (stackRows parents fs cs ats ls (ground (stateOf pairs marks t))) pairs′ marks′ r
+rows-all parents fs cs ats ls pairs marks t k z n e pairs′ marks′ r =
+    keeps-same _ _ pairs′ marks′ r
+    (sym (ap₂ (λ (i : ℕ) (m : StackTables). stackRows parents (drop i fs) (drop i cs) (drop i ats) (drop i ls) (stackOf pairs marks m)) z e))
+
 -- ---- the table
 
 module _ (bytes nameAt nameLen parents fs cs ats ls pairs marks : List ℕ) (named : Outcome) (e : named ≡ nameRows bytes nameAt nameLen [] noTables) (w : length pairs ≡ layersRoom) (m : length marks ≡ marksRoom) where
