@@ -1,3 +1,2 @@
--- Lemmas for the loops of this crate, and the theorem that each contract allows one outcome.
-mod Steps
+-- The theorem that each contract allows one outcome.
 pub mod Unique
