@@ -41,6 +41,14 @@ module _ (parents : List ℕ) (flags class at len : ℕ) (s : Stack) where
   row-records e n = rw (e, ne-eqb flags openFlags n)
 
 module _ (class len : ℕ) (s : Stack) where
+  pub opening-yes : (eqb class 0 && eqb len 0) ≡ true → openingRow class len s ≡ openRan s
+  unfolding openingRow
+  opening-yes e = rw e
+
+  pub opening-no : (eqb class 0 && eqb len 0) ≡ false → openingRow class len s ≡ record { refusal = 3; state = s }
+  unfolding openingRow
+  opening-no e = rw e
+
   pub opening-classed : (class ≡ 0 → ⊥) → openingRow class len s ≡ record { refusal = 3; state = s }
   unfolding openingRow
   opening-classed n = rw (ne-eqb class 0 n)
