@@ -30,13 +30,13 @@
  *     bp_write_method           1
  *     bp_lookup                 1
  *     bp_check_table          260
- *     bp_relation             261
- *     bp_distance             261
- *     bp_ancestors            261
- *     bp_supertype            263
- *     bp_cast                 261
- *     bp_join                 316
- *     bp_assignable           261
+ *     bp_relation             262
+ *     bp_distance             262
+ *     bp_ancestors            262
+ *     bp_supertype            264
+ *     bp_cast                 262
+ *     bp_join                 317
+ *     bp_assignable           262
  *     bp_solve                675
  * stack: end
  *
