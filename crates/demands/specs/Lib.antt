@@ -16,3 +16,4 @@ pub mod Solves
 pub mod Lines
 pub mod Refused
 pub mod OneLayer
+pub mod CheckBefore
