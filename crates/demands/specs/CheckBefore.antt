@@ -14,7 +14,7 @@ use Rattle.tableview.specs.TableRows.{Rows, rowsIn, rowsView}
 use Rattle.tableview.specs.RowRefusals.{Pair, listed, rowChecks, recordsRefusal}
 use Rattle.stackview.specs.LayerRows.{shownIn}
 use Rattle.stackview.specs.LayerRefusals.{openChecks, layerRowRefusal, layersRefusal}
-use Rattle.stackview.specs.OneLayer.{plain-rows}
+use Rattle.stackview.specs.OneLayer.{rest-opens, plain-rows}
 use Rattle.tablecheck.specs.declared.TableCheck.{TableCheck}
 use Rattle.tablecheck.specs.TableCheck.{recordsTaken, namesRefused, nameStopped, namesMany, told, rowsCheck, tableCheck}
 use Rattle.questionlaws.specs.OneLayer.{Plain}
@@ -47,14 +47,6 @@ plainCheck g =
     (plainTaken (namesMany g) (g .parents) (g .«rec_flags») (g .«rec_class») (g .«rec_at») (g .«rec_len») [])
     (rowsIn g)
 
-rest : (f : ℕ) (fs : List ℕ) → firstOpen (f ∷ fs) ≡ length (f ∷ fs) → (eqb f openFlags ≡ false) × (firstOpen fs ≡ length fs)
-unfolding firstOpen
-rest f fs e = go (eqb f openFlags) e
-  where
-    go : (b : Bool) → cond b 0 (suc (firstOpen fs)) ≡ suc (length fs) → (b ≡ false) × (firstOpen fs ≡ length fs)
-    go true k = absurd (omega arith)
-    go false k = (refl, omega arith)
-
 module _ (names : ℕ) (parents : List ℕ) where
   taken-same : (fs cs ats ls : List ℕ) (under : ℕ) (before : List Pair) → firstOpen fs ≡ length fs
       → recordsTaken names parents fs cs ats ls under before ≡ plainTaken names parents fs cs ats ls before
@@ -63,7 +55,7 @@ module _ (names : ℕ) (parents : List ℕ) where
   taken-same (f ∷ fs) [] ats ls under before e = refl
   taken-same (f ∷ fs) (c ∷ cs) [] ls under before e = refl
   taken-same (f ∷ fs) (c ∷ cs) (a ∷ ats) [] under before e = refl
-  taken-same (f ∷ fs) (c ∷ cs) (a ∷ ats) (l ∷ ls) under before e = go (eqb f openFlags) (rest f fs e .0) (taken-same fs cs ats ls under (listed c (take l (drop a parents)) ++ before) (rest f fs e .1))
+  taken-same (f ∷ fs) (c ∷ cs) (a ∷ ats) (l ∷ ls) under before e = go (eqb f openFlags) (rest-opens f fs e .0) (taken-same fs cs ats ls under (listed c (take l (drop a parents)) ++ before) (rest-opens f fs e .1))
     where
       go : (b : Bool) → b ≡ false → recordsTaken names parents fs cs ats ls under (listed c (take l (drop a parents)) ++ before) ≡ plainTaken names parents fs cs ats ls (listed c (take l (drop a parents)) ++ before)
           → cond (eqb (cond b (firstRefusal (openChecks under (inside (length parents) a l) c l)) (firstRefusal (rowChecks names (inside (length parents) a l) f c (take l (drop a parents)) before))) 0)
@@ -82,7 +74,7 @@ module _ (names : ℕ) (parents : List ℕ) where
   refused-same (f ∷ fs) [] ats ls under before e = refl
   refused-same (f ∷ fs) (c ∷ cs) [] ls under before e = refl
   refused-same (f ∷ fs) (c ∷ cs) (a ∷ ats) [] under before e = refl
-  refused-same (f ∷ fs) (c ∷ cs) (a ∷ ats) (l ∷ ls) under before e = go (eqb f openFlags) (rest f fs e .0) (refused-same fs cs ats ls under (listed c (take l (drop a parents)) ++ before) (rest f fs e .1))
+  refused-same (f ∷ fs) (c ∷ cs) (a ∷ ats) (l ∷ ls) under before e = go (eqb f openFlags) (rest-opens f fs e .0) (refused-same fs cs ats ls under (listed c (take l (drop a parents)) ++ before) (rest-opens f fs e .1))
     where
       go : (b : Bool) → b ≡ false → layersRefusal names parents fs cs ats ls under (listed c (take l (drop a parents)) ++ before) ≡ recordsRefusal names parents fs cs ats ls (listed c (take l (drop a parents)) ++ before)
           → orElse (cond b (firstRefusal (openChecks under (inside (length parents) a l) c l)) (firstRefusal (rowChecks names (inside (length parents) a l) f c (take l (drop a parents)) before)))

@@ -19,9 +19,9 @@ use Rattle.columns.specs.Fold.{Row, misplaced, named, recorded, namesIn, record
 use Rattle.columns.specs.Given.{Given, noMarks}
 use Rattle.layers.specs.Layers.{Layered, layerRefusal, layerRow, opened}
 use Rattle.layers.specs.Laws.{layer-refused}
-use Rattle.layers.specs.Stacks.{Stack, StackRan, stackRefusal, stackRow, stackRan, openRefusal, openRow, openRan}
+use Rattle.layers.specs.Stacks.{Stack, withNames, StackRan, stackRefusal, stackRow, stackRan, openRefusal, openRow, openRan}
 use Rattle.layercolumns.specs.LayerColumns.{openFlags, openingRow}
-use Rattle.layercolumns.specs.Fold.{StackReading, told, withNames, recordedRan, stackStep, stackRun, stackStart, stack-fold}
+use Rattle.layercolumns.specs.Fold.{StackReading, told, recordedRan, stackStep, stackRun, stackStart, stack-fold}
 use Rattle.stackview.specs.Agrees.{stackIn}
 use Rattle.solving.specs.Solving.{Problem}
 use Rattle.problems.specs.Problems.{ProblemRow, counted, variable, bounded, flow, upperFlow, reading, writing, noProblem, withRow, rowRefusal, problemRow, problemRows, Placed, Columns, variableRows, boundRows, pairRows, problemIn, problem}

@@ -17,14 +17,14 @@ use Rattle.rows.specs.Rows.{objectName, noTables, noted, withName, nameRow, Sta
 use Rattle.rows.specs.Laws.{name-room, name-refused, name-taken, good-start}
 use Rattle.columns.specs.Given.{noMarks}
 use Rattle.layers.specs.Layers.{layersRoom, layerRefusal, withLayerRecord, layerRow, opened}
-use Rattle.layers.specs.Stacks.{Stack, topKeys, stackRow, openRow, Upright}
+use Rattle.layers.specs.Stacks.{Stack, withNames, topKeys, stackRow, openRow, Upright}
 use Rattle.layers.specs.StackLaws.{upright-ground, upright-row, upright-open}
 use Rattle.solving.specs.Solving.{Problem, Solution, Unsolved, Solved, solve}
 use Rattle.tableview.specs.Inner.{stateWorld}
 use Rattle.problems.specs.Problems.{ProblemRow, counted, variable, bounded, flow, upperFlow, reading, writing, noProblem, problemRow}
 use Rattle.problems.specs.Held.{Held, Later, held-none, held-row, held-counted}
 use Rattle.hexline.specs.Hex.{digit, byteThen, hexBytes, badHex, numberAt, numbersIn, bytesNumber}
-use Rattle.frames.specs.Frames.{Store, emptyStore, shown, withNames, kindOf, bodyOf, badKind, goodLength, rankOf, badOrder, Question, Message, naming, recording, opening, row, solving, asking, Relating, Supertyping, Casting, messageOf, messageRefusal, frameChecks, Refused, stepped, withMessage, solvedStep, answer, accepted, frameBytes, frame}
+use Rattle.frames.specs.Frames.{Store, emptyStore, shown, kindOf, bodyOf, badKind, goodLength, rankOf, badOrder, Question, Message, naming, recording, opening, row, solving, asking, Relating, Supertyping, Casting, messageOf, messageRefusal, frameChecks, Refused, stepped, withMessage, solvedStep, answer, accepted, frameBytes, frame}
 
 -- ---- a refused frame
 

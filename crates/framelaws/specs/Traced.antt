@@ -18,10 +18,10 @@ use Rattle.columns.specs.Fold.{Row, named, recorded}
 use Rattle.columns.specs.Names.{names-checked}
 use Rattle.columns.specs.Given.{Given, noMarks, even}
 use Rattle.columns.specs.GivenLaws.{even-is}
-use Rattle.layers.specs.Stacks.{Stack, StackRan, ground, topKeys, stackRefusal, stackRow, openRow, openRan}
+use Rattle.layers.specs.Stacks.{Stack, StackRan, ground, withNames, topKeys, stackRefusal, stackRow, openRow, openRan}
 use Rattle.layers.specs.StackLaws.{refusal-top}
 use Rattle.layercolumns.specs.LayerColumns.{openFlags, openingRow, stackRows, stackTable}
-use Rattle.layercolumns.specs.Fold.{StackReading, told, withNames, recordedRan, stackStep, stackRun, run-append, stackStart}
+use Rattle.layercolumns.specs.Fold.{StackReading, told, recordedRan, stackStep, stackRun, run-append, stackStart}
 use Rattle.solving.specs.Solving.{Problem, Solution, Unsolved, Solved, solve}
 use Rattle.solving.specs.Solve.{SameRows, solve-same}
 use Rattle.tableview.specs.Inner.{stateView, stateWorld}

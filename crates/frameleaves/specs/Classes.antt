@@ -12,11 +12,9 @@ use Rattle.view.specs.View.{View, numberOf}
 use Rattle.tables.specs.Table.{parentsOf, viewOf}
 use Rattle.rows.specs.declared.Outcome.{Outcome}
 use Rattle.rows.specs.Rows.{nameRow, filled, State}
-use Rattle.rows.specs.Laws.{record-refused}
 use Rattle.layers.specs.declared.StackOutcome.{StackOutcome}
-use Rattle.layers.specs.Laws.{layer-refused}
-use Rattle.layers.specs.Stacks.{Stack, stackRefusal, stackRow, openRefusal, openRow, stackOf, stackRan, numbersOf as stackNumbers, openedTables}
-use Rattle.layers.specs.StackLaws.{row-lowest, row-layer, refusal-lowest, refusal-layer, opened-is}
+use Rattle.layers.specs.Stacks.{Stack, withNames, stackRefusal, stackRow, openRefusal, openRow, stackOf, stackRan, numbersOf as stackNumbers, openedTables}
+use Rattle.layers.specs.StackLaws.{row-refused, opened-is}
 use Rattle.tableview.specs.Inner.{stateView}
 use Rattle.solving.specs.Solving.{Problem}
 use Rattle.problems.specs.Problems.{counted, noProblem, problemRow, Placed}
@@ -24,7 +22,7 @@ use Rattle.problems.specs.Kept.{problemOf}
 use Rattle.problemrows.specs.ProblemRows.{countRefusal}
 use Rattle.problemrows.specs.Kept.{placed, count-same}
 use Rattle.frames.specs.Frames as frames
-use Rattle.frames.specs.Frames.{Store, shown, withNames, Stepped, Question, Relating, Supertyping, Casting, naming, recording, opening, row, asking, askChecks, messageRefusal, stepped, accepted, answer, withMessage, rankOf}
+use Rattle.frames.specs.Frames.{Store, shown, Stepped, Question, Relating, Supertyping, Casting, naming, recording, opening, row, asking, askChecks, messageRefusal, stepped, accepted, answer, withMessage, rankOf}
 use Rattle.framelaws.specs.Reached.{open-shows}
 use Rattle.framestate.specs.declared.Numbers.{Numbers}
 use Rattle.framestate.specs.declared.Framed.{Framed}
@@ -35,20 +33,6 @@ use Rattle.rowframes.specs.RowFrames.{NameFrames, RecordFrames}
 use Rattle.askframes.specs.AskFrames.{askRefusal, asked}
 use Rattle.frameleaves.specs.Own.{own-last, own-pairs, own-variables, own-bounds, own-flows, own-uppers, own-reads, own-writes, own-layers, own-stack, many-last, many-variables, many-bounds, many-flows, many-uppers, many-reads, many-writes, own-shows, refused-leaves}
 use Rattle.frameleaves.specs.Kinds.{row-leaves}
-
--- A REFUSED RECORD CHANGES NO LAYER
-stack-refused : (s : Stack) (f c : ℕ) (ps : List ℕ) → (stackRefusal s f c ps ≡ 0 → ⊥) → stackRow s f c ps ≡ s
-stack-refused s f c ps n = go (eqb (s .under) 0) refl
-  where
-    go : (t : Bool) → eqb (s .under) 0 ≡ t → stackRow s f c ps ≡ s
-    go true e =
-        let z = eqb-true (s .under) 0 e in
-        let same = record-refused (s .top .shown) f c ps (λ q. n (refusal-lowest s f c ps z ∙ q)) in
-        row-lowest s f c ps z ∙ (λ i. record { top = record { shown = same i; own = s .top .own }; under = (sym z) i })
-    go false e =
-        let z = eqb-false (s .under) 0 e in
-        let same = layer-refused (s .top) f c ps (λ q. n (refusal-layer s f c ps z ∙ q)) in
-        row-layer s f c ps z ∙ (λ i. record { top = same i; under = s .under })
 
 module _ (l : Slices) (n : Numbers) (h : Ready l n) (answers : List ℕ) (r : Framed) where
   abbrev withLast : List ℕ → Slices
@@ -134,7 +118,7 @@ module _ (l : Slices) (n : Numbers) (h : Ready l n) (answers : List ℕ) (r : Fr
           (cond b (framed Accepted (recordNumbers n (stackNumbers u))) (framed (Refused k) n))
       go true x = record { said-is = refl; shows = layers-show u pairs′ marks′ (f .pairs-are) (f .marks-are); answers-are = refl }
       go false x =
-          let same = stack-refused t flags class parents (eqb-false k 0 x) in
+          let same = row-refused t flags class parents (eqb-false k 0 x) in
           let p : l .pairs ≡ pairs′ = own-pairs l n h ∙ sym (f .pairs-are ∙ ap (λ (y : Stack). filled (y .top .shown .keys) (l .pairs)) same) in
           let m : l .marks ≡ marks′ = sym (f .marks-are ∙ ap (λ (y : Stack). y .top .shown .marks) same) in
           record { said-is = refl; shows = subst (λ (y : List ℕ). Shows (storeOf l n) l (withTables pairs′ y) n) m (subst (λ (y : List ℕ). Shows (storeOf l n) l (withTables y (l .marks)) n) p (own-shows l n h)); answers-are = refl }

@@ -12,7 +12,7 @@ use Rattle.view.specs.View.{View, relation, relationNumber, supertype, cast}
 use Rattle.tables.specs.declared.Tables.{Tables}
 use Rattle.rows.specs.Rows.{noTables, nameRow, State, allBelow}
 use Rattle.columns.specs.Given.{noMarks}
-use Rattle.layers.specs.Stacks.{Stack, ground, stackRefusal, stackRow, openRefusal, openRow}
+use Rattle.layers.specs.Stacks.{Stack, ground, withNames, stackRefusal, stackRow, openRefusal, openRow}
 use Rattle.tableview.specs.Inner.{stateView, stateWorld}
 use Rattle.solving.specs.Solving.{Problem, Solution, Unsolved, Solved, solve}
 use Rattle.problems.specs.Problems.{ProblemRow, counted, variable, bounded, flow, upperFlow, reading, writing, noProblem, rowRefusal, problemRow}
@@ -35,10 +35,6 @@ emptyStore = record { last = []; classes = ground (record { tables = noTables; k
 -- what the layers together show
 abbrev pub shown : Store → State
 shown s = s .classes .top .shown
-
--- the layers with other numbers of their names
-abbrev pub withNames : Stack → Tables → Stack
-withNames c t = record { top = record { shown = record { tables = t; keys = c .top .shown .keys; marks = c .top .shown .marks }; own = c .top .own }; under = c .under }
 
 -- ---- a line as bytes
 

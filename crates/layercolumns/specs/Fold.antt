@@ -8,13 +8,12 @@ use lib.Dec.{eqb}
 use lib.ListN.{length, take, drop}
 use borrow.Author.Tests.{eqb-true}
 use Rattle.names.specs.Names.{nameOf}
-use Rattle.tables.specs.declared.Tables.{Tables}
 use Rattle.rows.specs.declared.Outcome.{Outcome}
 use Rattle.rows.specs.Rows.{noTables, nameRow}
 use Rattle.columns.specs.Columns.{inside, placedName, nameRows}
 use Rattle.columns.specs.Names.{inside-length}
 use Rattle.columns.specs.Fold.{Row, misplaced, named, recorded, namesIn, recordsIn}
-use Rattle.layers.specs.Stacks.{Stack, StackRan, ground, stackRan}
+use Rattle.layers.specs.Stacks.{Stack, StackRan, ground, withNames, stackRan}
 use Rattle.layercolumns.specs.LayerColumns.{openFlags, openingRow, placedRow, stackRows, stackTable}
 
 -- what came of the last row, the last name that was taken, and the layers
@@ -26,10 +25,6 @@ pub record StackReading : Type 0 where
 -- what the next function is told of a reading
 abbrev pub told : StackReading → StackRan
 told r = record { refusal = r .refusal; state = r .state }
-
--- the layers with other numbers of their names
-abbrev pub withNames : Stack → Tables → Stack
-withNames s t = record { top = record { shown = record { tables = t; keys = s .top .shown .keys; marks = s .top .shown .marks }; own = s .top .own }; under = s .under }
 
 -- a row of flags, class and parents: it opens a layer, or is a record
 unfoldable pub recordedRan : ℕ → ℕ → List ℕ → Stack → StackRan

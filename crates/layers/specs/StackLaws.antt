@@ -4,17 +4,18 @@ use mathlib.Core.Bool.{Bool, true, false, cond}
 use mathlib.Core.List.{List, []}
 use Prim.Native.Nat.{ℕ, zero, suc, _+_, _*_, _≤_, _<_}
 use native.Mathlib.Omega.{arith}
+use native.Mathlib.Decide.{ℕ-discrete}
 use lib.Dec.{eqb, leb}
 use lib.ListN.{length, take, replicate}
 use borrow.Author.Tests.{eq-eqb, ne-eqb, eqb-true, eqb-false, leb-true, leb-false}
 use Rattle.tables.specs.Table.{pairsRoom}
 use Rattle.rows.specs.Rows.{State, stateOf, recordRefusal, recordRow, filled}
 use Rattle.rows.specs.Keys.{take-filled, length-filled}
-use Rattle.rows.specs.Laws.{Sound, good-record}
+use Rattle.rows.specs.Laws.{Sound, record-refused, good-record}
 use Rattle.layers.specs.declared.StackTables.{StackTables}
 use Rattle.layers.specs.declared.StackOutcome.{StackOutcome}
 use Rattle.layers.specs.Layers.{layersRoom, Layered, keysInside, layerKeys, layerRefusal, layerRow, opened}
-use Rattle.layers.specs.Laws.{Stands, inside-none, stands-first, stands-next, stands-row}
+use Rattle.layers.specs.Laws.{Stands, layer-refused, inside-none, stands-first, stands-next, stands-row}
 use Rattle.layers.specs.Stacks.{Stack, ground, topKeys, stackRefusal, stackRow, openRefusal, openRow, StackRan, Upright, stackOf, Holds, numbersOf, FillsStack, openedTables}
 
 -- ---- the keys of the topmost layer
@@ -119,6 +120,18 @@ module _ (s : Stack) (flags class : ℕ) (parents : List ℕ) where
   pub refusal-layer : (s .under ≡ 0 → ⊥) → stackRefusal s flags class parents ≡ layerRefusal (s .top) flags class parents
   unfolding stackRefusal
   refusal-layer n = rw (ne-eqb (s .under) 0 n)
+
+  -- A REFUSED RECORD CHANGES NO LAYER
+  pub row-refused : (stackRefusal s flags class parents ≡ 0 → ⊥) → stackRow s flags class parents ≡ s
+  row-refused n = go (ℕ-discrete (s .under) 0)
+    where
+      go : Dec (s .under ≡ 0) → stackRow s flags class parents ≡ s
+      go (yes z) =
+          let same = record-refused (s .top .shown) flags class parents (λ q. n (refusal-lowest z ∙ q)) in
+          row-lowest z ∙ (λ i. record { top = record { shown = same i; own = s .top .own }; under = sym z i })
+      go (no z) =
+          let same = layer-refused (s .top) flags class parents (λ q. n (refusal-layer z ∙ q)) in
+          row-layer z ∙ (λ i. record { top = same i; under = s .under })
 
   -- A RECORD IS REFUSED AS OVER THE KEYS OF THE TOPMOST LAYER ALONE
   pub refusal-top : stackRefusal s flags class parents ≡ recordRefusal (s .top .shown .tables .names) (topKeys s) flags class parents

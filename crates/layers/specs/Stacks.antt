@@ -8,6 +8,7 @@ use lib.Dec.{eqb, leb}
 use lib.ListN.{length, replicate}
 use Rattle.order.specs.Lists.{elem}
 use Rattle.sorted.specs.Sorted.{Sorted}
+use Rattle.tables.specs.declared.Tables.{Tables}
 use Rattle.tables.specs.Table.{namesRoom, pairsRoom, marksRoom}
 use Rattle.rows.specs.Rows.{State, recordRefusal, recordRow, filled}
 use Rattle.layers.specs.declared.StackTables.{StackTables}
@@ -22,6 +23,10 @@ pub record Stack : Type 0 where
 -- a table of one layer; which classes that one records is not kept apart
 abbrev pub ground : State → Stack
 ground s = record { top = opened s; under = 0 }
+
+-- the layers with other numbers of their names
+abbrev pub withNames : Stack → Tables → Stack
+withNames s t = record { top = record { shown = record { tables = t; keys = s .top .shown .keys; marks = s .top .shown .marks }; own = s .top .own }; under = s .under }
 
 -- the keys of the topmost layer
 unfoldable pub topKeys : Stack → List ℕ

@@ -23,7 +23,7 @@ use Rattle.stackview.specs.Refused.{stack-refusal}
 use Rattle.stackview.specs.Agrees.{stackIn}
 
 -- all rows stand before the first that opens a layer
-rest-opens : (f : ℕ) (fs : List ℕ) → firstOpen (f ∷ fs) ≡ length (f ∷ fs) → (eqb f openFlags ≡ false) × (firstOpen fs ≡ length fs)
+pub rest-opens : (f : ℕ) (fs : List ℕ) → firstOpen (f ∷ fs) ≡ length (f ∷ fs) → (eqb f openFlags ≡ false) × (firstOpen fs ≡ length fs)
 unfolding firstOpen
 rest-opens f fs e = go (eqb f openFlags) e
   where

@@ -4,6 +4,8 @@
 //!     cargo run --release --offline -p bench -- classes          a part of it: descriptors, classes, types, solves, layered,
 //!                                                                 small, shares, hostile; and by name alone solve-growths
 //!     cargo run --release --offline -p bench -- report           docs/PERFORMANCE.md, with plots beside it
+//!     bench beside BEFORE AFTER                                  two builds of this program, linked with two archives, in
+//!                                                                 turns; `tools/beside` makes both and calls this
 //!
 //! A report is refused where its figures would say nothing: in a build for tests, and under an emulator; `--force` after
 //! `report` writes one all the same, and another folder than docs may follow.
@@ -11,6 +13,7 @@
 //! Where the linker puts a loop can move a row by half, the same in every run of one build. A ratio near 1 needs a
 //! second build, or a program with that row alone, before it says anything.
 
+mod beside;
 mod classes;
 mod descriptors;
 #[path = "../../bracepuffin/tests/shared/dressed.rs"]
@@ -27,6 +30,7 @@ mod small;
 mod solves;
 mod types;
 
+use std::io;
 use std::path::{Path, PathBuf};
 use std::process::ExitCode;
 
@@ -36,9 +40,36 @@ fn main() -> ExitCode {
     let arguments: Vec<String> = std::env::args().skip(1).collect();
     match arguments.first().map(String::as_str) {
         Some("report") => write_report(&arguments[1..]),
+        Some("serve") => ended(beside::serve(
+            Effort::FULL,
+            io::stdin().lock(),
+            io::stdout(),
+        )),
+        Some("beside") => ended(compare(&arguments[1..])),
         part => {
             print!("{}", report::tables(Effort::FULL, part));
             ExitCode::SUCCESS
+        }
+    }
+}
+
+fn compare(programs: &[String]) -> io::Result<()> {
+    let [before, after] = programs else {
+        return Err(io::Error::other(
+            "beside BEFORE AFTER: two builds of this program",
+        ));
+    };
+    let table = beside::compare(Effort::FULL, [before, after].map(Path::new))?;
+    print!("{table}");
+    Ok(())
+}
+
+fn ended(result: io::Result<()>) -> ExitCode {
+    match result {
+        Ok(()) => ExitCode::SUCCESS,
+        Err(error) => {
+            eprintln!("{error}");
+            ExitCode::FAILURE
         }
     }
 }

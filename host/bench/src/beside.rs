@@ -1,0 +1,267 @@
+//! Two archives beside each other: this program is built with each, one build asks the two to take turns, call by call, so
+//! that other work on the machine slows both. `tools/beside` builds them.
+
+use std::fmt::Write as _;
+use std::hint::black_box;
+use std::io::{self, BufRead, BufReader, Lines, Write};
+use std::path::Path;
+use std::process::{Child, ChildStdin, ChildStdout, Command, Stdio};
+use std::rc::Rc;
+use std::time::Instant;
+
+use bracepuffin::slices::{self, ClassColumns};
+use bracepuffin::{ArgType, ClassTable, WORK};
+
+use crate::classes::{ends, program, table};
+use crate::measure::{repeated, Effort, Times};
+use crate::plot::duration;
+use crate::problems::{Case, Lent};
+
+/// A call of the boundary, that many times.
+type Calls = Box<dyn FnMut(u64)>;
+
+/// Every function over a table of one layer, over small and large ones; and solves.
+fn calls(effort: Effort) -> Vec<(String, Calls)> {
+    let mut calls = Vec::new();
+    for count in [10].into_iter().chain(effort.sizes) {
+        calls.extend(over_names(count));
+    }
+    for size in effort.problems {
+        let case = Case::of(size);
+        let what = format!(
+            "{} names, a solve of {} components",
+            case.classes.len(),
+            case.columns.components
+        );
+        let mut lent = Lent::of(&case.columns);
+        let solve = repeated(move || lent.solve(black_box(case.table.columns()), &case.columns));
+        calls.push((what, Box::new(solve)));
+    }
+    calls
+}
+
+/// A question, as a number that its answer has.
+type Ask = fn(ClassColumns, u64, u64, &mut [u64]) -> u64;
+
+const OF_CLASSES: [(&str, Ask); 5] = [
+    ("relation", |table, left, right, work| {
+        slices::relation(table, left, right, work).relation
+    }),
+    ("distance", |table, left, right, work| {
+        slices::distance(table, left, right, work).value
+    }),
+    ("ancestors", |table, class, _, work| {
+        slices::ancestors(table, class, work).count
+    }),
+    ("supertype", |table, left, right, work| {
+        slices::supertype(table, left, right, work).value
+    }),
+    ("cast", |table, left, right, work| {
+        slices::cast(table, left, right, work).value
+    }),
+];
+
+const OF_TYPES: [(&str, Ask); 2] = [
+    ("join", |table, left, right, work| {
+        slices::join(table, left, right, work).value
+    }),
+    ("assignable", |table, left, right, work| {
+        slices::assignable(table, left, right, work).value
+    }),
+];
+
+fn over_names(count: usize) -> Vec<(String, Calls)> {
+    let classes = program(count);
+    let table = Rc::new(table(&classes));
+    let ends = ends(&classes);
+    let numbers = ends.map(|name| table.class_number(name).expect("in the table").get());
+    let word = |ty| table.word(ty).expect("in the table").bits();
+    let classes = ends.map(|name| word(ArgType::object(name)));
+    let primitives = [ArgType::BOOLEAN, ArgType::INT].map(word);
+    let what = |call: &str| format!("{count} names, {call}");
+    let made = Rc::clone(&table);
+    let check = repeated(move || slices::check_table(black_box(made.columns())));
+    let (_, relation) = OF_CLASSES[0];
+    let mut calls: Vec<(String, Calls)> = vec![
+        (what("the table checked"), Box::new(check)),
+        (
+            what("refused 22"),
+            query(&table, numbers, WORK - 1, relation),
+        ),
+    ];
+    for (name, ask) in OF_CLASSES {
+        calls.push((what(name), query(&table, numbers, WORK, ask)));
+    }
+    for (of, words) in [("`Z`, `I`", primitives), ("two classes", classes)] {
+        for (name, ask) in OF_TYPES {
+            let what = what(&format!("{name} {of}"));
+            calls.push((what, query(&table, words, WORK, ask)));
+        }
+    }
+    calls
+}
+
+fn query(table: &Rc<ClassTable>, [left, right]: [u64; 2], words: usize, ask: Ask) -> Calls {
+    let table = Rc::clone(table);
+    let mut work = vec![0; words];
+    Box::new(repeated(move || {
+        ask(
+            table.columns(),
+            black_box(left),
+            black_box(right),
+            &mut work,
+        )
+    }))
+}
+
+/// Says what can be called, a line each and an empty one; then for each line with a place and a number calls it that many
+/// times, once before the clock starts, and says the nanoseconds.
+pub fn serve(effort: Effort, asked: impl BufRead, mut said: impl Write) -> io::Result<()> {
+    let mut calls = calls(effort);
+    for (what, _) in &calls {
+        writeln!(said, "{what}")?;
+    }
+    writeln!(said)?;
+    said.flush()?;
+    for line in asked.lines() {
+        let line = line?;
+        let numbers = line.split(' ').map(|word| word.parse().ok());
+        let numbers: Option<Vec<u64>> = numbers.collect();
+        let Some([place, times]) = numbers.as_deref() else {
+            return Err(io::Error::other(format!("no place and number: {line}")));
+        };
+        let (_, call) = &mut calls[*place as usize];
+        call(1);
+        let start = Instant::now();
+        call(*times);
+        writeln!(said, "{}", start.elapsed().as_nanos())?;
+        said.flush()?;
+    }
+    Ok(())
+}
+
+/// A build that serves.
+struct Build {
+    child: Child,
+    asked: ChildStdin,
+    said: Lines<BufReader<ChildStdout>>,
+    names: Vec<String>,
+}
+
+impl Build {
+    fn start(program: &Path) -> io::Result<Self> {
+        let mut child = Command::new(program)
+            .arg("serve")
+            .stdin(Stdio::piped())
+            .stdout(Stdio::piped())
+            .spawn()?;
+        let asked = child.stdin.take().expect("piped");
+        let mut said = BufReader::new(child.stdout.take().expect("piped")).lines();
+        let mut names = Vec::new();
+        loop {
+            let line = said.next().unwrap_or(Ok(String::new()))?;
+            if line.is_empty() {
+                break;
+            }
+            names.push(line);
+        }
+        Ok(Self {
+            child,
+            asked,
+            said,
+            names,
+        })
+    }
+
+    /// The nanoseconds that so many calls of one place take together.
+    fn time(&mut self, place: usize, times: u64) -> io::Result<f64> {
+        writeln!(self.asked, "{place} {times}")?;
+        let line = self.said.next().unwrap_or(Ok(String::new()))?;
+        line.parse()
+            .map_err(|_| io::Error::other(format!("no time: {line}")))
+    }
+
+    fn stop(self) -> io::Result<()> {
+        let Self {
+            mut child, asked, ..
+        } = self;
+        drop(asked);
+        child.wait().map(drop)
+    }
+}
+
+/// A table of what each call takes with one build and with the other.
+pub fn compare(effort: Effort, programs: [&Path; 2]) -> io::Result<String> {
+    let [before, after] = programs.map(Build::start);
+    let mut builds = [before?, after?];
+    if builds[0].names != builds[1].names {
+        return Err(io::Error::other("the two builds have other calls"));
+    }
+    let mut text =
+        String::from("| call | before | after | best | middle |\n|---|---|---|---|---|\n");
+    for place in 0..builds[0].names.len() {
+        let [before, after] = in_turns(effort, &mut builds, place)?;
+        _ = writeln!(
+            text,
+            "| {} | {} | {} | {:.2} | {:.2} |",
+            builds[0].names[place],
+            duration(before.best),
+            duration(after.best),
+            after.best / before.best,
+            after.middle / before.middle,
+        );
+    }
+    let stopped = builds.map(Build::stop);
+    stopped.into_iter().collect::<io::Result<()>>()?;
+    Ok(text)
+}
+
+/// Turns of both, each first in every other round.
+fn in_turns(effort: Effort, builds: &mut [Build; 2], place: usize) -> io::Result<[Times; 2]> {
+    let mut times = 1;
+    let mut took = builds[0].time(place, times)?;
+    while took < effort.turn.as_nanos() as f64 {
+        times *= 2;
+        took = builds[0].time(place, times)?;
+    }
+    let fit = effort.all_turns.as_nanos() as f64 / (2.0 * took);
+    let (most, least) = effort.turns;
+    let mut turns = [Vec::new(), Vec::new()];
+    for round in 0..(fit as usize).clamp(least, most) {
+        for turn in 0..2 {
+            let build = (round + turn) % 2;
+            turns[build].push(builds[build].time(place, times)? / times as f64);
+        }
+    }
+    Ok(turns.map(Times::of))
+}
+
+#[cfg(test)]
+mod tests {
+    use super::*;
+
+    /// Every call can be asked for, and what is said is a time.
+    #[test]
+    fn each_call_is_served() {
+        let count = calls(Effort::LEAST).len();
+        let asked: String = (0..count).map(|place| format!("{place} 1\n")).collect();
+        let mut said = Vec::new();
+        serve(Effort::LEAST, asked.as_bytes(), &mut said).expect("served");
+        let said = String::from_utf8(said).expect("text");
+        let (names, times) = said.split_once("\n\n").expect("names and times");
+        assert_eq!(names.lines().count(), count);
+        assert_eq!(
+            times
+                .lines()
+                .filter_map(|time| time.parse::<u64>().ok())
+                .count(),
+            count
+        );
+    }
+
+    #[test]
+    fn what_is_no_request_ends_it() {
+        let served = serve(Effort::LEAST, &b"0\n"[..], io::sink());
+        assert!(served.is_err());
+    }
+}
