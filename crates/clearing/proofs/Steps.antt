@@ -4,14 +4,12 @@ use mathlib.Core.List.{List, [], _∷_, _++_, append-assoc, append-nil}
 use Prim.Native.Nat.{ℕ, zero, suc, _+_, _-_, _≤_, _<_}
 use native.Mathlib.Omega.{arith}
 use native.Mathlib.Decide.{ℕ-discrete}
-use lib.Bits.{bitOr, and-le-l, and-le-r, or-add-and}
+use lib.Bits.{bitOr}
 use lib.ListN.{length, take, drop, getD, set, replicate, length-take, length-drop, length-replicate, getD-replicate, length-append, take-append-drop, drop-of-length-le, replicate-append-replicate}
 use lib.Seq.{getD-take, getD-drop, ext-getD, drop-drop, take-at, drop-at, set-at, drop-cons, length-take-le}
+use Rattle.sets.specs.Bits.{or-none}
 
 -- ---- words taken together
-
-pub or-none : (a b : ℕ) → bitOr a b ≡ 0 → (a ≡ 0) × (b ≡ 0)
-or-none a b e = let s = or-add-and a b in let l = and-le-l a b in let r = and-le-r a b in (omega arith, omega arith)
 
 -- the first k words from i on are zero where what was gathered of them is
 abbrev pub Gathered : List ℕ → ℕ → ℕ → ℕ → Type 0

@@ -6,7 +6,7 @@ use native.Mathlib.Omega.{arith}
 use native.Mathlib.Numerals.{add-one}
 use lib.Arith.{digits-mod, lt-one}
 use lib.Pow.{pow-pos, shr-lt}
-use lib.Bits.{bitOr, bitAnd, bitXor, differ, or-shr, or-step, and-shr, and-step, xor-shr, xor-step, xor-lt, and-lt}
+use lib.Bits.{bitOr, bitAnd, bitXor, differ, and-le-l, and-le-r, or-add-and, or-shr, or-step, and-shr, and-step, xor-shr, xor-step, xor-lt, and-lt}
 use lib.Count.{ones, ones-step, trailingZeros, under}
 use Rattle.sets.specs.Sets.{bit, clear, tally, first}
 
@@ -19,6 +19,10 @@ bit-lt k w = mod-lt (w / 2 ^ k) (zero-lt-suc 1)
 pub bit-zero : (k : ℕ) → bit k 0 ≡ 0
 unfolding bit
 bit-zero k = ap (λ (x : ℕ). x % 2) (div-eq-of-lt (pow-pos k))
+
+-- words of which nothing is left when they are taken together
+pub or-none : (a b : ℕ) → bitOr a b ≡ 0 → (a ≡ 0) × (b ≡ 0)
+or-none a b e = let s = or-add-and a b in let l = and-le-l a b in let r = and-le-r a b in (omega arith, omega arith)
 
 -- the lowest digit, and the digits above it
 pub bit-low : (w : ℕ) → bit 0 w ≡ w % 2

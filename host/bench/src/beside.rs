@@ -1,19 +1,18 @@
-//! Two archives beside each other: this program is built with each, one build asks the two to take turns, call by call, so
-//! that other work on the machine slows both. `tools/beside` builds them.
+//! Two archives beside each other: this program is built with each, and one build asks all of them to take turns, call by
+//! call, so that other work on the machine slows all. `tools/beside` builds them.
 
 use std::fmt::Write as _;
 use std::hint::black_box;
 use std::io::{self, BufRead, BufReader, Lines, Write};
-use std::path::Path;
 use std::process::{Child, ChildStdin, ChildStdout, Command, Stdio};
 use std::rc::Rc;
-use std::time::Instant;
+use std::time::{Duration, Instant};
 
 use bracepuffin::slices::{self, ClassColumns};
 use bracepuffin::{ArgType, ClassTable, WORK};
 
 use crate::classes::{ends, program, table};
-use crate::measure::{repeated, Effort, Times};
+use crate::measure::{repeated, Effort};
 use crate::plot::duration;
 use crate::problems::{Case, Lent};
 
@@ -149,7 +148,7 @@ struct Build {
 }
 
 impl Build {
-    fn start(program: &Path) -> io::Result<Self> {
+    fn start(program: &str) -> io::Result<Self> {
         let mut child = Command::new(program)
             .arg("serve")
             .stdin(Stdio::piped())
@@ -190,50 +189,73 @@ impl Build {
     }
 }
 
-/// A table of what each call takes with one build and with the other.
-pub fn compare(effort: Effort, programs: [&Path; 2]) -> io::Result<String> {
-    let [before, after] = programs.map(Build::start);
-    let mut builds = [before?, after?];
-    if builds[0].names != builds[1].names {
-        return Err(io::Error::other("the two builds have other calls"));
+/// How long the turns of one call take together: more programs share it than in a report.
+const ALL_TURNS: Duration = Duration::from_millis(2400);
+
+/// A table of what each call takes. The first half of the programs have one archive, the second half another, each at as
+/// many places in memory: a time is the mean of the best turns of each, with the shortest and the longest.
+pub fn compare(effort: Effort, programs: &[String]) -> io::Result<String> {
+    let started = programs.iter().map(|program| Build::start(program));
+    let mut builds: Vec<Build> = started.collect::<io::Result<_>>()?;
+    let Some(names) = builds.first().map(|build| build.names.clone()) else {
+        return Err(io::Error::other("no program"));
+    };
+    if programs.len() % 2 != 0 || builds.iter().any(|build| build.names != names) {
+        return Err(io::Error::other("not the same calls of two archives"));
     }
-    let mut text =
-        String::from("| call | before | after | best | middle |\n|---|---|---|---|---|\n");
-    for place in 0..builds[0].names.len() {
-        let [before, after] = in_turns(effort, &mut builds, place)?;
+    let mut text = String::from("| call | before | after | after / before |\n|---|---|---|---|\n");
+    for (place, name) in names.iter().enumerate() {
+        let best = in_turns(effort, &mut builds, place)?;
+        let (before, after) = best.split_at(best.len() / 2);
+        let ratio = mean(after) / mean(before);
         _ = writeln!(
             text,
-            "| {} | {} | {} | {:.2} | {:.2} |",
-            builds[0].names[place],
-            duration(before.best),
-            duration(after.best),
-            after.best / before.best,
-            after.middle / before.middle,
+            "| {name} | {} | {} | {ratio:.2} |",
+            span(before),
+            span(after)
         );
     }
-    let stopped = builds.map(Build::stop);
-    stopped.into_iter().collect::<io::Result<()>>()?;
+    let stopped = builds.into_iter().map(Build::stop);
+    stopped.collect::<io::Result<()>>()?;
     Ok(text)
 }
 
-/// Turns of both, each first in every other round.
-fn in_turns(effort: Effort, builds: &mut [Build; 2], place: usize) -> io::Result<[Times; 2]> {
+fn mean(times: &[f64]) -> f64 {
+    times.iter().sum::<f64>() / times.len() as f64
+}
+
+/// The mean, the shortest and the longest.
+fn span(times: &[f64]) -> String {
+    let least = times.iter().copied().fold(f64::INFINITY, f64::min);
+    let most = times.iter().copied().fold(0.0, f64::max);
+    format!(
+        "{} ({} to {})",
+        duration(mean(times)),
+        duration(least),
+        duration(most)
+    )
+}
+
+/// The best turn of each build; each is the first of a round in its turn.
+fn in_turns(effort: Effort, builds: &mut [Build], place: usize) -> io::Result<Vec<f64>> {
     let mut times = 1;
     let mut took = builds[0].time(place, times)?;
     while took < effort.turn.as_nanos() as f64 {
         times *= 2;
         took = builds[0].time(place, times)?;
     }
-    let fit = effort.all_turns.as_nanos() as f64 / (2.0 * took);
+    let count = builds.len();
+    let fit = ALL_TURNS.as_nanos() as f64 / (count as f64 * took);
     let (most, least) = effort.turns;
-    let mut turns = [Vec::new(), Vec::new()];
+    let mut best = vec![f64::INFINITY; count];
     for round in 0..(fit as usize).clamp(least, most) {
-        for turn in 0..2 {
-            let build = (round + turn) % 2;
-            turns[build].push(builds[build].time(place, times)? / times as f64);
+        for turn in 0..count {
+            let build = (round + turn) % count;
+            let turn = builds[build].time(place, times)? / times as f64;
+            best[build] = best[build].min(turn);
         }
     }
-    Ok(turns.map(Times::of))
+    Ok(best)
 }
 
 #[cfg(test)]

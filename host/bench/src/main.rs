@@ -4,8 +4,8 @@
 //!     cargo run --release --offline -p bench -- classes          a part of it: descriptors, classes, types, solves, layered,
 //!                                                                 small, shares, hostile; and by name alone solve-growths
 //!     cargo run --release --offline -p bench -- report           docs/PERFORMANCE.md, with plots beside it
-//!     bench beside BEFORE AFTER                                  two builds of this program, linked with two archives, in
-//!                                                                 turns; `tools/beside` makes both and calls this
+//!     bench beside BEFORE.. AFTER..                              builds of this program, linked with two archives, in
+//!                                                                 turns; `tools/beside` makes them and calls this
 //!
 //! A report is refused where its figures would say nothing: in a build for tests, and under an emulator; `--force` after
 //! `report` writes one all the same, and another folder than docs may follow.
@@ -54,13 +54,7 @@ fn main() -> ExitCode {
 }
 
 fn compare(programs: &[String]) -> io::Result<()> {
-    let [before, after] = programs else {
-        return Err(io::Error::other(
-            "beside BEFORE AFTER: two builds of this program",
-        ));
-    };
-    let table = beside::compare(Effort::FULL, [before, after].map(Path::new))?;
-    print!("{table}");
+    print!("{}", beside::compare(Effort::FULL, programs)?);
     Ok(())
 }
 

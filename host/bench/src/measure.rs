@@ -60,7 +60,7 @@ pub struct Times {
 }
 
 impl Times {
-    pub fn of(mut turns: Vec<f64>) -> Self {
+    fn of(mut turns: Vec<f64>) -> Self {
         turns.sort_by(f64::total_cmp);
         let at = |part: usize| turns[(turns.len() - 1) * part / 10];
         Self {
