@@ -126,13 +126,16 @@ pub fn serve(effort: Effort, asked: impl BufRead, mut said: impl Write) -> io::R
         let line = line?;
         let numbers = line.split(' ').map(|word| word.parse().ok());
         let numbers: Option<Vec<u64>> = numbers.collect();
-        let Some([place, times]) = numbers.as_deref() else {
-            return Err(io::Error::other(format!("no place and number: {line}")));
+        let asked = match numbers.as_deref() {
+            Some([place, times]) => calls.get_mut(*place as usize).zip(Some(*times)),
+            _ => None,
         };
-        let (_, call) = &mut calls[*place as usize];
+        let Some(((_, call), times)) = asked else {
+            return Err(io::Error::other(format!("no call and number: {line}")));
+        };
         call(1);
         let start = Instant::now();
-        call(*times);
+        call(times);
         writeln!(said, "{}", start.elapsed().as_nanos())?;
         said.flush()?;
     }
@@ -283,7 +286,9 @@ mod tests {
 
     #[test]
     fn what_is_no_request_ends_it() {
-        let served = serve(Effort::LEAST, &b"0\n"[..], io::sink());
-        assert!(served.is_err());
+        for asked in ["0\n", "0 1 2\n", "x 1\n", "1000 1\n"] {
+            assert!(serve(Effort::LEAST, asked.as_bytes(), io::sink()).is_err());
+        }
+        assert!(serve(Effort::LEAST, "0 1\n".as_bytes(), io::sink()).is_ok());
     }
 }
