@@ -4,7 +4,7 @@ use mathlib.Core.Path.{_≡_, refl, sym, ap, ap₂, _∙_, subst}
 use mathlib.Core.Bool.{Bool, true, false, cond, _||_, true≢false, or-true}
 use mathlib.Core.List.{List, List·Memᴰ}
 use mathlib.Core.Logic.{_⊎_, inl, inr, ⊎-elim}
-use Prim.Native.Nat.{ℕ, _+_, _*_, _/_, _%_, _≤_, _<_}
+use Prim.Native.Nat.{ℕ, _+_, _*_, _/_, _%_, _<_}
 use native.Mathlib.Decide.{decLt, ℕ-discrete}
 use native.Mathlib.Omega.{arith}
 use lib.Dec.{eqb}
@@ -16,7 +16,7 @@ use Rattle.sets.specs.Laws.{at-ext, at-empty, member-empty, member-none, member
 use Rattle.view.specs.View.{View, insertAll, reached, reach, ancestor, allRecorded, complete, relation}
 use Rattle.view.specs.declared.Relation.the-variants.{Yes, No, Unknown}
 use Rattle.view.specs.Grow.{Formed, empty-formed, insert-formed, insertAll-formed, insertAll-keeps, insertAll-has, insertAll-only, member-le, member-insert-same, member-insert-only}
-use Rattle.view.specs.Reach.{Good, reach-refl, reach-below, reach-trans, reach-parent, reach-induction, reached-formed}
+use Rattle.view.specs.Reach.{Good, reach-refl, reach-trans, reach-parent, reach-induction, reached-formed}
 use Rattle.ancestry.specs.Rows.{rowsRoom, row, row-word, Joined, Through}
 
 -- the rows of a set: what each of its classes reaches, and nothing for the others

@@ -12,7 +12,7 @@ use Rattle.solving.specs.Solving.{Domain, Fallback, Upper, Lower, Exact}
 use Rattle.copying.specs.Copies.{runIn, wordsIn}
 use Rattle.copying.specs.Own.{ownIn, own-within, own-is, own-run}
 use Rattle.answering.specs.declared.Parts.{Parts}
-use Rattle.answering.specs.Answering.{part, ends, kindWords, stateWords, partsOf}
+use Rattle.answering.specs.Answering.{part, ends, stateWords, partsOf}
 
 module _ (c : ℕ) (keys : List ℕ) (o : Sorted keys) (r : Span) (e : r ≡ runOf (2 ^ 55) c (take (length keys) keys)) where
   front : Sorted (take (length keys) keys)

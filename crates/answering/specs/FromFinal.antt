@@ -14,7 +14,7 @@ use Rattle.ty.specs.Answers.{maybeWord}
 use Rattle.tables.specs.declared.Tables.{Tables}
 use Rattle.lattice.specs.Lattice.{World}
 use Rattle.joins.specs.Joins.{Fits, AllLegal}
-use Rattle.solving.specs.Solving.{Domain, Fallback, Upper, Lower, Exact, Table, stateOf, resolveState, answers}
+use Rattle.solving.specs.Solving.{Domain, Fallback, Upper, Lower, Exact, Table, stateOf, answers}
 use Rattle.solving.specs.Tidy.{Tidy}
 use Rattle.solving.specs.TableKeys.{keysOf, keys-sorted, tidy-keyed, table-back}
 use Rattle.copying.specs.Copies.{runIn, wordsIn, wordIn}

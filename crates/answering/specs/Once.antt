@@ -1,6 +1,6 @@
 -- EACH COMPONENT IS ANSWERED ONCE: a slice has for each component the place after the last variable of it among the first i, 0 where there is
 -- none; the answer stands there already.
-use mathlib.Core.Path.{_≡_, refl, sym, ap, _∙_, subst}
+use mathlib.Core.Path.{_≡_, refl, sym, ap, _∙_}
 use native.Mathlib.Decide.{ℕ-discrete}
 use mathlib.Core.List.{List, [], _∷_, map}
 use Prim.Native.Nat.{ℕ, zero, suc, _+_, _-_, _≤_, _<_}

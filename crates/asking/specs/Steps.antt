@@ -11,7 +11,7 @@ use lib.Seq.{drop-cons}
 use borrow.Author.Tests.{lt-ltb, le-ltb, ltb-true, ltb-false}
 use Rattle.sorted.specs.declared.Span.{Span}
 use Rattle.sorted.specs.Sorted.{Sorted, runOf}
-use Rattle.passing.specs.Passes.{second, seconds}
+use Rattle.passing.specs.Passes.{second}
 use Rattle.passing.specs.Steps.{run-inside, run-partners}
 use Rattle.solving.specs.LinkKeys.{pairOf}
 use Rattle.solving.specs.Solving.{Pair, partners}

@@ -6,7 +6,7 @@ use Prim.Native.Nat.{ℕ, zero, suc, _-_, _^_, _≤_, _<_}
 use native.Mathlib.Omega.{arith}
 use lib.Dec.{eqb, leb}
 use borrow.Author.Tests.{eq-eqb, ne-eqb, eqb-true, leb-true, leb-false, ltb-true}
-use Rattle.ty.specs.Types.{ArgType, Primitive, Object, Array, Unknown, compare, categories, isKnown, isPrimitive, isObject, isArray}
+use Rattle.ty.specs.Types.{ArgType, Primitive, Object, Array, Unknown, categories, isKnown, isPrimitive, isObject, isArray}
 use Rattle.ty.specs.Words.{Legal, tagOf, loadOf, typeOf, baseOf}
 use Rattle.ty.specs.Shape.{type-array, type-flat, legal-element}
 use Rattle.ty.specs.Steps.{array-test, check-object}

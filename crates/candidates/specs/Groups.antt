@@ -3,22 +3,19 @@
 use mathlib.Core.Path.{_≡_, refl, sym, ap, ap₂, _∙_, subst}
 use mathlib.Core.Bool.{Bool, true, false, cond, not, _&&_, _||_, true≢false, false≢true}
 use mathlib.Core.List.{List, [], _∷_, map}
-use mathlib.Core.Logic.{_⊎_, inl, inr, ⊎-elim}
 use mathlib.Core.Option.{Option}
-use Prim.Native.Nat.{ℕ, zero, suc, _+_, _-_, _*_, _/_, _%_, _^_, _≤_, _<_}
+use Prim.Native.Nat.{ℕ, zero, suc, _/_, _<_}
 use native.Mathlib.Omega.{arith}
-use native.Mathlib.Decide.{ℕ-discrete}
 use lib.Dec.{eqb}
-use lib.ListN.{length, drop, getD, replicate, length-replicate}
+use lib.ListN.{length, replicate, length-replicate}
 use borrow.Author.Tests.{eq-eqb, ne-eqb, eqb-true, eqb-false, ltb-true}
 use Rattle.sets.specs.Sets.{at, member, insert, remove, subtract, first}
 use Rattle.sets.specs.Bits.{first-le}
 use Rattle.sets.specs.Laws.{member-empty, member-insert, member-remove, member-subtract, length-insert, length-remove, length-subtract, lowest-none, lowest-member}
-use Rattle.ty.specs.Types.{ArgType, Primitive, Object, Array, Unknown, arrays, compare, isPrimitive}
+use Rattle.ty.specs.Types.{ArgType, Object, Array, arrays, compare, isPrimitive}
 use Rattle.ty.specs.Words.{Legal, tagStep, dimsOf, tagOf, loadOf, typeOf, baseOf}
 use Rattle.ty.specs.Steps.{check-object}
 use Rattle.ty.specs.declared.MaybeType.{MaybeType}
-use Rattle.view.specs.declared.Relation.{Relation}
 use Rattle.view.specs.declared.Relation.the-variants.{Yes, No, Unknown as Incomplete}
 use Rattle.view.specs.View.{View, reached, reach, ancestor, complete, relation}
 use Rattle.view.specs.Ancestors.{ancestor-self, ancestor-object, reach-ancestor}
@@ -26,7 +23,7 @@ use Rattle.view.specs.Reach.{level-formed}
 use Rattle.view.specs.Relations.{relation-yes}
 use Rattle.lattice.specs.Lattice.{World, sameType, notNo, unknownAccepts, assignableApart, isAssignable, assignableToAll}
 use Rattle.lattice.specs.World.{worldWith}
-use Rattle.lattice.specs.References.{same-exactly, class-array, assignable-arrays, mixed-arrays}
+use Rattle.lattice.specs.References.{same-exactly, assignable-arrays, mixed-arrays}
 use Rattle.candidates.specs.Maybe.{LegalMaybe, maybeType}
 use Rattle.candidates.specs.Steps.{typesFrom}
 

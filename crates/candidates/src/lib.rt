@@ -13,7 +13,7 @@ use ty::TypeWord;
 ghost use mathlib.Core.Path.{_≡_};
 ghost use mathlib.Core.Bool.{true, false, cond, _&&_};
 ghost use mathlib.Core.List.{map};
-ghost use Prim.Native.Nat.{_≤_, _<_};
+ghost use Prim.Native.Nat.{_<_};
 ghost use mathlib.Core.Option.{some};
 ghost use Rattle.tables.specs.Table.{namesRoom};
 ghost use Rattle.prepared.specs.Prepared.{Prepared};

@@ -1,11 +1,11 @@
 -- Lists of which a part is made zero, as the code meets them.
-use mathlib.Core.Path.{_≡_, refl, sym, ap, ap₂, _∙_}
+use mathlib.Core.Path.{_≡_, sym, ap, ap₂, _∙_}
 use mathlib.Core.List.{List, [], _∷_, _++_, append-assoc, append-nil}
-use Prim.Native.Nat.{ℕ, zero, suc, _+_, _-_, _≤_, _<_}
+use Prim.Native.Nat.{ℕ, suc, _+_, _-_, _≤_, _<_}
 use native.Mathlib.Omega.{arith}
 use native.Mathlib.Decide.{ℕ-discrete}
 use lib.Bits.{bitOr}
-use lib.ListN.{length, take, drop, getD, set, replicate, length-take, length-drop, length-replicate, getD-replicate, length-append, take-append-drop, drop-of-length-le, replicate-append-replicate}
+use lib.ListN.{length, take, drop, getD, set, replicate, length-drop, length-replicate, getD-replicate, length-append, take-append-drop, drop-of-length-le, replicate-append-replicate}
 use lib.Seq.{getD-take, getD-drop, ext-getD, drop-drop, take-at, drop-at, set-at, drop-cons, length-take-le}
 use Rattle.sets.specs.Bits.{or-none}
 

@@ -11,7 +11,7 @@ use lib.Dec.{leb, ltb}
 use lib.ListN.{length, getD}
 use borrow.Author.Tests.{ltb-true, ltb-false, leb-true, lt-ltb, le-ltb, le-leb}
 use Rattle.order.specs.Truth.{both}
-use Rattle.utf8.specs.Utf8.{Range, _‥_, table, Fits, Fits.done, Fits.next}
+use Rattle.utf8.specs.Utf8.{Range, table, Fits, Fits.done, Fits.next}
 use Rattle.codepoints.specs.CodePoints.{isScalar, following, encode}
 
 -- by whether c is below n

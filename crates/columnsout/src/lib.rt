@@ -2,13 +2,8 @@
 use keys::key_component;
 use keys::key_kind;
 use keys::key_type;
-ghost use mathlib.Core.Path.{_≡_};
-ghost use mathlib.Core.List.{map};
 ghost use Prim.Native.Nat.{_≤_};
 ghost use lib.ListN.{length};
-ghost use lib.Seq.{paste};
-ghost use Rattle.keys.specs.Rank.{keyComponent, keyKind};
-ghost use Rattle.copying.specs.Copies.{wordsIn};
 ghost use Rattle.columnsout.specs.Columns.{Written};
 
 // What stands past the columns stays.

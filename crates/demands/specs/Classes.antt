@@ -16,7 +16,7 @@ use contract.Lifetimes.{Lfts}
 use Rattle.sets.specs.Sets.{at, member, members, first}
 use Rattle.sorted.specs.Sorted.{Sorted}
 use Rattle.view.specs.declared.Relation.the-variants.{Yes, No, Unknown}
-use Rattle.view.specs.View.{numberOf, far, distance, ancestors, relation, relationNumber, cast, nearer, supertype}
+use Rattle.view.specs.View.{numberOf, distance, ancestors, relation, relationNumber, cast, nearer, supertype}
 use Rattle.view.specs.Reach.{Good}
 use Rattle.view.specs.Relations.{relationNumber-injective}
 use Rattle.columns.specs.Given.{Given}

@@ -1,6 +1,6 @@
 -- Descriptors against JVMS 4.3, in what a caller sees: the fields of the answers, and the slice of offsets.
 -- Nothing is claimed of the rule of 4.3.3 that a long or a double counts for two of the 255 parameters: reading does not look at it.
-use mathlib.Core.Path.{_≡_, refl, sym, ap, ap₂, subst, _∙_}
+use mathlib.Core.Path.{_≡_, refl, sym, ap, subst, _∙_}
 use mathlib.Core.Bool.{Bool, true, false}
 use mathlib.Core.List.{List, [], _∷_, _++_}
 use mathlib.Core.Logic.{_↔_}

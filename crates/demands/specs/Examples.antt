@@ -1,9 +1,9 @@
 -- THE PROVED EXAMPLES OF THE SCOPE PAPER: one statement over one list, of the definitions, the class table in the words of its rows.
 -- All ten are there.
 use mathlib.Core.Path.{_≡_, refl}
-use mathlib.Core.Bool.{Bool, true, false}
+use mathlib.Core.Bool.{Bool, false}
 use mathlib.Core.List.{List, [], _∷_}
-use mathlib.Core.Option.{Option, some}
+use mathlib.Core.Option.{some}
 use Prim.Native.Nat.{ℕ}
 use Prim.Native.String.{String}
 use Rattle.order.specs.Compare.{compareNumbers, compareLists}

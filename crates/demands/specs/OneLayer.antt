@@ -3,8 +3,6 @@
 use mathlib.Core.Path.{_≡_, ap}
 use Prim.Native.Nat.{ℕ}
 use Rattle.columns.specs.Given.{Given}
-use Rattle.questions.specs.declared.Answer.{Answer}
-use Rattle.questions.specs.declared.Ancestors.{Ancestors}
 use Rattle.questions.specs.declared.Question.the-variants.{Relation, Distance, Supertype, Cast, Join, Assignable}
 use Rattle.questions.specs.Questions.{valueOf, answerOf, ancestorsOf}
 use Rattle.questionlaws.specs.OneLayer.{Plain, plainAnswer, plainAncestors, question-plain, ancestors-plain}

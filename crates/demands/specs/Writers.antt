@@ -16,7 +16,7 @@ use denote.Triple.Clauses.{AtExit}
 use denote.Ref.{now}
 use contract.Lifetimes.{Lfts}
 use Rattle.order.specs.Truth.{both}
-use Rattle.ty.specs.Types.{ArgType, Primitive, Object, Array, Unknown, depth}
+use Rattle.ty.specs.Types.{ArgType, Primitive, Object, Array, depth}
 use Rattle.ty.specs.Words.{typeOf, wordOf, legalWord, allLegal}
 use Rattle.ty.specs.Round.{legal-of-word}
 use Rattle.checks.specs.Checks.{firstRefusal, else-zero}

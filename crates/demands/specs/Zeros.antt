@@ -21,8 +21,6 @@ use Rattle.methods.specs.Answers.{methodAnswer, methodOf}
 use Rattle.writer.specs.Print.{answer}
 use Rattle.bracepuffin.specs.declared.BpType.{BpType}
 use Rattle.bracepuffin.specs.declared.BpMethod.{BpMethod}
-use Rattle.bracepuffin.specs.declared.BpWritten.{BpWritten}
-use Rattle.bracepuffin.specs.declared.BpFound.{BpFound}
 use Rattle.questions.specs.Questions.{answered, gathered}
 use Rattle.bracepuffin.specs.Boundary.{typeAnswer, methodResult, writtenAnswer, foundAnswer, relationAnswer, numberAnswer, setAnswer}
 use Rattle.demands.specs.Refusals.{TypeCode, MethodCode, ordinary-type-code, strict-type-code, ordinary-method-code, strict-method-code}

@@ -10,11 +10,10 @@ use lib.ListN.{length, take, drop, getD, length-drop, drop-of-length-le}
 use lib.Seq.{drop-cons, drop-drop, getD-drop}
 use borrow.Author.Tests.{eq-eqb, ne-eqb, le-leb, lt-leb, lt-ltb, le-ltb}
 use Rattle.utf8.specs.Utf8.{validPrefix}
-use Rattle.descriptor.specs.declared.Base.{Base}
 use Rattle.descriptor.specs.declared.Base.the-variants.{Simple, Class}
 use Rattle.descriptor.specs.declared.Read.{Read}
 use Rattle.descriptor.specs.declared.Read.the-variants.{Found, Refused}
-use Rattle.descriptor.specs.Read.{pickR, letterOf, indexOf, nameRead, readName, choose, readType, partsFrom, strictName, strictly}
+use Rattle.descriptor.specs.Read.{letterOf, indexOf, nameRead, readName, choose, readType}
 
 -- ---- the first ';'
 

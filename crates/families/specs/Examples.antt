@@ -5,7 +5,7 @@ use mathlib.Core.Bool.{true, false}
 use mathlib.Core.List.{List, [], _∷_}
 use mathlib.Core.Option.{some, none}
 use Prim.Native.Nat.{ℕ, zero, suc}
-use lib.Dec.{eqb, ltb}
+use lib.Dec.{ltb}
 use Rattle.sets.specs.Sets.{bit, at, member, insert, members, first}
 use Rattle.view.specs.declared.Relation.the-variants.{Yes}
 use Rattle.view.specs.View.{View, insertAll, withParents, grow, level, reached, reach, steps, distance, ancestor, allRecorded, complete, relation, castByFacts}

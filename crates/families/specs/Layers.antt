@@ -6,7 +6,7 @@ use mathlib.Core.List.{List}
 use mathlib.Core.Option.{Option}
 use Prim.Native.Nat.{ℕ}
 use Rattle.view.specs.declared.Relation.{Relation}
-use Rattle.view.specs.View.{View, distance, ancestor, ancestors, relation, cast, supertype}
+use Rattle.view.specs.View.{View, distance, ancestors, relation, cast, supertype}
 use Rattle.tableview.specs.TableRows.{Record, rowsView}
 use Rattle.stackview.specs.LayerRows.{shownRows}
 use Rattle.stackview.specs.LayerViews.{lowestLayer, layersAbove, through, shown-through}

@@ -1,5 +1,5 @@
 -- WHAT A FRAME LEAVES IS READY FOR THE NEXT: slices and numbers that show a sound state hold it, and have all that a state that lines lead to has.
-use mathlib.Core.Path.{_≡_, refl, sym, ap, ap₂, _∙_, subst}
+use mathlib.Core.Path.{_≡_, refl, sym, ap, _∙_, subst}
 use mathlib.Core.Bool.{Bool, true, false, cond, _&&_}
 use mathlib.Core.List.{List, map}
 use mathlib.Core.Option.{Option}

@@ -1,14 +1,14 @@
 -- THE SAME OF NAMES, RECORDS, THE COUNT AND QUESTIONS: what the frame of each leaves is what the definition says.
-use mathlib.Core.Path.{_≡_, refl, sym, ap, ap₂, _∙_, subst}
+use mathlib.Core.Path.{_≡_, refl, sym, ap, _∙_, subst}
 use mathlib.Core.Bool.{Bool, true, false, cond}
-use mathlib.Core.List.{List, [], _∷_}
+use mathlib.Core.List.{List, []}
 use Prim.Native.Nat.{ℕ, _<_}
 use native.Mathlib.Omega.{arith}
 use lib.Dec.{eqb}
 use lib.ListN.{length, take}
 use lib.Seq.{take-take}
-use borrow.Author.Tests.{eqb-true, eqb-false, ne-eqb}
-use Rattle.view.specs.View.{View, numberOf}
+use borrow.Author.Tests.{eqb-false}
+use Rattle.view.specs.View.{View}
 use Rattle.tables.specs.Table.{parentsOf, viewOf}
 use Rattle.rows.specs.declared.Outcome.{Outcome}
 use Rattle.rows.specs.Rows.{nameRow, filled, State}
@@ -17,12 +17,12 @@ use Rattle.layers.specs.Stacks.{Stack, withNames, stackRefusal, stackRow, openR
 use Rattle.layers.specs.StackLaws.{row-refused, opened-is}
 use Rattle.tableview.specs.Inner.{stateView}
 use Rattle.solving.specs.Solving.{Problem}
-use Rattle.problems.specs.Problems.{counted, noProblem, problemRow, Placed}
+use Rattle.problems.specs.Problems.{counted, noProblem, problemRow}
 use Rattle.problems.specs.Kept.{problemOf}
 use Rattle.problemrows.specs.ProblemRows.{countRefusal}
-use Rattle.problemrows.specs.Kept.{placed, count-same}
+use Rattle.problemrows.specs.Kept.{count-same}
 use Rattle.frames.specs.Frames as frames
-use Rattle.frames.specs.Frames.{Store, shown, Stepped, Question, Relating, Supertyping, Casting, naming, recording, opening, row, asking, askChecks, messageRefusal, stepped, accepted, answer, withMessage, rankOf}
+use Rattle.frames.specs.Frames.{Store, shown, Stepped, Question, Relating, Supertyping, Casting, naming, recording, opening, row, asking, messageRefusal, stepped, accepted, answer, withMessage, rankOf}
 use Rattle.framelaws.specs.Reached.{open-shows}
 use Rattle.framestate.specs.declared.Numbers.{Numbers}
 use Rattle.framestate.specs.declared.Framed.{Framed}

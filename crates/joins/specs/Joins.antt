@@ -1,7 +1,7 @@
 -- What the contracts of this crate cite: which words a join takes, lists in order, and a payload with one member more.
 use mathlib.Core.Path.{_≡_}
 use mathlib.Core.Bool.{Bool, true, false, _&&_}
-use mathlib.Core.List.{List, [], _∷_}
+use mathlib.Core.List.{List}
 use Prim.Native.Nat.{ℕ, _+_, _*_, _/_, _%_, _^_, _≤_, _<_}
 use lib.ListN.{length, getD}
 use Rattle.ty.specs.Types.{isKnown, isArray}

@@ -3,7 +3,7 @@
 --   rank of k or of class c, in d arrays:    d * 2 ^ 11 + k   or   d * 2 ^ 11 + 2 ^ 10 + c             below 2 ^ 19
 --   rank of Unknown cs, in d arrays:         2 ^ 19 + (255 - d) * 2 ^ 44 + digits of cs                below 2 ^ 52
 -- Unknown comes after all that is known, so the deeper of two arrays of Unknown comes first: its depth counts down.
-use mathlib.Core.Bool.{Bool, true, false, cond}
+use mathlib.Core.Bool.{cond}
 use mathlib.Core.List.{List, [], _∷_, map}
 use Prim.Native.Nat.{ℕ, zero, suc, _+_, _-_, _*_, _/_, _%_, _^_}
 use lib.Dec.{ltb}

@@ -1,6 +1,6 @@
 -- THE JOIN OF TWO CONCRETE TYPES IS ABOVE BOTH: each is assignable to it. Of types that are not concrete this does not hold (NotLaws).
 -- Cycles and parents of Object included.
-use mathlib.Core.Path.{_≡_, refl, sym, ap, _∙_, subst}
+use mathlib.Core.Path.{_≡_, refl, sym, ap, _∙_}
 use mathlib.Core.Bool.{Bool, true, false, cond, _&&_, _||_, true≢false, false≢true, or-true, and-eq-true-iff}
 use mathlib.Core.List.{List, [], _∷_}
 use mathlib.Core.Option.{Option, some, none}

@@ -1,12 +1,12 @@
 -- The examples of the scope paper about types, by computation.
 use mathlib.Core.Path.{_≡_, refl}
-use mathlib.Core.Bool.{Bool, true, false}
-use mathlib.Core.List.{List, [], _∷_}
+use mathlib.Core.Bool.{true, false}
+use mathlib.Core.List.{[], _∷_}
 use mathlib.Core.Option.{some, none}
 use Rattle.order.specs.Compare.{compareNumbers, compareLists}
 use Rattle.order.specs.Lists.{elem}
 use Rattle.sets.specs.Sets.{bit, at, member, insert, members, first}
-use Rattle.ty.specs.Types.{ArgType, Primitive, Object, Array, Unknown, compare, categories, isPrimitive}
+use Rattle.ty.specs.Types.{Primitive, Object, Array, Unknown, compare, categories, isPrimitive}
 use Rattle.ty.specs.Types.{Void, Boolean, Short, Byte, Char, Int, Long, Float, Double, ObjectCategory, ArrayCategory}
 use Rattle.view.specs.View.{insertAll, withParents, grow, level, reached, reach, steps, distance, ancestor, allRecorded, complete, relation, common, below, anyBelow, lowest, nearer, nearest, numbers, candidates, supertype}
 use Rattle.view.specs.Examples.{whole}

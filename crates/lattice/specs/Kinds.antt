@@ -1,9 +1,9 @@
 -- WHAT IS ASKED OF ONE TYPE ALONE, of two as bounds, and of a list, a second time: the answers of ty.rs and lattice.rs by kind of type and by
 -- example.
 use mathlib.Core.Path.{_≡_, refl}
-use mathlib.Core.Bool.{Bool, true, false}
+use mathlib.Core.Bool.{true, false}
 use mathlib.Core.List.{List, [], _∷_, map}
-use mathlib.Core.Option.{Option, some, none}
+use mathlib.Core.Option.{some, none}
 use Prim.Native.Nat.{ℕ}
 use Rattle.order.specs.Compare.{compareNumbers, compareLists}
 use Rattle.order.specs.Lists.{elem}

@@ -13,9 +13,6 @@ use Rattle.ty.specs.Types.{ArgType, Primitive, Object, Array, Unknown, isPrimit
 use Rattle.ty.specs.Words.{legalAtBase, legalType}
 use Rattle.ty.specs.Distinct.{distinct-first}
 use Rattle.view.specs.View.{supertype}
-use Rattle.view.specs.Reach.{Good}
-use Rattle.view.specs.Ancestors.{ancestor-below}
-use Rattle.view.specs.Supertype.{supertype-some, supertype-least}
 use Rattle.lattice.specs.Lattice.{World, Lawful, sameType, unknownAccepts, unknownUnion, inBoth, orFull, joinKnown, classOr, joinElements, joinArrayClass, joinApart, join, joinFrom, joinAll, mostSpecificUpper}
 use Rattle.lattice.specs.Hints.{hint-by, specific-hint}
 use Rattle.lattice.specs.References.{same-exactly}

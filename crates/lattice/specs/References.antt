@@ -8,14 +8,9 @@ use Prim.Native.Nat.{ℕ}
 use lib.Dec.{eqb}
 use borrow.Author.Tests.{eq-eqb, eqb-true}
 use Rattle.order.specs.Truth.{implied-both}
-use Rattle.order.specs.Compare.{isEqual}
-use Rattle.order.specs.declared.Order.{Order}
-use Rattle.order.specs.declared.Order.the-variants.{Less, Equal, Greater}
 use Rattle.ty.specs.Types.{ArgType, Primitive, Object, Array, Unknown, compare, isPrimitive, isReference}
-use Rattle.ty.specs.Order.{compare-same, compare-equal}
 use Rattle.view.specs.declared.Relation.{Relation}
 use Rattle.view.specs.declared.Relation.the-variants.{Yes, No, Unknown as Incomplete}
-use Rattle.view.specs.Ancestors.{ancestor-self}
 use Rattle.lattice.specs.Lattice.{World, Lawful, sameType, isNumber, notNo, elementsAssignable, arrayParent, assignableApart, isAssignable, producerBoundCompatible}
 use Rattle.lattice.specs.Same.{same-refl, same-equal}
 

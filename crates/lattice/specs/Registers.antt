@@ -1,7 +1,7 @@
 -- REGISTERS a second time, against JVMS 2.11.1: which types are of category 2, and which two are of one register category, as
 -- `is_wide` of ty.rs and `same_register_category` of lattice.rs have it.
 use mathlib.Core.Path.{_≡_, refl}
-use mathlib.Core.Bool.{Bool, true, false, cond, not, _&&_, _||_}
+use mathlib.Core.Bool.{Bool, true, false, cond}
 use mathlib.Core.List.{List, [], _∷_, map}
 use Prim.Native.Nat.{ℕ, _<_}
 use lib.Dec.{eqb}
@@ -9,7 +9,7 @@ use Rattle.order.specs.Compare.{compareNumbers}
 use Rattle.order.specs.Lists.{elem}
 use Rattle.order.specs.Tests.{same, same-eq, testBelow, tested-below}
 use Rattle.ty.specs.Types.{ArgType, Primitive, Object, Array, Unknown, compare, isPrimitive, isReference, wideCategory, allWide, isWide}
-use Rattle.ty.specs.Types.{Void, Boolean, Byte, Short, Char, Int, Long, Float, Double, ObjectCategory, ArrayCategory}
+use Rattle.ty.specs.Types.{Boolean, Byte, Short, Char, Int, Long, Float, Double, ObjectCategory, ArrayCategory}
 use Rattle.lattice.specs.Lattice.{sameType, hasAll, unknownAccepts, sameRegisterCategory, observedAccepts, anyAccepts, domainAccepts}
 
 -- table 2.11.1-B: an actual type and its category

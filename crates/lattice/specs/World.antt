@@ -1,10 +1,8 @@
 -- The world that the class tables give: their view, and the numbers of Cloneable and Serializable.
-use mathlib.Core.Path.{_≡_, refl, ap, _∙_}
-use mathlib.Core.Bool.{Bool, true, false, cond}
+use mathlib.Core.Bool.{cond}
 use mathlib.Core.List.{List}
 use mathlib.Core.Option.{Option, some, none}
-use Prim.Native.Nat.{ℕ, _-_, _^_, _<_}
-use native.Mathlib.Omega.{arith}
+use Prim.Native.Nat.{ℕ, _-_, _^_}
 use lib.Dec.{eqb}
 use Rattle.tables.specs.declared.Tables.{Tables}
 use Rattle.tables.specs.Table.{viewOf}
@@ -13,7 +11,7 @@ use Rattle.view.specs.Reach.{Good}
 use Rattle.view.specs.Ancestors.{ancestor-self, ancestor-object, ancestor-below}
 use Rattle.view.specs.Relations.{relation-yes}
 use Rattle.view.specs.Supertype.{supertype-least}
-use Rattle.lattice.specs.Lattice.{World, Lawful, isNumber}
+use Rattle.lattice.specs.Lattice.{World, Lawful}
 
 -- a number, where it is not all ones
 unfoldable pub present : ℕ → Option ℕ

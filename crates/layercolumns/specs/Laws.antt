@@ -21,7 +21,7 @@ use Rattle.layers.specs.declared.StackTables.{StackTables}
 use Rattle.layers.specs.declared.StackOutcome.{StackOutcome}
 use Rattle.layers.specs.Layers.{layersRoom, layerKeys}
 use Rattle.layers.specs.Laws.{inside-none}
-use Rattle.layers.specs.Stacks.{Upright, Stack, StackRan, ground, stackRefusal, stackRow, stackRan, openRan, stackOf, Holds, FillsStack, openedTables}
+use Rattle.layers.specs.Stacks.{Stack, StackRan, ground, stackRefusal, stackRow, stackRan, openRan, stackOf, Holds, FillsStack, openedTables}
 use Rattle.layers.specs.StackLaws.{upright-ground, upright-row, holds-after, opened-is, holds-open}
 use Rattle.layercolumns.specs.LayerColumns.{openFlags, openingRow, placedRow, stackRows, firstOpen, grounded, lowestThen, lowestTables, Lowest, stackTable, Keeps, RoomFor, Shows}
 

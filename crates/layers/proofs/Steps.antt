@@ -1,14 +1,12 @@
 -- What the loop and the returns of this crate go by, on plain lists.
-use mathlib.Core.Path.{_≡_, refl, sym, ap, ap₂, _∙_, subst}
-use mathlib.Core.Bool.{Bool, true, false, cond}
+use mathlib.Core.Path.{_≡_, sym, ap, ap₂, _∙_, subst}
 use mathlib.Core.List.{List, [], _∷_, _++_, append-assoc, append-nil}
-use Prim.Native.Nat.{ℕ, zero, suc, _+_, _-_, _*_, _≤_, _<_}
+use Prim.Native.Nat.{ℕ, suc, _+_, _-_, _≤_, _<_}
 use native.Mathlib.Omega.{arith}
 use native.Mathlib.Numerals.{add-one}
-use lib.Dec.{ltb}
 use borrow.Author.Tests.{le-leb, lt-leb}
 use lib.ListN.{length, length-take, take, drop, getD, set, replicate, drop-of-length-le, length-drop, length-append, take-append-drop}
-use lib.Seq.{length-take-le, take-suc, drop-cons, set-at, getD-drop, take-take, take-all, take-add, drop-at, drop-drop, drop-append-add}
+use lib.Seq.{length-take-le, take-suc, drop-cons, set-at, getD-drop, take-take, take-all, take-add, drop-at, drop-drop}
 use Rattle.sets.specs.Sets.{insert}
 use Rattle.sorted.specs.declared.Span.{Span}
 use Rattle.sorted.specs.Sorted.{Sorted, runOf}

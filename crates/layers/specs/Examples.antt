@@ -1,13 +1,12 @@
 -- Worked examples of layers, by computation.
 use mathlib.Core.Path.{_≡_, refl}
-use mathlib.Core.List.{List, [], _∷_}
-use Prim.Native.Nat.{ℕ, _-_, _^_}
+use mathlib.Core.List.{[], _∷_}
+use Prim.Native.Nat.{_-_, _^_}
 use lib.ListN.{replicate}
 use Rattle.order.specs.Lists.{elem}
 use Rattle.sets.specs.Sets.{bit, clear, at, member, insert, remove}
 use Rattle.sorted.specs.Sorted.{insertSorted, put}
 use Rattle.checks.specs.Checks.{firstRefusal}
-use Rattle.tables.specs.declared.Tables.{Tables}
 use Rattle.rows.specs.Rows.{State, goodFlags, allBelow, putAll, marked, recordMarks, recordChecks, recordRefusal, withRecord}
 use Rattle.layers.specs.Layers.{Layered, keysInside, keysWithout, keysLeft, layerKeys, layerRefusal, withLayerRecord, layerRow, opened}
 

@@ -2,12 +2,12 @@
 use mathlib.Core.Path.{_≡_, refl, sym, ap, ap₂, _∙_, subst}
 use mathlib.Core.Bool.{Bool, true, false, cond, not, _&&_, _||_, false≢true}
 use mathlib.Core.List.{List, [], _∷_, _++_, map}
-use Prim.Native.Nat.{ℕ, zero, suc, _+_, _-_, _*_, _/_, _%_, _≤_, _<_}
+use Prim.Native.Nat.{ℕ, zero, suc, _+_, _*_, _/_, _%_, _≤_, _<_}
 use native.Mathlib.Omega.{arith}
 use native.Mathlib.Decide.{ℕ-discrete}
 use lib.Dec.{eqb}
 use lib.ListN.{length, take, drop, getD, replicate}
-use borrow.Author.Tests.{eq-eqb, ne-eqb, eqb-true, eqb-false}
+use borrow.Author.Tests.{eq-eqb, ne-eqb, eqb-true}
 use Rattle.order.specs.Lists.{elem}
 use Rattle.sets.specs.Sets.{at, member, insert, members}
 use Rattle.sets.specs.Laws.{member-empty, member-insert, length-insert}
@@ -15,11 +15,11 @@ use Rattle.sorted.specs.Sorted.{Above, Sorted, has, runOf}
 use Rattle.sorted.specs.Laws.{above-sorted, same-members}
 use Rattle.sorted.specs.Places.{has-elem, run-only, run-all, run-within}
 use Rattle.tables.specs.Table.{namesRoom, pairsRoom, marksRoom}
-use Rattle.rows.specs.Rows.{State, key, putAll, Below, freshIn, recordRefusal, withRecord}
-use Rattle.rows.specs.Keys.{all-sorted, all-longer, all-has, fresh-count}
+use Rattle.rows.specs.Rows.{State, key, putAll, Below, freshIn, withRecord}
+use Rattle.rows.specs.Keys.{all-sorted, all-has, fresh-count}
 use Rattle.rows.specs.Marks.{marks-length}
 use Rattle.rows.specs.Laws.{Sound, GoodRecord, record-good, keys-of}
-use Rattle.layers.specs.Layers.{layersRoom, Layered, keysInside, keysWithout, keysLeft, layerKeys, layerRefusal, uncovered, withLayerRecord, layerRow, opened}
+use Rattle.layers.specs.Layers.{Layered, keysInside, keysWithout, keysLeft, layerKeys, layerRefusal, withLayerRecord, layerRow, opened}
 
 -- ---- members
 

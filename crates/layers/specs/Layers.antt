@@ -1,7 +1,7 @@
 -- A table of several layers over one list of names: what the layers together show, and which classes the topmost one records. Records go to the
 -- topmost layer alone; the first record of a class there takes the place of those below.
 use mathlib.Core.Path.{_≡_}
-use mathlib.Core.Bool.{Bool, cond}
+use mathlib.Core.Bool.{cond}
 use mathlib.Core.List.{List, [], _∷_}
 use Prim.Native.Nat.{ℕ, _+_, _*_, _/_, _≤_}
 use lib.Dec.{eqb}

@@ -1,20 +1,19 @@
 -- Laws of stacks: rows keep them upright, one layer is a plain table, and slices that hold a stack hold the next.
 use mathlib.Core.Path.{_≡_, refl, sym, ap, ap₂, _∙_, subst}
 use mathlib.Core.Bool.{Bool, true, false, cond}
-use mathlib.Core.List.{List, []}
-use Prim.Native.Nat.{ℕ, zero, suc, _+_, _*_, _≤_, _<_}
+use mathlib.Core.List.{List}
+use Prim.Native.Nat.{ℕ, _+_, _≤_}
 use native.Mathlib.Omega.{arith}
 use native.Mathlib.Decide.{ℕ-discrete}
 use lib.Dec.{eqb, leb}
 use lib.ListN.{length, take, replicate}
-use borrow.Author.Tests.{eq-eqb, ne-eqb, eqb-true, eqb-false, leb-true, leb-false}
-use Rattle.tables.specs.Table.{pairsRoom}
-use Rattle.rows.specs.Rows.{State, stateOf, recordRefusal, recordRow, filled}
+use borrow.Author.Tests.{ne-eqb, eqb-true, eqb-false, leb-false}
+use Rattle.rows.specs.Rows.{State, stateOf, recordRefusal, recordRow}
 use Rattle.rows.specs.Keys.{take-filled, length-filled}
 use Rattle.rows.specs.Laws.{Sound, record-refused, good-record}
 use Rattle.layers.specs.declared.StackTables.{StackTables}
 use Rattle.layers.specs.declared.StackOutcome.{StackOutcome}
-use Rattle.layers.specs.Layers.{layersRoom, Layered, keysInside, layerKeys, layerRefusal, layerRow, opened}
+use Rattle.layers.specs.Layers.{layersRoom, Layered, layerKeys, layerRefusal, layerRow, opened}
 use Rattle.layers.specs.Laws.{Stands, layer-refused, inside-none, stands-first, stands-next, stands-row}
 use Rattle.layers.specs.Stacks.{Stack, ground, topKeys, stackRefusal, stackRow, openRefusal, openRow, StackRan, Upright, stackOf, Holds, numbersOf, FillsStack, openedTables}
 

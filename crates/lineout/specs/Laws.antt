@@ -11,7 +11,7 @@ use lib.ListN.{length, take, drop, getD, set, length-append, length-map, take-ap
 use lib.Seq.{length-take-le, set-split, take-at, drop-at, drop-drop, drop-cons}
 use borrow.Author.Tests.{ltb-true, ltb-false, lt-ltb, le-ltb, eq-eqb, ne-eqb}
 use Rattle.ty.specs.Words.{unpack}
-use Rattle.lineout.specs.Printed.{decimalFrom, decimal, hexDigit, hexDigits, wordText, numberText, printed, variableLine, variableLines, refusalLine, Puts}
+use Rattle.lineout.specs.Printed.{decimalFrom, decimal, hexDigit, hexDigits, wordText, numberText, printed, variableLine, variableLines, Puts}
 
 -- ---- decimal
 

@@ -1,7 +1,7 @@
 // What is printed, into a lent buffer of which the first `filled` bytes wait to be written: numbers in decimal, words as 16 hex digits, lines.
 // Each function answers how many bytes wait after it.
 ghost use mathlib.Core.Path.{_≡_};
-ghost use mathlib.Core.List.{[], _∷_, _++_};
+ghost use mathlib.Core.List.{[], _∷_};
 ghost use Prim.Native.Nat.{_+_, _*_, _≤_, _<_};
 ghost use lib.ListN.{length};
 ghost use Rattle.lineout.specs.Printed.{decimal, hexDigit, hexDigits, wordText, numberText, printed, variableLine, variableLines, refusalLine, Puts};

@@ -1,13 +1,11 @@
 -- Names as places in a slice of bytes: name i stands at the i-th of one column and is as long as the i-th of another says.
 -- What a place must be, the order of names, their checks, and the number of a name.
-use mathlib.Core.Bool.{Bool, true, false, cond, not, _&&_, _||_}
+use mathlib.Core.Bool.{Bool, cond, not, _&&_, _||_}
 use mathlib.Core.List.{List, [], _∷_}
 use mathlib.Core.Option.{Option, some, none}
 use Prim.Native.Nat.{ℕ, zero, suc, _+_, _-_}
 use lib.Dec.{eqb, leb, ltb}
 use lib.ListN.{length, getD, take, drop}
-use Rattle.order.specs.declared.Order.{Order}
-use Rattle.order.specs.declared.Order.the-variants.{Less, Equal, Greater}
 use Rattle.order.specs.Compare.{isLess, isEqual, compareLists}
 use Rattle.utf8.specs.Utf8.{wellFormed}
 use Rattle.names.specs.declared.LookedUp.{LookedUp}

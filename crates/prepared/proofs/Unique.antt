@@ -4,7 +4,6 @@ use borrow.Fn.Kinds.{Dens, resT, endedOf}
 use denote.Triple.Clauses.{AtExit}
 use denote.Ref.{now}
 use contract.Lifetimes.{Lfts}
-use Rattle.tables.specs.Table.{viewOf}
 use Rattle.prepared.specs.Prepared.{laid-unique}
 use Rattle.prepared.proofs.reached_from.Reads as reached-from-reads
 use Rattle.prepared.proofs.reached_from.Kinds as reached-from-kinds

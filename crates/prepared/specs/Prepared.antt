@@ -1,13 +1,13 @@
 -- KEYS WITH ROWS BEHIND THEM. A slice of 20,480 words has the keys of a class table in its first 4,096 words and rows in the others; it is ready
 -- if every row that is there is what its class reaches. A slice of another length has no row, and is ready as it is.
-use mathlib.Core.Path.{_≡_, refl, sym, ap, ap₂, _∙_, subst}
-use mathlib.Core.Bool.{Bool, true, false, cond, _&&_, true≢false, false≢true}
-use mathlib.Core.List.{List, [], _∷_, _++_, append-nil}
-use Prim.Native.Nat.{ℕ, zero, suc, _+_, _-_, _*_, _≤_, _<_}
+use mathlib.Core.Path.{_≡_, refl, sym, ap, _∙_, subst}
+use mathlib.Core.Bool.{Bool, true, false, _&&_, true≢false, false≢true}
+use mathlib.Core.List.{List, [], _++_, append-nil}
+use Prim.Native.Nat.{ℕ, suc, _+_, _-_, _≤_, _<_}
 use native.Mathlib.Omega.{arith}
 use lib.Dec.{eqb, leb, ltb}
 use lib.ListN.{length, take, drop, getD, set, replicate, length-set, length-take, length-drop, length-append, length-replicate, getD-replicate, drop-of-length-le}
-use lib.Seq.{paste, paste-suc, take-all, take-paste, drop-paste, length-paste, drop-drop, take-append-le, drop-append-le, drop-at, take-at, getD-take, getD-drop, ext-getD, length-take-le}
+use lib.Seq.{paste, paste-suc, take-all, take-paste, drop-paste, length-paste, drop-drop, drop-at, getD-take, getD-drop, ext-getD, length-take-le}
 use borrow.Author.Tests.{eqb-true, leb-true, ltb-true, ne-eqb, eq-eqb, le-leb, lt-leb, lt-ltb, le-ltb}
 use borrow.Rule.Slice.PartMut.{putMid, same-len-mid}
 use Rattle.sets.specs.Sets.{member}

@@ -4,7 +4,6 @@ use running::start;
 use running::take_front;
 use tables::Tables;
 use turning::turn;
-ghost use mathlib.Core.Path.{_≡_};
 ghost use mathlib.Core.List.{map};
 ghost use lib.ListN.{take};
 ghost use Rattle.lattice.specs.World.{worldOf};

@@ -1,5 +1,5 @@
 -- WHAT A QUESTION THAT IS NOT REFUSED GIVES: all that the laws of a view, of a world and of types ask, of the rows that the columns' layers show.
-use mathlib.Core.Path.{_≡_, refl, ap, _∙_, sym, subst}
+use mathlib.Core.Path.{_≡_, refl, _∙_, sym, subst}
 use mathlib.Core.Bool.{Bool, true, false, cond, not}
 use mathlib.Core.List.{List, [], _∷_}
 use Prim.Native.Nat.{ℕ, _-_, _^_, _<_}

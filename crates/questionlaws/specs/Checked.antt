@@ -1,12 +1,12 @@
 -- THE CHECK OF A TABLE REFUSES WHAT EVERY QUESTION OVER IT REFUSES: with the same number, where the work is long enough and the numbers are those of
 -- classes, or types.
-use mathlib.Core.Path.{_≡_, refl, sym, ap, _∙_}
+use mathlib.Core.Path.{_≡_, refl, sym, _∙_}
 use mathlib.Core.Bool.{Bool, true, false, cond, not}
 use mathlib.Core.List.{List, [], _∷_}
 use mathlib.Core.Logic.{_↔_}
 use Prim.Native.Nat.{ℕ, zero, suc, _-_, _^_, _≤_}
 use native.Mathlib.Omega.{arith}
-use lib.Dec.{eqb, ltb}
+use lib.Dec.{eqb}
 use borrow.Author.Tests.{ne-eqb, le-ltb, eqb-true, eqb-false}
 use Rattle.checks.specs.Checks.{firstRefusal, orElse}
 use Rattle.columns.specs.Given.{Given, even}

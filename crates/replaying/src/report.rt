@@ -5,7 +5,6 @@ use crate::parts::number_at;
 use lineout::put_byte;
 use lineout::put_decimal;
 ghost use mathlib.Core.Bool.{cond};
-ghost use mathlib.Core.List.{[], _∷_};
 ghost use mathlib.Core.Path.{_≡_};
 ghost use Prim.Native.Nat.{_+_, _*_, _≤_};
 ghost use lib.ListN.{length};

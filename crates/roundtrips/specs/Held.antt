@@ -16,7 +16,7 @@ use Rattle.jvms.specs.Jvms as jvms
 use Rattle.jvms.specs.Jvms.{JavaType, Parameter, Signature}
 use Rattle.jvms.specs.Meaning.{typeRead, methodRead}
 use Rattle.writer.specs.Print.{printWord, printMethodWords}
-use Rattle.roundtrips.specs.ToWord.{toType, readAs, toWord, MethodType, methodType, MethodWords, methodWords, toTypes, toMethod, readMethodAs, toWords}
+use Rattle.roundtrips.specs.ToWord.{toType, readAs, toWord, methodType, MethodWords, methodWords, toTypes, toMethod, readMethodAs, toWords}
 use Rattle.roundtrips.specs.Round.{read-write-word, read-write-words}
 
 -- the table holds the type's class, if it has one

@@ -6,7 +6,7 @@ use Prim.Native.Nat.{ℕ, zero, suc, _+_, _/_, _%_, _≤_, _<_}
 use native.Mathlib.Omega.{arith}
 use lib.Dec.{eqb, leb, ltb}
 use lib.ListN.{length, getD}
-use borrow.Author.Tests.{ne-eqb, lt-ltb, le-ltb, ltb-true, ltb-false, leb-false, eqb-true, not-true, not-false}
+use borrow.Author.Tests.{ne-eqb, ltb-true, ltb-false, leb-false, eqb-true, not-true, not-false}
 use Rattle.order.specs.Truth.{both}
 use Rattle.order.specs.Lists.{elem}
 use Rattle.order.specs.Laws.{lists-same, lists-equal}

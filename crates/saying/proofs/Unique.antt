@@ -1,7 +1,5 @@
 -- The contract of the public function, as the check reads it, allows one outcome: the numbers, how much waits, and every lent slice.
 use mathlib.Core.Path.{_≡_, sym, ap, _∙_}
-use mathlib.Core.List.{List, _++_}
-use Prim.Native.Nat.{ℕ}
 use borrow.Fn.Kinds.{Dens, resT, endedOf}
 use denote.Triple.Clauses.{AtExit}
 use denote.Ref.{now}

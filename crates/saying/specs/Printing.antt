@@ -12,19 +12,19 @@ use lib.Seq.{length-take-le}
 use borrow.Author.Tests.{eqb-true, eqb-false}
 use Rattle.checks.specs.Checks.{firstRefusal}
 use Rattle.ty.specs.Types.{ArgType}
-use Rattle.ty.specs.Words.{legalWord, legalBase, typeOf, wordOf}
+use Rattle.ty.specs.Words.{legalWord, legalBase, wordOf}
 use Rattle.ty.specs.Round.{legal-of-type}
 use Rattle.view.specs.declared.Relation.{Relation}
 use Rattle.view.specs.declared.Relation.the-variants.{Yes, No, Unknown}
 use Rattle.view.specs.View.{numberOf, relation, relationNumber, supertype}
 use Rattle.tables.specs.declared.Tables.{Tables}
-use Rattle.tables.specs.Table.{viewOf, view-good}
+use Rattle.tables.specs.Table.{view-good}
 use Rattle.lattice.specs.Lattice.{World, Lawful}
-use Rattle.lattice.specs.World.{present, worldOf, with-lawful}
-use Rattle.rows.specs.Rows.{allBelow, State, filled}
+use Rattle.lattice.specs.World.{present, with-lawful}
+use Rattle.rows.specs.Rows.{allBelow, filled}
 use Rattle.rows.specs.Keys.{take-filled}
 use Rattle.tableview.specs.Inner.{stateView, stateWorld}
-use Rattle.solving.specs.Solving.{Table, Problem, stateOf, resolveState, answers, Solution, Unsolved, Solved, solve}
+use Rattle.solving.specs.Solving.{Table, stateOf, resolveState, answers, Solution, Unsolved, Solved, solve}
 use Rattle.solving.specs.Solve.{solve-ended, solve-legal, solve-answers}
 use Rattle.answerlaws.specs.Legal.{answer-legal, state-legal}
 use Rattle.problems.specs.Held.{held-checked}
@@ -32,8 +32,8 @@ use Rattle.answering.specs.Answering.{answerWord}
 use Rattle.lineout.specs.Printed.{decimal, wordText, numberText, printed, variableLines, refusalLine, Puts}
 use Rattle.lineout.specs.Laws.{word-none, word-some, number-none, number-some, puts-as}
 use Rattle.frames.specs.Frames as frames
-use Rattle.frames.specs.Frames.{Store, shown, Question, Relating, Supertyping, Casting, Message, naming, recording, opening, row, solving, asking, kindOf, bodyOf, messageOf, rankOf, askChecks, messageRefusal, frameChecks, stepped, answer, accepted, solvedStep, frameBytes, frame}
-use Rattle.frames.specs.Typeline.{wordOrDash, numberOrDash, printAnswers, print}
+use Rattle.frames.specs.Frames.{Store, shown, Relating, Supertyping, Casting, Message, naming, recording, opening, row, solving, asking, kindOf, bodyOf, messageOf, rankOf, askChecks, messageRefusal, frameChecks, stepped, answer, accepted, solvedStep, frameBytes, frame}
+use Rattle.frames.specs.Typeline.{wordOrDash, printAnswers, print}
 use Rattle.hexline.specs.Hex.{hexBytes}
 use Rattle.framelaws.specs.Reached.{Sound, passed, by-if}
 use Rattle.framestate.specs.declared.Numbers.{Numbers}

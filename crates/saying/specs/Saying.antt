@@ -5,7 +5,6 @@ use Prim.Native.Nat.{ℕ}
 use Rattle.lineout.specs.Printed.{numberText, printed, variableLines, refusalLine, Puts}
 use Rattle.frames.specs.Frames.{Store, frame}
 use Rattle.frames.specs.Typeline.{print}
-use Rattle.framestate.specs.declared.Numbers.{Numbers}
 use Rattle.framestate.specs.declared.Said.{Said}
 use Rattle.framestate.specs.declared.Said.the-variants.{Accepted, Solved, Related, Supertyped, Castable, Refused}
 use Rattle.framestate.specs.FrameState.{Slices, Shows, answersAfter}

@@ -6,7 +6,7 @@ use lineout::put_refusal;
 use lineout::put_variables;
 use stepping::frame;
 ghost use mathlib.Core.Path.{_≡_};
-ghost use Prim.Native.Nat.{_+_, _*_, _≤_};
+ghost use Prim.Native.Nat.{_+_, _≤_};
 ghost use lib.ListN.{length};
 ghost use Rattle.lineout.specs.Printed.{Puts};
 ghost use Rattle.framestate.specs.FrameState.{storeOf};

@@ -7,7 +7,7 @@ use Prim.Native.Nat.{ℕ}
 use lib.Dec.{eqb}
 use lib.ListN.{length, replicate}
 use borrow.Author.Tests.{ne-eqb, ltb-false}
-use Rattle.checks.specs.Checks.{check, firstRefusal}
+use Rattle.checks.specs.Checks.{firstRefusal}
 use Rattle.view.specs.View.{View}
 use Rattle.lattice.specs.World.{worldOf}
 use Rattle.rows.specs.declared.Outcome.{Outcome}
@@ -18,7 +18,7 @@ use Rattle.stackview.specs.LayerRows.{shownIn}
 use Rattle.stackview.specs.LayerRefusals.{stackRefusalOf}
 use Rattle.stackview.specs.Shown.{checkedStack}
 use Rattle.solving.specs.declared.Counts.{Counts}
-use Rattle.solving.specs.Solving.{Solution, Unsolved, solve}
+use Rattle.solving.specs.Solving.{Solution, Unsolved}
 use Rattle.problems.specs.Problems.{Columns, evenProblem}
 use Rattle.problemcolumns.specs.ProblemColumns.{evenRows}
 use Rattle.problemcolumns.specs.Steps.{even-rows}

@@ -1,5 +1,5 @@
 -- WHAT THE FRAME OF A SOLVE LEAVES IS WHAT THE DEFINITION SAYS, from a state that lines lead to.
-use mathlib.Core.Path.{_≡_, refl, sym, ap, ap₂, _∙_, subst}
+use mathlib.Core.Path.{_≡_, refl, sym, ap, _∙_, subst}
 use mathlib.Core.Bool.{Bool, true, false, cond}
 use mathlib.Core.List.{List}
 use mathlib.Core.Logic.{_⊎_, ⊎-elim}
@@ -7,11 +7,9 @@ use Prim.Native.Nat.{ℕ, _-_, _^_}
 use native.Mathlib.Omega.{arith}
 use lib.Dec.{eqb}
 use lib.ListN.{length, take}
-use lib.Seq.{take-take}
 use borrow.Author.Tests.{eq-eqb, ne-eqb}
 use Rattle.checks.specs.Checks.{firstRefusal}
 use Rattle.view.specs.View.{View}
-use Rattle.tables.specs.Table.{parentsOf, viewOf}
 use Rattle.lattice.specs.Lattice.{World}
 use Rattle.lattice.specs.World.{present, worldWith, worldOf}
 use Rattle.rows.specs.Rows.{allBelow}
@@ -20,12 +18,12 @@ use Rattle.solving.specs.declared.Counts.{Counts}
 use Rattle.solving.specs.Solving.{Problem, Solution, Unsolved, Solved as Solution-of, solve}
 use Rattle.solves.specs.SolveResult as results
 use Rattle.frames.specs.Frames as frames
-use Rattle.frames.specs.Frames.{Store, shown, Stepped, solving, askChecks, messageRefusal, stepped, solvedStep, accepted, withMessage}
+use Rattle.frames.specs.Frames.{Store, shown, solving, askChecks, messageRefusal, stepped, solvedStep, accepted, withMessage}
 use Rattle.framelaws.specs.Numbers.{solve-number}
 use Rattle.framestate.specs.declared.Numbers.{Numbers}
 use Rattle.framestate.specs.declared.Framed.{Framed}
 use Rattle.framestate.specs.declared.Said.the-variants.{Solved, Refused}
-use Rattle.framestate.specs.FrameState.{Slices, storeOf, Within, Ready, numbersOf, Shows, saidOf, answersAfter, Leaves, messageStep, askNumbers, framed}
+use Rattle.framestate.specs.FrameState.{Slices, storeOf, Within, Ready, saidOf, answersAfter, Leaves, messageStep, askNumbers, framed}
 use Rattle.frameleaves.specs.Own.{refused-leaves}
 use Rattle.frameleaves.specs.Classes.{view-front, ask-shows}
 use Rattle.solveframe.specs.Parts.{slicesOf, problemIn, cutProblem, cut-problem}

@@ -1,5 +1,5 @@
 -- THE STATE OF FRAMES IN FOUR SLICES: the rows of a problem stand in parts of one slice, each with room for its limit.
-use mathlib.Core.Path.{_≡_, refl, sym, ap, _∙_, subst}
+use mathlib.Core.Path.{_≡_, sym, ap, _∙_, subst}
 use mathlib.Core.List.{List, map}
 use Prim.Native.Nat.{ℕ, _+_, _-_, _≤_}
 use native.Mathlib.Omega.{arith}

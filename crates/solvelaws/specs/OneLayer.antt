@@ -1,11 +1,11 @@
 -- ONE LAYER IS AS BEFORE, of a solve: where no row opens a layer, a solve over slices is refused by the rows of a plain table, and else is the solve
 -- over its world.
-use mathlib.Core.Path.{_≡_, refl, ap}
+use mathlib.Core.Path.{_≡_, refl}
 use mathlib.Core.Bool.{Bool, true, false, cond, not}
-use mathlib.Core.List.{List, [], _∷_}
+use mathlib.Core.List.{[], _∷_}
 use Prim.Native.Nat.{ℕ, _-_, _^_}
 use lib.Dec.{eqb}
-use Rattle.checks.specs.Checks.{Check, check, firstRefusal}
+use Rattle.checks.specs.Checks.{check, firstRefusal}
 use Rattle.columns.specs.Given.{Given, even}
 use Rattle.tableview.specs.TableRows.{rowsView, rowsWorld, rowsIn}
 use Rattle.tableview.specs.RowRefusals.{tableRefusal}

@@ -1,5 +1,5 @@
 -- What a solve asks of its tables, what it leaves, and that what a run leaves is that.
-use mathlib.Core.Path.{_≡_, refl, sym, ap, _∙_, subst}
+use mathlib.Core.Path.{_≡_, sym, ap, _∙_, subst}
 use mathlib.Core.Bool.{cond}
 use mathlib.Core.List.{List, [], _++_, map}
 use Prim.Native.Nat.{ℕ, _≤_}
@@ -21,7 +21,7 @@ use Rattle.solving.specs.Queue.{Below}
 use Rattle.solving.specs.Tidy.{Tidy, Among}
 use Rattle.solving.specs.TableKeys.{Holds, keyOf, keysOf, boundOf}
 use Rattle.solving.specs.Solving.{Table, Finish, Stopped, Ended, propagate, room}
-use Rattle.inserting.specs.Store.{Store, store}
+use Rattle.inserting.specs.Store.{store}
 use Rattle.rules.specs.Rules.{linksIn}
 use Rattle.running.specs.Running.{Leaves}
 use Rattle.running.specs.Laws.{load-holds}

@@ -1,8 +1,8 @@
 -- WITH ROWS OR WITHOUT: the classes that the given bounds speak of, when rows are made, and that they change nothing.
-use mathlib.Core.Path.{_≡_, refl, sym, ap, _∙_, subst}
-use mathlib.Core.Bool.{Bool, true, false, _||_, true≢false, false≢true}
+use mathlib.Core.Path.{_≡_, sym, ap, _∙_, subst}
+use mathlib.Core.Bool.{Bool, true, false, true≢false}
 use mathlib.Core.List.{List}
-use Prim.Native.Nat.{ℕ, _*_, _≤_, _<_}
+use Prim.Native.Nat.{ℕ, _≤_, _<_}
 use native.Mathlib.Omega.{arith}
 use native.Mathlib.Decide.{ℕ-discrete}
 use lib.ListN.{length, replicate}
@@ -13,7 +13,7 @@ use Rattle.tables.specs.Table.{pairsRoom, viewOf}
 use Rattle.view.specs.View.{View}
 use Rattle.lattice.specs.Lattice.{World}
 use Rattle.lattice.specs.World.{present, worldWith, worldOf}
-use Rattle.prepared.specs.Prepared.{tableRoom, Prepared, Laid, plain-prepared, laid-view, laid-prepared}
+use Rattle.prepared.specs.Prepared.{tableRoom, Laid, plain-prepared, laid-view, laid-prepared}
 use Rattle.resolving.specs.Bounds.{Classes, Classed}
 use Rattle.solving.specs.declared.Counts.{Counts}
 use Rattle.solving.specs.Solving.{Problem, solve}

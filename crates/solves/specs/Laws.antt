@@ -1,11 +1,11 @@
 -- FROM A PROBLEM THAT SLICES KEEP TO ITS SOLVE: what is kept is what the run asks, the run is that of the definition, and what it leaves,
 -- written out, is what a solve leaves.
 use mathlib.Core.Path.{_≡_, refl, sym, ap, ap₂, _∙_, subst}
-use mathlib.Core.List.{List, [], _∷_, _++_, map, List·Memᴰ, List·Memᴰ·head, List·Memᴰ·tail}
+use mathlib.Core.List.{List, [], _∷_, map, List·Memᴰ, List·Memᴰ·head, List·Memᴰ·tail}
 use mathlib.Core.Logic.{_⊎_, inl, inr, ⊎-elim}
 use Prim.Native.Nat.{ℕ, _+_, _-_, _≤_, _<_}
 use native.Mathlib.Omega.{arith}
-use lib.ListN.{length, length-map, take, drop}
+use lib.ListN.{length, length-map, take}
 use lib.Seq.{paste}
 use Rattle.sorted.specs.Sorted.{Sorted}
 use Rattle.ty.specs.Words.{wordOf}
@@ -27,11 +27,9 @@ use Rattle.solving.specs.Tidy.{Tidy, Among, propagate-tidy}
 use Rattle.solving.specs.TableKeys.{Holds, keyOf, keysOf, boundOf, AllKeyed, bound-back, tidy-keyed}
 use Rattle.solving.specs.LinkKeys.{pairOf}
 use Rattle.solving.specs.Solve.{Checked, checked-among, checked-tidy, answers-length}
-use Rattle.solving.specs.Solving.{Bound, Table, compareBounds, comparePairs, Links, linksOf, tableOf, room, Problem, Finish, Stopped, Ended, propagate, Solution, Unsolved, Solved as Solution-of, solution, solve, answers}
-use Rattle.problems.specs.Held.{Held}
+use Rattle.solving.specs.Solving.{Bound, Table, compareBounds, comparePairs, Links, linksOf, tableOf, room, Problem, Finish, Stopped, Ended, propagate, Solution, solution, solve, answers}
 use Rattle.problems.specs.Kept.{problemOf, Keeps, keeps-checked, keeps-flows, kept-below, keeps-few}
 use Rattle.rules.specs.Rules.{linksIn}
-use Rattle.copying.specs.Copies.{wordIn}
 use Rattle.copying.specs.Steps.{paste-front}
 use Rattle.resolving.specs.Bounds.{Classed}
 use Rattle.answering.specs.Answering.{tableIn, Final, answerWord, answerWords}
@@ -40,7 +38,7 @@ use Rattle.solver.specs.Solver.{Solvable, counted, Solved}
 use Rattle.linking.specs.Linking.{incomingOf}
 use Rattle.linking.specs.Laws.{incoming-sorted, incoming-most, incoming-links}
 use Rattle.columnsout.specs.Columns.{front, Written}
-use Rattle.solves.specs.SolveResult.{Lent, lent, Roomy, countsOf, answersAfter, columnAfter, componentsAfter, kindsAfter, typesAfter, Solves}
+use Rattle.solves.specs.SolveResult.{Lent, countsOf, answersAfter, componentsAfter, kindsAfter, typesAfter, Solves}
 
 minus-none : (n : ℕ) → n - 0 ≡ n
 minus-none n = omega arith

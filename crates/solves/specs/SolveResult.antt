@@ -6,7 +6,7 @@ use lib.ListN.{length, replicate}
 use Rattle.ty.specs.Words.{wordOf}
 use Rattle.rows.specs.Rows.{filled}
 use Rattle.solving.specs.declared.Counts.{Counts}
-use Rattle.solving.specs.Solving.{Bound, Table, room, Solution, Unsolved, Solved}
+use Rattle.solving.specs.Solving.{Bound, room, Solution, Unsolved, Solved}
 use Rattle.solver.specs.Solver.{counted}
 use Rattle.answering.specs.Answering.{answerWord}
 

@@ -1,8 +1,7 @@
 -- THE TABLE OF COLUMNS HAS THE VIEW AND THE WORLD OF THE ROWS THAT ITS LAYERS SHOW, wherever it is taken.
 use mathlib.Core.Path.{_≡_, refl}
 use mathlib.Core.Bool.{Bool, true, false, cond}
-use mathlib.Core.List.{List, []}
-use Prim.Native.Nat.{ℕ}
+use mathlib.Core.List.{[]}
 use lib.Dec.{eqb}
 use lib.ListN.{length}
 use borrow.Author.Tests.{eqb-true, eqb-false}

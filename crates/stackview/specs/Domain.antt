@@ -6,27 +6,26 @@ use mathlib.Core.List.{List, [], _∷_, List·Memᴰ, List·Memᴰ·head, List·
 use mathlib.Core.Logic.{_↔_, ⊎-elim}
 use Prim.Native.Nat.{ℕ, zero, suc, _+_, _-_, _^_, _≤_, _<_}
 use native.Mathlib.Omega.{arith}
-use lib.Dec.{eqb, leb}
+use lib.Dec.{eqb}
 use lib.ListN.{length, take, drop, getD, length-take, length-drop}
 use borrow.Author.Tests.{eqb-true, eqb-false, lt-leb}
 use Rattle.order.specs.Compare.{compareLists}
 use Rattle.order.specs.declared.Order.the-variants.{Less}
 use Rattle.rows.specs.declared.Outcome.{Outcome}
 use Rattle.rows.specs.Rows.{objectName, noTables, State, recordRefusal, putAll}
-use Rattle.columns.specs.Columns.{inside, nameRows}
+use Rattle.columns.specs.Columns.{nameRows}
 use Rattle.columns.specs.Laws.{names-good}
 use Rattle.columns.specs.Names.{names-counted}
 use Rattle.columns.specs.Given.{Given, noMarks}
-use Rattle.layers.specs.Layers.{opened}
-use Rattle.layers.specs.Stacks.{Stack, StackRan, ground, topKeys, stackRefusal, stackRow, openRefusal, openRow, Upright}
-use Rattle.layers.specs.StackLaws.{upright-ground, upright-row, refusal-top}
-use Rattle.layercolumns.specs.LayerColumns.{openFlags, openingRow, placedRow, stackRows, stackTable}
+use Rattle.layers.specs.Stacks.{Stack, StackRan, ground, topKeys, stackRefusal, stackRow, openRefusal, Upright}
+use Rattle.layers.specs.StackLaws.{upright-ground, refusal-top}
+use Rattle.layercolumns.specs.LayerColumns.{openFlags, placedRow, stackRows, stackTable}
 use Rattle.layercolumns.specs.Laws.{row-opens, row-records, opening-good}
 use Rattle.tableview.specs.TableRows.{Record, Rows, rowsView, namesOf, recordsOf, rowsIn}
 use Rattle.tableview.specs.RowRefusals.{different}
 use Rattle.tableview.specs.Canonical.{joined}
 use Rattle.tableview.specs.Agrees.{names-length}
-use Rattle.tableview.specs.Domain.{GoodName, GoodRow, pairsOf, Aligned, Placed, inside-plain, row, record-exactly, keysFrom, from-longer, pairs-counted, NamesFit, names-exactly, object-there}
+use Rattle.tableview.specs.Domain.{GoodName, GoodRow, pairsOf, Aligned, Placed, inside-plain, row, record-exactly, keysFrom, from-longer, pairs-counted, names-exactly, object-there}
 use Rattle.stackview.specs.LayerRows.{opensLayer, shownTable, shownIn}
 use Rattle.stackview.specs.LayerViews.{lowestLayer, layersAbove, open-lowest, open-layers, record-lowest, record-layers}
 use Rattle.stackview.specs.Taken.{taken-inside, opened-plain, opened-taken, recording, taken-upright}

@@ -1,6 +1,6 @@
 -- THE SAME IN OTHER WORDS, those of hierarchy.rs: a lookup goes through the layers from the topmost down. Parents come from the first layer that
 -- records the class, facts, apart from that, from the first that declares it. The rows that the layers show say just this.
-use mathlib.Core.Path.{_≡_, refl, sym, ap, ap₂, _∙_}
+use mathlib.Core.Path.{_≡_, refl, sym, ap, _∙_}
 use mathlib.Core.Bool.{Bool, true, false, cond, _||_, true≢false}
 use mathlib.Core.List.{List, [], _∷_, _++_}
 use mathlib.Core.Option.{Option, some, none}
@@ -10,10 +10,10 @@ use lib.Dec.{eqb}
 use borrow.Author.Tests.{eq-eqb, ne-eqb}
 use Rattle.sorted.specs.Sorted.{put}
 use Rattle.view.specs.View.{View}
-use Rattle.tableview.specs.TableRows.{Record, isRecorded, listedParents, setOf, declares, later, lastDeclared, factFrom, anyFlags, interfaceFlag, finalFlag, rowsView}
+use Rattle.tableview.specs.TableRows.{Record, isRecorded, listedParents, setOf, declares, lastDeclared, factFrom, anyFlags, interfaceFlag, finalFlag, rowsView}
 use Rattle.tableview.specs.Taken.{fact-later}
 use Rattle.stackview.specs.LayerRows.{opensLayer, hasRecord, recordedAbove, hidden, shownRows}
-use Rattle.stackview.specs.Taken.{open-shown, open-has, open-above, record-shown, record-has, record-above, hidden-recorded, hidden-declared, shown-recorded}
+use Rattle.stackview.specs.Taken.{shown-recorded}
 
 -- ---- what one layer says, and a layer over a table
 

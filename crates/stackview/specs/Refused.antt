@@ -2,7 +2,7 @@
 use mathlib.Core.Path.{_≡_, refl, sym, ap, ap₂, _∙_, subst}
 use mathlib.Core.Bool.{Bool, true, false, cond, not, _&&_}
 use mathlib.Core.List.{List, [], _∷_, _++_}
-use Prim.Native.Nat.{ℕ, suc, _+_, _≤_, _<_}
+use Prim.Native.Nat.{ℕ, _+_, _≤_}
 use native.Mathlib.Omega.{arith}
 use native.Mathlib.Decide.{ℕ-discrete}
 use lib.Dec.{eqb, leb}
@@ -11,17 +11,17 @@ use borrow.Author.Tests.{eq-eqb, ne-eqb, eqb-true, eqb-false}
 use Rattle.checks.specs.Checks.{firstRefusal, orElse, else-none, else-some}
 use Rattle.names.specs.Names.{checkRows}
 use Rattle.rows.specs.declared.Outcome.{Outcome}
-use Rattle.rows.specs.Rows.{noTables, putAll, State, recordRow, withRecord, recordRefusal}
-use Rattle.rows.specs.Laws.{Sound, GoodRecord, record-good, record-taken}
+use Rattle.rows.specs.Rows.{noTables, putAll, State, withRecord}
+use Rattle.rows.specs.Laws.{record-good, record-taken}
 use Rattle.columns.specs.Columns.{inside, nameRows}
 use Rattle.columns.specs.Laws.{names-good}
 use Rattle.columns.specs.Names.{names-agree}
 use Rattle.columns.specs.Given.{Given, noMarks}
-use Rattle.layers.specs.Layers.{Layered, layerKeys, layerRow, withLayerRecord, opened}
+use Rattle.layers.specs.Layers.{Layered, layerKeys, withLayerRecord, opened}
 use Rattle.layers.specs.Laws.{inside-none, layer-taken, layer-keys-now}
-use Rattle.layers.specs.Stacks.{Stack, StackRan, ground, topKeys, stackRefusal, stackRow, openRefusal, openRow, Upright}
+use Rattle.layers.specs.Stacks.{Stack, StackRan, ground, topKeys, stackRefusal, stackRow, openRefusal, Upright}
 use Rattle.layers.specs.StackLaws.{top-lowest, top-layer, upright-stands, upright-ground, row-lowest, row-layer, refusal-lowest, refusal-layer, refusal-top}
-use Rattle.layercolumns.specs.LayerColumns.{openFlags, openingRow, placedRow, stackRows, stackTable}
+use Rattle.layercolumns.specs.LayerColumns.{openFlags, placedRow, stackRows, stackTable}
 use Rattle.layercolumns.specs.Laws.{row-outside, row-opens, row-records, opening-classed, opening-listed, opening-good}
 use Rattle.tableview.specs.TableRows.{namesOf}
 use Rattle.tableview.specs.RowRefusals.{Pair, listed, rowChecks}

@@ -13,7 +13,6 @@ use Rattle.names.specs.Names.{next}
 use Rattle.view.specs.View.{View, numberOf}
 use Rattle.tables.specs.declared.Tables.{Tables}
 use Rattle.tables.specs.Table.{marksRoom, parentsOf, viewOf}
-use Rattle.lattice.specs.Lattice.{World}
 use Rattle.lattice.specs.World.{present, worldWith, worldOf}
 use Rattle.rows.specs.declared.Outcome.{Outcome}
 use Rattle.rows.specs.Rows.{objectName, State, stateOf}

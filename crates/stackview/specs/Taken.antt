@@ -1,25 +1,24 @@
 -- What rows that are taken leave, in the words of the rows that their layers show: the pairs are those that shown rows list, the marks those that
 -- rows tell.
 use mathlib.Core.Path.{_≡_, refl, sym, ap, ap₂, _∙_, subst}
-use mathlib.Core.Bool.{Bool, true, false, cond, not, _&&_, _||_, false≢true, or-false}
-use mathlib.Core.List.{List, [], _∷_, _++_, map}
-use mathlib.Core.Option.{Option, some, none}
-use Prim.Native.Nat.{ℕ, suc, _+_, _*_, _/_, _%_, _≤_, _<_}
+use mathlib.Core.Bool.{Bool, true, false, cond, not, _&&_, _||_, false≢true}
+use mathlib.Core.List.{List, [], _∷_, _++_}
+use mathlib.Core.Option.{Option}
+use Prim.Native.Nat.{ℕ, _+_, _/_, _%_, _≤_, _<_}
 use native.Mathlib.Omega.{arith}
 use native.Mathlib.Decide.{ℕ-discrete}
 use lib.Dec.{eqb, leb}
-use lib.ListN.{length, take, drop, replicate}
+use lib.ListN.{length, take, drop}
 use borrow.Author.Tests.{eq-eqb, ne-eqb, eqb-true, eqb-false, lt-leb, leb-false}
 use Rattle.order.specs.Lists.{elem}
-use Rattle.sets.specs.Sets.{member, insert}
+use Rattle.sets.specs.Sets.{member}
 use Rattle.sets.specs.Laws.{member-empty, member-insert}
-use Rattle.tables.specs.declared.Tables.{Tables}
 use Rattle.tables.specs.Table.{namesRoom}
-use Rattle.rows.specs.Rows.{State, key, putAll, isMarked, recordMarks, recordRefusal, recordRow, withRecord, Below}
+use Rattle.rows.specs.Rows.{State, key, putAll, isMarked, recordMarks, withRecord}
 use Rattle.rows.specs.Keys.{all-has}
 use Rattle.rows.specs.Laws.{Sound, GoodRecord, record-good, record-taken}
 use Rattle.columns.specs.Columns.{inside}
-use Rattle.layers.specs.Layers.{Layered, keysWithout, keysLeft, withLayerRecord, layerRow, opened}
+use Rattle.layers.specs.Layers.{Layered, keysWithout, keysLeft, withLayerRecord, opened}
 use Rattle.layers.specs.Laws.{elem-without, layer-taken}
 use Rattle.layers.specs.Stacks.{Stack, StackRan, ground, topKeys, stackRefusal, stackRow, openRefusal, openRow, Upright}
 use Rattle.layers.specs.StackLaws.{upright-ground, upright-row, upright-open, row-lowest, row-layer, refusal-lowest, refusal-layer, refusal-top}

@@ -1,24 +1,24 @@
 -- WHAT A STATE THAT LINES LEAD TO GIVES EACH FRAME of what it asks for; and what a head that is not refused says of kind and body.
-use mathlib.Core.Path.{_≡_, refl, sym, ap, _∙_, subst}
+use mathlib.Core.Path.{_≡_, refl, sym, ap, _∙_}
 use mathlib.Core.Bool.{Bool, true, false, cond, not, _&&_, _||_}
-use mathlib.Core.List.{List, map}
-use mathlib.Core.Logic.{_⊎_, inl, inr, ⊎-elim}
+use mathlib.Core.List.{List}
+use mathlib.Core.Logic.{_⊎_, ⊎-elim}
 use Prim.Native.Nat.{ℕ, _+_, _-_, _%_, _≤_, _<_}
 use native.Mathlib.Omega.{arith}
 use lib.Dec.{eqb, leb, ltb}
-use lib.ListN.{length, take, length-map}
+use lib.ListN.{length, take}
 use borrow.Author.Tests.{ne-eqb, lt-leb, eqb-true, eqb-false, leb-true, ltb-false}
 use Rattle.order.specs.Truth.{both}
 use Rattle.checks.specs.Checks.{firstRefusal}
 use Rattle.sorted.specs.Sorted.{Sorted}
 use Rattle.layers.specs.Stacks.{Holds}
 use Rattle.problems.specs.Kept.{keeps-bounds, keeps-flows, keeps-uppers, keeps-reads, keeps-writes}
-use Rattle.frames.specs.Frames.{badKind, goodLength, rankOf, badOrder}
+use Rattle.frames.specs.Frames.{badKind, goodLength, badOrder}
 use Rattle.framelaws.specs.Reached.{order-says}
 use Rattle.framestate.specs.declared.Numbers.{Numbers}
 use Rattle.framestate.specs.FrameState.{Slices, Ready}
 use Rattle.frameleaves.specs.Own.{own-layers, many-reads, many-writes}
-use Rattle.solveframe.specs.Parts.{part, problemRoom, slicesOf}
+use Rattle.solveframe.specs.Parts.{part, slicesOf}
 use Rattle.frameheads.specs.Heads.{headRefusal}
 
 -- ---- the head

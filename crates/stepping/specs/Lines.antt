@@ -1,7 +1,7 @@
 -- FROM THE BYTES OF A LINE TO THE STEP OF ITS FRAME: HEX, the head, the message.
 use mathlib.Core.Path.{_≡_, refl, sym, ap, ap₂, _∙_, subst}
 use mathlib.Core.Bool.{Bool, true, false, cond, true≢false}
-use mathlib.Core.List.{List, [], _∷_, _++_}
+use mathlib.Core.List.{List, [], _∷_}
 use mathlib.Core.Option.{Option, some, none}
 use Prim.Native.Nat.{ℕ, suc, _-_, _≤_}
 use native.Mathlib.Omega.{arith}
@@ -11,12 +11,12 @@ use lib.Seq.{take-at, take-all}
 use borrow.Author.Tests.{eq-eqb, ne-eqb, ltb-false}
 use Rattle.hexline.specs.Hex.{hexBytes, badHex, bytesOf, inFront, Reads}
 use Rattle.frames.specs.Frames as frames
-use Rattle.frames.specs.Frames.{Store, Stepped, kindOf, bodyOf, messageOf, stepped, frame}
+use Rattle.frames.specs.Frames.{Store, Stepped, kindOf, bodyOf, stepped, frame}
 use Rattle.framelaws.specs.Reached.{BytesIn, MaybeBytes, hex-bytes, drop-bytes}
 use Rattle.framestate.specs.declared.Numbers.{Numbers}
 use Rattle.framestate.specs.declared.Framed.{Framed}
 use Rattle.framestate.specs.declared.Said.the-variants.{Refused}
-use Rattle.framestate.specs.FrameState.{Slices, storeOf, Ready, Leaves, messageStep, framed}
+use Rattle.framestate.specs.FrameState.{Slices, storeOf, Ready, Leaves, framed}
 use Rattle.frameleaves.specs.Own.{refused-leaves}
 use Rattle.frameleaves.specs.Again.{ready-after}
 use Rattle.solveframe.specs.Parts.{slicesOf, sized}

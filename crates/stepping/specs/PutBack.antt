@@ -4,7 +4,7 @@ use mathlib.Core.List.{List, [], _∷_, _++_}
 use Prim.Native.Nat.{ℕ, zero, suc, _+_, _-_, _≤_}
 use native.Mathlib.Omega.{arith}
 use native.Mathlib.Nat.{zero-add, suc-add}
-use lib.ListN.{length, take, drop, length-drop}
+use lib.ListN.{length, take, drop}
 use lib.Seq.{take-take, take-at, drop-at, drop-drop, drop-nil, length-take-le}
 use borrow.Rule.Slice.PartMut.{putMid, postOf, take-put, drop-put}
 use Rattle.solveframe.specs.Parts.{part, problemRoom, slicesOf, part-length}

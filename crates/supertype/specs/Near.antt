@@ -1,9 +1,9 @@
 -- WHICH CLASSES OF A SET TWO SIDES REACH FIRST, level by level, and that the nearest of them is the nearest of the set. Over any good view.
 use mathlib.Core.Path.{_≡_, refl, sym, ap, ap₂, _∙_, subst}
-use mathlib.Core.Bool.{Bool, true, false, cond, _&&_, _||_, true≢false, false≢true, and-eq-true-iff}
+use mathlib.Core.Bool.{Bool, true, false, cond, _&&_, _||_, true≢false, and-eq-true-iff}
 use mathlib.Core.List.{List}
 use mathlib.Core.Logic.{_⊎_, inl, inr, ⊎-elim}
-use Prim.Native.Nat.{ℕ, suc, _+_, _-_, _≤_, _<_, max}
+use Prim.Native.Nat.{ℕ, _+_, _≤_, _<_, max}
 use native.Mathlib.Decide.{decLt, ℕ-discrete}
 use native.Mathlib.Numerals.{add-one}
 use native.Mathlib.Omega.{arith}
@@ -14,11 +14,11 @@ use Rattle.sets.specs.Sets.{at, member, insert, remove, unite, intersect, subtr
 use Rattle.sets.specs.Bits.{first-le}
 use Rattle.sets.specs.Laws.{member-unite, length-unite, member-intersect, length-intersect, length-remove, lowest-member, lowest-least, lowest-none}
 use Rattle.view.specs.View.{View, withParents, grow, level, reach, steps, far, distance, distanceOr, ancestor, nearer}
-use Rattle.view.specs.Grow.{Formed, member-le}
-use Rattle.view.specs.Reach.{Good, level-formed, level-grows, level-path, path-level, path-reach, steps-least, steps-path, steps-below}
+use Rattle.view.specs.Grow.{Formed}
+use Rattle.view.specs.Reach.{Good, level-formed, level-path, path-level, path-reach, steps-least, steps-path, steps-below}
 use Rattle.view.specs.Ancestors.{ancestor-exactly, ancestor-reach, distance-reached, distance-object}
 use Rattle.view.specs.Supertype.{Common}
-use Rattle.view.specs.Frontier.{Expanded, frontier, expanded-next, part-next, member-lt}
+use Rattle.view.specs.Frontier.{Expanded, frontier, expanded-next, part-next}
 use Rattle.view.specs.Nearest.{greater, sum, nearer-exactly}
 use Rattle.view.specs.Pick.{NearestOf}
 use Rattle.view.specs.Lows.{remove-in, remove-only}

@@ -2,10 +2,10 @@
 -- the lowest, and what it reaches is not. Only what no such class reaches is left to be looked at: it stands on a cycle or above
 -- one. Over any good view.
 use mathlib.Core.Path.{_≡_, refl, sym, ap, ap₂, _∙_, subst}
-use mathlib.Core.Bool.{Bool, true, false, _&&_, _||_, true≢false, false≢true, and-eq-true-iff, or-true}
-use mathlib.Core.List.{List, List·Memᴰ}
+use mathlib.Core.Bool.{Bool, true, false, _&&_, _||_, true≢false, and-eq-true-iff, or-true}
+use mathlib.Core.List.{List}
 use mathlib.Core.Logic.{_⊎_, inl, inr, ⊎-elim}
-use Prim.Native.Nat.{ℕ, _≤_, _<_}
+use Prim.Native.Nat.{ℕ, _<_}
 use native.Mathlib.Decide.{ℕ-discrete}
 use native.Mathlib.Omega.{arith}
 use lib.ListN.{length, replicate}

@@ -1,20 +1,18 @@
 -- What is left of a set without the classes that reach a class, by rows, as the loops meet it. Over any view.
 use mathlib.Core.Path.{_≡_, refl, sym, ap, _∙_, subst}
-use mathlib.Core.Bool.{Bool, true, false, cond, true≢false, and-eq-true-iff}
+use mathlib.Core.Bool.{Bool, true, cond, and-eq-true-iff}
 use mathlib.Core.List.{List, [], _∷_, List·Memᴰ, List·Memᴰ·head, List·Memᴰ·tail}
-use mathlib.Core.Logic.{⊎-elim}
 use Prim.Native.Nat.{ℕ, _≤_, _<_}
-use native.Mathlib.Nat.{eq-or-lt-of-le}
 use native.Mathlib.Decide.{decLt}
 use native.Mathlib.Omega.{arith}
 use lib.ListN.{length}
 use Rattle.sets.specs.Sets.{at, member, remove, intersect, members, first}
 use Rattle.sets.specs.Bits.{first-le}
-use Rattle.sets.specs.Laws.{member-intersect, members-only, lowest-member, lowest-none}
+use Rattle.sets.specs.Laws.{member-intersect, members-only, lowest-member}
 use Rattle.view.specs.View.{View, reached, reach}
 use Rattle.view.specs.Reach.{Good, reach-refl, reach-below, reach-trans}
 use Rattle.view.specs.Frontier.{members-pop, members-none}
-use Rattle.view.specs.Lows.{strip, Lowing, remove-only}
+use Rattle.view.specs.Lows.{strip, Lowing}
 use Rattle.ancestry.specs.Rows.{row}
 use Rattle.ancestry.specs.Spread.{Spread}
 use Rattle.ancestry.specs.Closure.{Rows}

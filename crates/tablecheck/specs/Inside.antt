@@ -10,7 +10,7 @@ use Rattle.rows.specs.declared.Outcome.{Outcome}
 use Rattle.rows.specs.Rows.{State}
 use Rattle.rows.specs.Laws.{Sound}
 use Rattle.columns.specs.Given.{noMarks}
-use Rattle.layers.specs.Stacks.{Stack, StackRan, ground}
+use Rattle.layers.specs.Stacks.{Stack, StackRan}
 use Rattle.layercolumns.specs.LayerColumns.{placedRow, stackRows}
 use Rattle.tablecheck.specs.declared.Stop.{Stop}
 

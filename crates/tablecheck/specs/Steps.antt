@@ -1,20 +1,20 @@
 -- Laws of the records gone through, as the loop meets them; that the tables stop where the rows do; and what a table says that is not refused.
 use mathlib.Core.Path.{_≡_, refl, sym, ap, ap₂, _∙_, subst}
-use mathlib.Core.Bool.{Bool, true, false, cond, not}
-use mathlib.Core.List.{List, [], _∷_, _++_}
-use Prim.Native.Nat.{ℕ, zero, suc, _+_, _-_, _^_, _≤_, _<_}
+use mathlib.Core.Bool.{Bool, true, false, cond}
+use mathlib.Core.List.{List, [], _∷_}
+use Prim.Native.Nat.{ℕ, suc, _+_, _-_, _^_, _≤_, _<_}
 use native.Mathlib.Numerals.{add-one}
 use native.Mathlib.Omega.{arith}
 use lib.Dec.{eqb}
 use lib.ListN.{length, take, drop, getD, drop-of-length-le}
 use lib.Seq.{drop-cons}
 use borrow.Author.Tests.{eq-eqb, ne-eqb, eqb-true, eqb-false}
-use Rattle.checks.specs.Checks.{firstRefusal, else-zero, else-none}
+use Rattle.checks.specs.Checks.{else-zero, else-none}
 use Rattle.names.specs.Names.{nameOf, checkName, checkRow, checkRows}
 use Rattle.view.specs.View.{View}
 use Rattle.tables.specs.declared.Tables.{Tables}
 use Rattle.rows.specs.declared.Outcome.{Outcome}
-use Rattle.rows.specs.Rows.{noTables, withName, nameRow, State, stateOf}
+use Rattle.rows.specs.Rows.{noTables, withName, nameRow, stateOf}
 use Rattle.rows.specs.Laws.{Sound, name-refused}
 use Rattle.columns.specs.Columns.{inside, placedName, nameRows}
 use Rattle.columns.specs.Laws.{name-inside, name-outside, name-placed, names-good, names-pairs}
@@ -35,7 +35,6 @@ use Rattle.stackview.specs.LayerRefusals.{underAfter, pairsAfter, stackRefusalO
 use Rattle.stackview.specs.Refused.{placed-refused, goes-on}
 use Rattle.stackview.specs.Agrees.{stackIn, stack-view}
 use Rattle.stackview.specs.Shown.{stack-refused}
-use Rattle.tablecheck.specs.declared.TableCheck.{TableCheck}
 use Rattle.tablecheck.specs.declared.Stop.{Stop}
 use Rattle.tablecheck.specs.TableCheck.{namesTaken, recordsTaken, namesRefused, nameStopped, namesMany, recordsRefused, recordStopped, told, rowsCheck, tableCheck}
 use Rattle.tablecheck.specs.Inside.{placedTaken, stopOf, unrecorded, cameTo, Equal, Fresh, Gone}

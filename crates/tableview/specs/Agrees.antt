@@ -8,8 +8,8 @@ use Prim.Native.Nat.{ℕ, zero, suc, _+_, _-_, _*_, _/_, _%_, _^_, _≤_, _<_}
 use native.Mathlib.Omega.{arith}
 use native.Mathlib.Decide.{decLt}
 use lib.Dec.{eqb, ltb}
-use lib.ListN.{length, take, drop, getD, length-take, length-drop}
-use lib.Seq.{take-all, getD-take, getD-drop}
+use lib.ListN.{length, take, drop, getD}
+use lib.Seq.{take-all}
 use borrow.Author.Tests.{ne-eqb, eqb-true, eqb-false}
 use Rattle.order.specs.Laws.{lists-same, lists-equal}
 use Rattle.order.specs.Compare.{compareLists, isEqual}

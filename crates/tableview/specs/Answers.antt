@@ -1,7 +1,7 @@
 -- What is answered about classes and types over a table, in the words of its rows: each answer, exactly when it is given. Assumes nothing of
 -- cycles and of parents of Object.
 use mathlib.Core.Path.{_≡_, refl, sym, ap, _∙_, subst}
-use mathlib.Core.Bool.{Bool, true, false, cond, not, _&&_, _||_, true≢false, false≢true, or-true}
+use mathlib.Core.Bool.{Bool, true, false, cond, _&&_, _||_, true≢false, false≢true, or-true}
 use mathlib.Core.List.{List, [], _∷_, _++_, List·Memᴰ, List·Memᴰ·head, List·Memᴰ·tail, List·Memᴰ·not-nil, List·Memᴰ·cases-cons, Memᴰ·append-right}
 use mathlib.Core.Logic.{_⊎_, inl, inr, ⊎-elim, _↔_}
 use mathlib.Core.Option.{Option, some, none}
@@ -15,7 +15,7 @@ use Rattle.sets.specs.Sets.{at, member, keep, members, first}
 use Rattle.sets.specs.Laws.{lowest-member, lowest-least}
 use Rattle.sorted.specs.Sorted.{Above, Sorted}
 use Rattle.view.specs.declared.Relation.the-variants.{Yes, No, Unknown}
-use Rattle.view.specs.View.{distance, ancestor, ancestors, relation, castByFacts, cast, below, nearer, supertype}
+use Rattle.view.specs.View.{ancestor, ancestors, relation, castByFacts, cast, below, nearer, supertype}
 use Rattle.view.specs.Reach.{Good}
 use Rattle.view.specs.Ancestors.{ancestor-exactly, ancestor-below, ancestors-member, ancestors-list}
 use Rattle.view.specs.Relations.{relation-yes, relation-no, relation-unknown}

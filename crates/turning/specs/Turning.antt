@@ -28,7 +28,7 @@ use Rattle.solving.specs.Queue.{Below}
 use Rattle.solving.specs.Ordered.{After, Ascending}
 use Rattle.solving.specs.Tidy.{Tidy}
 use Rattle.solving.specs.TableKeys.{keysOf, boundOf, AllKeyed, tidy-keyed, keys-sorted, table-back}
-use Rattle.solving.specs.Solving.{Fallback, Upper, Lower, Exact, Table, TypeState, Links, Addition, partners, stateOf, typesOf, evidence, producedType, listOf, arrayElement, producedArray, additions, orElse, room}
+use Rattle.solving.specs.Solving.{Fallback, Upper, Lower, Exact, Table, TypeState, Links, Addition, partners, stateOf, typesOf, evidence, producedType, additions, orElse, room}
 use Rattle.copying.specs.Own.{ownIn, own-run, own-uppers, own-within, own-is, ownTable, own-keys, own-tidy, own-state}
 use Rattle.copying.specs.Copies.{runIn, rankIn, wordIn, ranksIn, wordsIn, evidenceIn, uppersIn}
 use Rattle.sending.specs.Sending.{LegalMaybe, sentMaybe, sentElement, sentArray}
@@ -42,8 +42,7 @@ use Rattle.copying.specs.Steps.{paste-front, run-short, two-short}
 use Rattle.inserting.specs.declared.State.{State}
 use Rattle.inserting.specs.declared.Sent.{Sent}
 use Rattle.inserting.specs.declared.Sent.the-variants.{Nothing as NoType}
-use Rattle.inserting.specs.Store.{Store, store, putAll, sentTypes, AllRanked, Sendable, Good, Ready}
-use Rattle.passing.specs.Alike.{Alike}
+use Rattle.inserting.specs.Store.{Store, store, putAll, AllRanked, Sendable, Good, Ready}
 use Rattle.passing.specs.Steps.{run-inside}
 use Rattle.solving.specs.LinkKeys.{pairOf, partners-own}
 use Rattle.solving.specs.Steps.{additions-by}

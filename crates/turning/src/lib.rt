@@ -20,15 +20,13 @@ use ty::MaybeType;
 ghost use mathlib.Core.Path.{_≡_};
 ghost use mathlib.Core.Bool.{true};
 ghost use Prim.Native.Nat.{_≤_, _<_};
-ghost use lib.ListN.{length, take};
-ghost use Rattle.inserting.specs.Store.{store, putAll};
+ghost use lib.ListN.{length};
+ghost use Rattle.inserting.specs.Store.{store};
 ghost use Rattle.rules.specs.Rules.{linksIn};
-ghost use lib.Seq.{paste};
-ghost use Rattle.copying.specs.Copies.{runIn, ranksIn, uppersIn};
 ghost use Rattle.ty.specs.Answers.{maybeWord};
 ghost use Rattle.lattice.specs.World.{worldOf};
 ghost use Rattle.lattice.specs.Lattice.{mostSpecificUpper};
-ghost use Rattle.solving.specs.Solving.{producedType, orElse, additions};
+ghost use Rattle.solving.specs.Solving.{producedType, orElse};
 ghost use Rattle.turning.specs.Turning.{Asks, Turnable, stateIn, onlyIf, Gathers, turned};
 
 // What a component's exact bounds, or else its lower ones, come to.

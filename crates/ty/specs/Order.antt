@@ -4,8 +4,7 @@ use mathlib.Core.Path.{_≡_, refl, sym, ap, _∙_}
 use mathlib.Core.List.{List, [], _∷_}
 use Prim.Native.Nat.{ℕ, zero, suc}
 use lib.ListN.{getD}
-use Rattle.order.specs.declared.Order.{Order}
-use Rattle.order.specs.declared.Order.the-variants.{Less, Equal, Greater}
+use Rattle.order.specs.declared.Order.the-variants.{Less, Equal}
 use Rattle.order.specs.Compare.{flip, compareNumbers, compareLists}
 use Rattle.order.specs.Laws.{then-equal, lists-same, lists-equal, lists-swap, lists-trans}
 use Rattle.ty.specs.Types.{ArgType, Primitive, Object, Array, Unknown, Void, compare}

@@ -2,7 +2,7 @@
 use mathlib.Core.Path.{_≡_, refl, sym, ap, ap₂, _∙_}
 use mathlib.Core.Bool.{Bool, true, false, cond, not, _&&_, _||_, true≢false}
 use mathlib.Core.List.{List, [], _∷_}
-use mathlib.Core.Option.{Option, some, none}
+use mathlib.Core.Option.{some, none}
 use Prim.Native.Nat.{ℕ, zero, suc, _+_, _-_, _*_, _/_, _%_, _^_, _≤_, _<_}
 use native.Mathlib.Nat.{one-mul}
 use native.Mathlib.Numerals.{add-one}
@@ -12,7 +12,7 @@ use lib.Bits.{bitOr, or-zero-l}
 use lib.Pow.{shl-exact}
 use lib.ListN.{length, getD, take, drop, drop-of-length-le}
 use lib.Seq.{take-nil, drop-cons}
-use borrow.Author.Tests.{eq-eqb, ne-eqb, lt-ltb, le-ltb, le-leb, lt-leb, leb-true, leb-false}
+use borrow.Author.Tests.{eq-eqb, ne-eqb, le-ltb, le-leb, lt-leb, leb-true, leb-false}
 use Rattle.order.specs.Truth.{and-assoc}
 use Rattle.order.specs.Lists.{elem}
 use Rattle.ty.specs.Types.{ArgType, Primitive, Object, Array, Unknown, isKnown, isPrimitive, isObject, isArray, isReference, wideCategory, allWide, isWide, isConcrete, categories, maskWith, hintOfList, concreteHint, arrays}

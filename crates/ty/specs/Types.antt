@@ -7,7 +7,7 @@ use Prim.Native.Nat.{ℕ, zero, suc, _^_}
 use lib.Bits.{bitOr}
 use lib.Dec.{eqb}
 use Rattle.order.specs.declared.Order.{Order}
-use Rattle.order.specs.declared.Order.the-variants.{Less, Equal, Greater}
+use Rattle.order.specs.declared.Order.the-variants.{Less, Greater}
 use Rattle.order.specs.Compare.{compareNumbers, compareLists}
 
 -- ---- PrimitiveType

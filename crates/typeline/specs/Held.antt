@@ -1,7 +1,7 @@
 -- WHAT THE PROGRAM HOLDS FROM LINE TO LINE: a state that lines lead to, room for answers, and room in the buffer for all that one line prints. And
 -- that empty arrays hold the empty state.
 use mathlib.Core.Path.{_≡_, refl, sym, ap, _∙_, subst}
-use mathlib.Core.List.{List, [], map}
+use mathlib.Core.List.{List, []}
 use Prim.Native.Nat.{ℕ, _+_, _-_, _*_, _^_, _≤_, _<_}
 use native.Mathlib.Omega.{arith}
 use lib.ListN.{length, replicate, set, length-replicate, length-set}

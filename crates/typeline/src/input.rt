@@ -1,5 +1,4 @@
 // Lines out of what was read: where a line ends, and a line put together from its pieces.
-ghost use mathlib.Core.Path.{_≡_};
 ghost use Prim.Native.Nat.{_≤_};
 ghost use lib.ListN.{length};
 

@@ -12,7 +12,6 @@ use tables::Tables;
 ghost use mathlib.Core.Path.{_≡_};
 ghost use Prim.Native.Nat.{_≤_};
 ghost use lib.ListN.{length};
-ghost use Rattle.stepping.specs.Stepping.{Stands};
 ghost use Rattle.typeline.specs.Held.{Holds, emptyLayers, emptyNumbers, Empty};
 
 // What goes from line to line: the numbers of the state, how many lines are past, how many bytes there are of the line so far, how much of the

@@ -1,8 +1,8 @@
 -- CASTS a second time, from the `match` of `is_cast_convertible`: its answer for each of the sixteen ways in which two classes can be
 -- declared, as a rule, as a table, and through a view.
-use mathlib.Core.Path.{_≡_, refl, ap, _∙_}
+use mathlib.Core.Path.{_≡_, refl}
 use mathlib.Core.Bool.{Bool, true, false, cond, not, _&&_, _||_}
-use mathlib.Core.List.{List, [], _∷_}
+use mathlib.Core.List.{[]}
 use Prim.Native.Nat.{ℕ}
 use lib.Dec.{eqb}
 use Rattle.sets.specs.Sets.{bit, at, member, insert, members}

@@ -1,7 +1,7 @@
 -- ArgType::to_descriptor and Display of MethodDescriptor of ty.rs: the bytes of a type and of a method.
 -- Added to the Rust: a word for a type, refusals, an output that is lent.
 use mathlib.Core.Path.{_≡_}
-use mathlib.Core.Bool.{Bool, true, not, _&&_}
+use mathlib.Core.Bool.{not, _&&_}
 use mathlib.Core.List.{List, [], _∷_, _++_}
 use Prim.Native.Nat.{ℕ, zero, suc, _+_}
 use lib.Dec.{ltb}

@@ -13,7 +13,7 @@ ghost use lib.Seq.{sets};
 ghost use Rattle.text.specs.Text.{byte};
 ghost use Rattle.ty.specs.Words.{legalBase, legalWord, allLegal};
 ghost use Rattle.names.specs.Table.{Checked};
-ghost use Rattle.writer.specs.Print.{letterByte, printWord, printWords, printMethodWords, Wrote, checkedTypeRefusal, typeRefusal, checkedMethodRefusal, methodRefusal, MethodWrote, CheckedMethodWrote};
+ghost use Rattle.writer.specs.Print.{letterByte, printWord, printWords, printMethodWords, Wrote, checkedTypeRefusal, typeRefusal, MethodWrote, CheckedMethodWrote};
 ghost use Rattle.writer.specs.Store.{Put};
 ghost use Rattle.writer.specs.Steps.{Short, classBytes, printBase, wordSize, wordsSize, methodSize};
 

@@ -1,10 +1,10 @@
 -- `begin` meets its contract: the rows of the classes that are left are empty.
 use borrow.Author.Needs.{needs}
 use native.Mathlib.Omega.{arith}
-use mathlib.Core.Path.{_≡_, sym, ap, ap₂, _∙_}
+use mathlib.Core.Path.{_≡_, sym, ap, _∙_}
 use mathlib.Core.List.{List}
 use Prim.Native.Nat.{ℕ}
-use lib.ListN.{length, replicate, length-replicate}
+use lib.ListN.{length, length-replicate}
 use Rattle.sets.specs.Sets.{at, insert, members, first}
 use Rattle.sets.specs.Bits.{first-le}
 use Rattle.sets.proofs.Good.{array-length}

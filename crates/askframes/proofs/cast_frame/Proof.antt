@@ -1,6 +1,6 @@
 -- `cast_frame` meets its contract.
 use borrow.Author.Needs.{needs}
-use mathlib.Core.Path.{_≡_, ap, ap₂, _∙_}
+use mathlib.Core.Path.{ap, ap₂, _∙_}
 use mathlib.Core.Bool.{Bool, cond}
 use Prim.Native.Nat.{ℕ}
 use native.Mathlib.Omega.{arith}
@@ -10,11 +10,6 @@ use Rattle.framestate.specs.declared.Said.the-variants.{Castable}
 use Rattle.askframes.specs.AskFrames.{asked-none, asked-some, same-refusal}
 use Rattle.askframes.proofs.cast_frame.Statement.{statement}
 use Rattle.askframes.proofs.cast_frame.Tie as tie
-use Rattle.askframes.proofs.cast_frame.Reads as reads
-use Rattle.askframes.proofs.cast_frame.Lts as lts
-use Rattle.askframes.proofs.check_ask.Reads as check-ask-reads
-use Rattle.askframes.proofs.flag.Reads as flag-reads
-use Rattle.askframes.proofs.say.Reads as say-reads
 
 number-at-requires : tie.Need-number-at-requires
 number-at-requires c κs = search needs

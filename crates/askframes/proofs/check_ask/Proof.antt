@@ -1,11 +1,8 @@
 -- `check_ask` meets its contract.
-use borrow.Author.Needs.{needs}
 use native.Mathlib.Omega.{arith}
 use Rattle.askframes.specs.AskFrames.{ask-first, ask-second, ask-object, ask-none}
 use Rattle.askframes.proofs.check_ask.Statement.{statement}
 use Rattle.askframes.proofs.check_ask.Tie as tie
-use Rattle.askframes.proofs.check_ask.Reads as reads
-use Rattle.askframes.proofs.check_ask.Lts as lts
 
 returns : tie.Need-returns
 returns c = let a = c .before .before .args in ask-first (a .t) (a .a) (a .b) (omega arith)

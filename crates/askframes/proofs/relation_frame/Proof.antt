@@ -1,20 +1,14 @@
 -- `relation_frame` meets its contract.
 use borrow.Author.Needs.{needs}
-use mathlib.Core.Path.{_≡_, ap, ap₂, _∙_}
+use mathlib.Core.Path.{ap, ap₂, _∙_}
 use Prim.Native.Nat.{ℕ}
 use native.Mathlib.Omega.{arith}
-use Rattle.view.specs.declared.Relation.{Relation}
 use Rattle.view.specs.View.{relation, relationNumber}
 use Rattle.tables.specs.Table.{viewOf}
 use Rattle.framestate.specs.declared.Said.the-variants.{Related}
 use Rattle.askframes.specs.AskFrames.{asked-none, asked-some, same-refusal}
 use Rattle.askframes.proofs.relation_frame.Statement.{statement}
 use Rattle.askframes.proofs.relation_frame.Tie as tie
-use Rattle.askframes.proofs.relation_frame.Reads as reads
-use Rattle.askframes.proofs.relation_frame.Lts as lts
-use Rattle.askframes.proofs.check_ask.Reads as check-ask-reads
-use Rattle.askframes.proofs.relation_number.Reads as relation-number-reads
-use Rattle.askframes.proofs.say.Reads as say-reads
 
 number-at-requires : tie.Need-number-at-requires
 number-at-requires c κs = search needs

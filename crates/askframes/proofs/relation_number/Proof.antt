@@ -4,8 +4,6 @@ use mathlib.Core.Path.{sym, ap}
 use Rattle.view.specs.View.{relationNumber}
 use Rattle.askframes.proofs.relation_number.Statement.{statement}
 use Rattle.askframes.proofs.relation_number.Tie as tie
-use Rattle.askframes.proofs.relation_number.Reads as reads
-use Rattle.askframes.proofs.relation_number.Lts as lts
 
 enum-told : tie.Need-enum-told
 enum-told c = search needs

@@ -4,8 +4,6 @@ use mathlib.Core.Path.{ap}
 use Rattle.framestate.specs.FrameState.{framed}
 use Rattle.askframes.proofs.say.Statement.{statement}
 use Rattle.askframes.proofs.say.Tie as tie
-use Rattle.askframes.proofs.say.Reads as reads
-use Rattle.askframes.proofs.say.Lts as lts
 
 asked-requires : tie.Need-asked-requires
 asked-requires c κs = search needs

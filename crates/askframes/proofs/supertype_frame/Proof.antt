@@ -10,10 +10,6 @@ use Rattle.framestate.specs.declared.Said.the-variants.{Supertyped}
 use Rattle.askframes.specs.AskFrames.{asked-none, asked-some, same-refusal, ask-passed}
 use Rattle.askframes.proofs.supertype_frame.Statement.{statement}
 use Rattle.askframes.proofs.supertype_frame.Tie as tie
-use Rattle.askframes.proofs.supertype_frame.Reads as reads
-use Rattle.askframes.proofs.supertype_frame.Lts as lts
-use Rattle.askframes.proofs.check_ask.Reads as check-ask-reads
-use Rattle.askframes.proofs.say.Reads as say-reads
 
 number-at-requires : tie.Need-number-at-requires
 number-at-requires c κs = search needs

@@ -1,6 +1,5 @@
 -- `asks` meets its contract: both tests.
 use borrow.Author.Needs.{needs}
-use Rattle.asking.specs.declared.Asked.{Asked}
 use Rattle.asking.proofs.asks.Statement.{statement}
 use Rattle.asking.proofs.asks.Tie as tie
 

@@ -2,7 +2,6 @@
 use borrow.Author.Needs.{needs}
 use mathlib.Core.Path.{ap, _∙_}
 use Rattle.bracepuffin.specs.Boundary.{bpMethod}
-use borrow.Author.Needs.{needs}
 use Rattle.bracepuffin.proofs.bp_read_method.Statement.{statement}
 use Rattle.bracepuffin.proofs.bp_read_method.Tie as tie
 

@@ -2,7 +2,6 @@
 use borrow.Author.Needs.{needs}
 use mathlib.Core.Path.{ap, _∙_}
 use Rattle.bracepuffin.specs.Boundary.{typeAnswer}
-use borrow.Author.Needs.{needs}
 use Rattle.bracepuffin.proofs.bp_read_type_strict.Statement.{statement}
 use Rattle.bracepuffin.proofs.bp_read_type_strict.Tie as tie
 

@@ -2,7 +2,6 @@
 use borrow.Author.Needs.{needs}
 use mathlib.Core.Path.{ap, _∙_}
 use Rattle.bracepuffin.specs.Boundary.{writtenAnswer}
-use borrow.Author.Needs.{needs}
 use Rattle.bracepuffin.proofs.bp_write_type.Statement.{statement}
 use Rattle.bracepuffin.proofs.bp_write_type.Tie as tie
 

@@ -2,7 +2,6 @@
 use borrow.Author.Needs.{needs}
 use mathlib.Core.Path.{sym, ap}
 use Rattle.bracepuffin.specs.Boundary.{bpMethodOf}
-use borrow.Author.Needs.{needs}
 use Rattle.bracepuffin.proofs.method_answer.Statement.{statement}
 use Rattle.bracepuffin.proofs.method_answer.Tie as tie
 

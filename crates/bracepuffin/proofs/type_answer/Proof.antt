@@ -2,7 +2,6 @@
 use borrow.Author.Needs.{needs}
 use mathlib.Core.Path.{sym, ap, _∙_}
 use Rattle.bracepuffin.specs.Boundary.{typeAnswer}
-use borrow.Author.Needs.{needs}
 use Rattle.bracepuffin.proofs.type_answer.Statement.{statement}
 use Rattle.bracepuffin.proofs.type_answer.Tie as tie
 

@@ -2,7 +2,6 @@
 use borrow.Author.Needs.{needs}
 use mathlib.Core.Path.{sym, ap}
 use Rattle.bracepuffin.specs.Boundary.{typeFound}
-use borrow.Author.Needs.{needs}
 use Rattle.bracepuffin.proofs.type_found.Statement.{statement}
 use Rattle.bracepuffin.proofs.type_found.Tie as tie
 

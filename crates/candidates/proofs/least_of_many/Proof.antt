@@ -1,6 +1,6 @@
 -- `least_of_many` meets its contract: the best so far is the least hint of the bounds from `i` on.
 use borrow.Author.Needs.{needs}
-use mathlib.Core.Path.{_≡_, refl, sym, ap, _∙_}
+use mathlib.Core.Path.{_≡_, sym, ap, _∙_}
 use mathlib.Core.List.{map}
 use mathlib.Core.Option.{Option}
 use Prim.Native.Nat.{ℕ, _-_, _≤_}
@@ -11,7 +11,7 @@ use Rattle.ty.specs.Words.{typeOf}
 use Rattle.ty.specs.Answers.{maybeWord}
 use Rattle.lattice.specs.Lattice.{candidate, leastHint, mostSpecificUpper}
 use Rattle.lattice.specs.World.{worldOf}
-use Rattle.candidates.specs.Maybe.{LegalMaybe, maybeType, maybe-word}
+use Rattle.candidates.specs.Maybe.{maybe-word}
 use Rattle.candidates.specs.Steps.{typesFrom, least-end, least-step}
 use Rattle.candidates.specs.Groups.{BestOf, grouped-zero, best-along, best-itself}
 use Rattle.candidates.proofs.least_of_many.Statement.{statement}

@@ -1,9 +1,8 @@
 -- `stands_for_all` meets its contract: what is left besides the class, Object and what is reached answers for all.
 use borrow.Author.Needs.{needs}
-use mathlib.Core.Path.{_≡_, sym, ap, _∙_}
+use mathlib.Core.Path.{sym, ap, _∙_}
 use mathlib.Core.List.{List}
 use Prim.Native.Nat.{ℕ}
-use lib.ListN.{length}
 use Rattle.sets.specs.Sets.{remove, subtract}
 use Rattle.sets.proofs.Good.{array-length}
 use Rattle.tables.specs.Table.{viewOf}

@@ -1,6 +1,6 @@
 -- `takes` meets its contract.
 use borrow.Author.Needs.{needs}
-use mathlib.Core.Path.{_≡_, sym, _∙_, subst}
+use mathlib.Core.Path.{subst}
 use Prim.Native.Nat.{ℕ}
 use Rattle.lattice.specs.World.{worldOf}
 use Rattle.candidates.specs.Groups.{Stands, taken-by, taken-not}

@@ -1,15 +1,15 @@
 -- `with_any_bound` meets its contract: the hint is a legal type's word, or there is none.
 use borrow.Author.Needs.{needs}
-use mathlib.Core.Path.{_≡_, sym, ap, _∙_, subst}
+use mathlib.Core.Path.{sym, ap, _∙_, subst}
 use mathlib.Core.List.{map}
 use mathlib.Core.Option.{Option}
 use native.Mathlib.Omega.{arith}
-use Rattle.ty.specs.Types.{ArgType, concreteHint}
+use Rattle.ty.specs.Types.{ArgType}
 use Rattle.ty.specs.Words.{typeOf}
 use Rattle.lattice.specs.Lattice.{candidate}
 use Rattle.lattice.specs.World.{worldOf}
 use Rattle.candidates.specs.Maybe.{LegalMaybe, maybeType, hint-type, hint-word}
-use Rattle.candidates.specs.Groups.{BestOf, best-along}
+use Rattle.candidates.specs.Groups.{best-along}
 use Rattle.candidates.proofs.with_any_bound.Statement.{statement}
 use Rattle.candidates.proofs.with_any_bound.Tie as tie
 

@@ -6,7 +6,6 @@ use mathlib.Core.List.{map}
 use Rattle.ty.specs.Words.{typeOf}
 use Rattle.lattice.specs.Lattice.{lesser}
 use Rattle.candidates.specs.Maybe.{maybeType}
-use Rattle.candidates.specs.Groups.{BestOf}
 use Rattle.candidates.proofs.with_class_hint.Statement.{statement}
 use Rattle.candidates.proofs.with_class_hint.Tie as tie
 

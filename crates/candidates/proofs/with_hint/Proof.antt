@@ -1,6 +1,6 @@
 -- `with_hint` meets its contract.
 use borrow.Author.Needs.{needs}
-use mathlib.Core.Path.{sym, ap, _∙_}
+use mathlib.Core.Path.{ap, _∙_}
 use mathlib.Core.Bool.{Bool, cond}
 use Rattle.ty.specs.Words.{typeOf}
 use Rattle.lattice.specs.Lattice.{lesser}

@@ -1,6 +1,6 @@
 -- `with_other` meets its contract.
 use borrow.Author.Needs.{needs}
-use mathlib.Core.Path.{_≡_, refl, sym, ap, _∙_}
+use mathlib.Core.Path.{refl, ap, _∙_}
 use Prim.Native.Nat.{ℕ}
 use Rattle.sets.specs.Sets.{insert}
 use Rattle.view.specs.Ancestors.{ancestor-self}

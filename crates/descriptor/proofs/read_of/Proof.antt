@@ -1,6 +1,6 @@
 -- Each way out is a case of `unCore`.
 use borrow.Author.Needs.{needs}
-use mathlib.Core.Path.{sym, ap, _∙_}
+use mathlib.Core.Path.{ap, _∙_}
 use native.Mathlib.Omega.{arith}
 use borrow.Author.Tests.{ne-eqb, lt-ltb, le-ltb}
 use Rattle.descriptor.specs.declared.Read.the-variants.{Refused}

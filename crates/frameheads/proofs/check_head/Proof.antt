@@ -5,10 +5,6 @@ use native.Mathlib.Omega.{arith}
 use Rattle.frameheads.specs.Heads.{head-zero, head-over, head-length, head-order, head-none}
 use Rattle.frameheads.proofs.check_head.Statement.{statement}
 use Rattle.frameheads.proofs.check_head.Tie as tie
-use Rattle.frameheads.proofs.check_head.Reads as reads
-use Rattle.frameheads.proofs.check_head.Lts as lts
-use Rattle.frameheads.proofs.is_late.Reads as is-late-reads
-use Rattle.frameheads.proofs.is_length.Reads as is-length-reads
 
 returns : tie.Need-returns
 returns c = let a = c .before .args in head-zero (a .kind) (a .n) (a .rank) (c .if1 .taken)

@@ -1,14 +1,11 @@
 -- `is_late` meets its contract.
 use borrow.Author.Needs.{needs}
-use mathlib.Core.Path.{_≡_, sym, _∙_, subst}
+use mathlib.Core.Path.{sym, subst}
 use Prim.Native.Nat.{ℕ, _≤_, _<_}
 use native.Mathlib.Omega.{arith}
 use Rattle.frameheads.specs.Heads.{order-low, order-again, order-good}
 use Rattle.frameheads.proofs.is_late.Statement.{statement}
 use Rattle.frameheads.proofs.is_late.Tie as tie
-use Rattle.frameheads.proofs.is_late.Reads as reads
-use Rattle.frameheads.proofs.is_late.Lts as lts
-use Rattle.frameheads.proofs.rank_of.Reads as rank-of-reads
 
 rank-of-requires : tie.Need-rank-of-requires
 rank-of-requires c κs = search needs

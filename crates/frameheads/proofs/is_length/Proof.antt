@@ -1,16 +1,13 @@
 -- `is_length` meets its contract, kind by kind.
-use borrow.Author.Needs.{needs}
-use mathlib.Core.Path.{_≡_, sym, ap, ap₂, _∙_}
+use mathlib.Core.Path.{sym, ap, ap₂, _∙_}
 use mathlib.Core.Bool.{Bool, _&&_}
-use Prim.Native.Nat.{_%_, _≤_, _<_}
+use Prim.Native.Nat.{_%_}
 use native.Mathlib.Omega.{arith}
 use lib.Dec.{eqb, leb}
 use borrow.Author.Tests.{le-leb, lt-leb, eq-eqb, ne-eqb}
 use Rattle.frameheads.specs.Heads.{length-1, length-2, length-4, length-5, length-10, length-14, length-pair}
 use Rattle.frameheads.proofs.is_length.Statement.{statement}
 use Rattle.frameheads.proofs.is_length.Tie as tie
-use Rattle.frameheads.proofs.is_length.Reads as reads
-use Rattle.frameheads.proofs.is_length.Lts as lts
 
 returns : tie.Need-returns
 returns c = let a = c .before .before .args in sym (length-1 (a .kind) (a .n) (c .before .if1 .taken) ∙ ap (λ (x : Bool). x && leb (a .n) 255) (lt-leb 1 (a .n) (omega arith)))

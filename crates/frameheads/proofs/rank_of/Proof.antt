@@ -1,5 +1,4 @@
 -- `rank_of` meets its contract.
-use borrow.Author.Needs.{needs}
 use mathlib.Core.Path.{sym, ap, ap₂}
 use mathlib.Core.Bool.{Bool, cond}
 use lib.Dec.{eqb}
@@ -7,8 +6,6 @@ use native.Mathlib.Omega.{arith}
 use borrow.Author.Tests.{lt-ltb, le-ltb, eq-eqb, ne-eqb}
 use Rattle.frameheads.proofs.rank_of.Statement.{statement}
 use Rattle.frameheads.proofs.rank_of.Tie as tie
-use Rattle.frameheads.proofs.rank_of.Reads as reads
-use Rattle.frameheads.proofs.rank_of.Lts as lts
 
 returns : tie.Need-returns
 returns c = let k = c .before .args .kind in sym (ap (λ (b : Bool). cond b k (cond (eqb k 14) 2 10)) (lt-ltb k 10 (omega arith)))

@@ -1,12 +1,9 @@
 -- `is_digit` meets its contract: digits below, in, between, from a on.
-use borrow.Author.Needs.{needs}
 use mathlib.Core.Path.{sym, ap}
 use native.Mathlib.Omega.{arith}
 use Rattle.hexline.specs.Laws.{isDigit, digit-below, digit-number, digit-between, digit-last}
 use Rattle.hexline.proofs.is_digit.Statement.{statement}
 use Rattle.hexline.proofs.is_digit.Tie as tie
-use Rattle.hexline.proofs.is_digit.Reads as reads
-use Rattle.hexline.proofs.is_digit.Lts as lts
 
 returns : tie.Need-returns
 returns c = sym (ap isDigit (digit-below (c .before .args .b) (omega arith)))

@@ -9,9 +9,6 @@ use Rattle.hexline.specs.Hex.{hexBytes, isHex}
 use Rattle.hexline.specs.Laws.{hex-end, pair-bad-high, pair-bad-low, pair-hex}
 use Rattle.hexline.proofs.is_hex.Statement.{statement}
 use Rattle.hexline.proofs.is_hex.Tie as tie
-use Rattle.hexline.proofs.is_hex.Reads as reads
-use Rattle.hexline.proofs.is_hex.Lts as lts
-use Rattle.hexline.proofs.is_digit.Reads as is-digit-reads
 
 abbrev Inv-loop : tie.InvT-loop
 Inv-loop line n k₀ k = (k ≤ n) × (2 * n ≡ length line) × (isHex (hexBytes line) ≡ isHex (hexBytes (drop (2 * k) line)))

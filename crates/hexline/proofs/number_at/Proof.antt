@@ -6,9 +6,6 @@ use native.Mathlib.Omega.{arith}
 use Rattle.hexline.specs.Hex.{numberAt}
 use Rattle.hexline.proofs.number_at.Statement.{statement}
 use Rattle.hexline.proofs.number_at.Tie as tie
-use Rattle.hexline.proofs.number_at.Reads as reads
-use Rattle.hexline.proofs.number_at.Lts as lts
-use Rattle.hexline.proofs.wide.Reads as wide-reads
 
 shared-slice-read-wide : tie.Need-shared-slice-read-wide
 shared-slice-read-wide c = search needs

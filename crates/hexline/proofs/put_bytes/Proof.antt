@@ -1,8 +1,8 @@
 -- `put_bytes` meets its contract: the bytes that are left are those of the line from the next pair on.
 use borrow.Author.Needs.{needs}
-use mathlib.Core.Path.{_≡_, refl, sym, ap, ap₂, _∙_, subst}
+use mathlib.Core.Path.{_≡_, sym, ap, ap₂, _∙_, subst}
 use mathlib.Core.Bool.{true}
-use mathlib.Core.List.{List, [], _∷_}
+use mathlib.Core.List.{List, _∷_}
 use Prim.Native.Nat.{ℕ, _+_, _*_, _-_, _≤_}
 use native.Mathlib.Omega.{arith}
 use lib.ListN.{length, drop}
@@ -10,9 +10,6 @@ use Rattle.hexline.specs.Hex.{hexBytes, isHex, bytesOf}
 use Rattle.hexline.specs.Laws.{hex-length, hex-end, pair-bytes, Filling, fill-start, fill-step, fill-end}
 use Rattle.hexline.proofs.put_bytes.Statement.{statement}
 use Rattle.hexline.proofs.put_bytes.Tie as tie
-use Rattle.hexline.proofs.put_bytes.Reads as reads
-use Rattle.hexline.proofs.put_bytes.Lts as lts
-use Rattle.hexline.proofs.value.Reads as value-reads
 
 abbrev Inv-loop : tie.InvT-loop
 Inv-loop line frame₀ n k₀ frame k = (k ≤ n) × (2 * n ≡ length line) × (n ≤ length frame) × (isHex (hexBytes (drop (2 * k) line)) ≡ true) × Filling (bytesOf (hexBytes line)) (bytesOf (hexBytes (drop (2 * k) line))) frame₀ frame k

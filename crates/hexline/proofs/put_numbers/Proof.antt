@@ -1,7 +1,7 @@
 -- `put_numbers` meets its contract: the numbers that are left are those of the bytes from the next pair on.
 use borrow.Author.Needs.{needs}
-use mathlib.Core.Path.{_≡_, refl, sym, ap, _∙_, subst}
-use mathlib.Core.List.{List, [], _∷_}
+use mathlib.Core.Path.{_≡_, sym, ap, _∙_, subst}
+use mathlib.Core.List.{List, _∷_}
 use Prim.Native.Nat.{ℕ, _+_, _*_, _-_, _≤_}
 use native.Mathlib.Omega.{arith}
 use lib.ListN.{length, drop}
@@ -9,9 +9,6 @@ use Rattle.hexline.specs.Hex.{numbersIn}
 use Rattle.hexline.specs.Laws.{numbers-step, numbers-end, numbers-length, Filling, fill-start, fill-step, fill-end}
 use Rattle.hexline.proofs.put_numbers.Statement.{statement}
 use Rattle.hexline.proofs.put_numbers.Tie as tie
-use Rattle.hexline.proofs.put_numbers.Reads as reads
-use Rattle.hexline.proofs.put_numbers.Lts as lts
-use Rattle.hexline.proofs.number_at.Reads as number-at-reads
 
 abbrev Inv-loop : tie.InvT-loop
 Inv-loop bytes numbers₀ n k₀ numbers k = (k ≤ n) × (2 * n ≡ length bytes) × (n ≤ length numbers) × Filling (numbersIn bytes) (numbersIn (drop (2 * k) bytes)) numbers₀ numbers k

@@ -7,10 +7,6 @@ use Rattle.hexline.specs.Hex.{hexBytes}
 use Rattle.hexline.specs.Laws.{hex-length, hex-odd, bad-none, bad-long, reads-none, reads-some}
 use Rattle.hexline.proofs.read_line.Statement.{statement}
 use Rattle.hexline.proofs.read_line.Tie as tie
-use Rattle.hexline.proofs.read_line.Reads as reads
-use Rattle.hexline.proofs.read_line.Lts as lts
-use Rattle.hexline.proofs.is_hex.Reads as is-hex-reads
-use Rattle.hexline.proofs.put_bytes.Reads as put-bytes-reads
 
 returns : tie.Need-returns
 returns c = let a = c .before .before .before .args in reads-none (hexBytes (a .line .now)) (a .frame .now) (bad-long (a .line .now) (omega arith))

@@ -5,8 +5,6 @@ use native.Mathlib.Omega.{arith}
 use Rattle.hexline.specs.Laws.{valueOf, digit-below, digit-number, digit-between, digit-letter, digit-above}
 use Rattle.hexline.proofs.value.Statement.{statement}
 use Rattle.hexline.proofs.value.Tie as tie
-use Rattle.hexline.proofs.value.Reads as reads
-use Rattle.hexline.proofs.value.Lts as lts
 
 returns : tie.Need-returns
 returns c = (sym (ap valueOf (digit-below (c .before .args .b) (omega arith))), omega arith)

@@ -6,9 +6,6 @@ use native.Mathlib.Omega.{arith}
 use Rattle.hexline.specs.Laws.{word-is}
 use Rattle.hexline.proofs.word_at_3.Statement.{statement}
 use Rattle.hexline.proofs.word_at_3.Tie as tie
-use Rattle.hexline.proofs.word_at_3.Reads as reads
-use Rattle.hexline.proofs.word_at_3.Lts as lts
-use Rattle.hexline.proofs.half_at.Reads as half-at-reads
 
 half-at-requires : tie.Need-half-at-requires
 half-at-requires c κs = search needs

@@ -1,6 +1,5 @@
 -- `add_layer_record` meets its contract: refused, or both slices filled and the layer's keys counted on.
 use borrow.Author.Needs.{needs}
-use mathlib.Core.Path.{sym, _∙_}
 use native.Mathlib.Omega.{arith}
 use Rattle.layers.proofs.Steps.{fills-refused, fills-taken, good, small-class, small-parents, left-within, left-ordered, left-room, more, counted-on}
 use Rattle.layers.proofs.add_layer_record.Statement.{statement}

@@ -5,7 +5,7 @@ use mathlib.Core.List.{List, _++_}
 use Prim.Native.Nat.{ℕ, _+_, _-_, _≤_}
 use native.Mathlib.Omega.{arith}
 use lib.ListN.{length, getD, set, drop, length-set}
-use Rattle.layers.proofs.Steps.{moved, moved-length, moved-step, drop-front}
+use Rattle.layers.proofs.Steps.{moved, moved-step, drop-front}
 use Rattle.layers.proofs.move_down.Statement.{statement}
 use Rattle.layers.proofs.move_down.Tie as tie
 

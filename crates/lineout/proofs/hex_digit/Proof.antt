@@ -7,8 +7,6 @@ use native.Mathlib.Omega.{arith}
 use borrow.Author.Tests.{lt-ltb, le-ltb}
 use Rattle.lineout.proofs.hex_digit.Statement.{statement}
 use Rattle.lineout.proofs.hex_digit.Tie as tie
-use Rattle.lineout.proofs.hex_digit.Reads as reads
-use Rattle.lineout.proofs.hex_digit.Lts as lts
 
 cast-result : tie.Need-cast-result
 cast-result c = search needs

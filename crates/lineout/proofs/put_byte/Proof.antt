@@ -3,8 +3,6 @@ use borrow.Author.Needs.{needs}
 use Rattle.lineout.specs.Laws.{puts-one}
 use Rattle.lineout.proofs.put_byte.Statement.{statement}
 use Rattle.lineout.proofs.put_byte.Tie as tie
-use Rattle.lineout.proofs.put_byte.Reads as reads
-use Rattle.lineout.proofs.put_byte.Lts as lts
 
 slice-write-out : tie.Need-slice-write-out
 slice-write-out c = search needs

@@ -5,9 +5,6 @@ use native.Mathlib.Omega.{arith}
 use Rattle.lineout.specs.Laws.{puts-then}
 use Rattle.lineout.proofs.put_letter.Statement.{statement}
 use Rattle.lineout.proofs.put_letter.Tie as tie
-use Rattle.lineout.proofs.put_letter.Reads as reads
-use Rattle.lineout.proofs.put_letter.Lts as lts
-use Rattle.lineout.proofs.put_byte.Reads as put-byte-reads
 
 put-byte-requires : tie.Need-put-byte-requires
 put-byte-requires c κs = search needs

@@ -5,11 +5,6 @@ use Rattle.lineout.specs.Printed.{numberText}
 use Rattle.lineout.specs.Laws.{number-short, line-one}
 use Rattle.lineout.proofs.put_number.Statement.{statement}
 use Rattle.lineout.proofs.put_number.Tie as tie
-use Rattle.lineout.proofs.put_number.Reads as reads
-use Rattle.lineout.proofs.put_number.Lts as lts
-use Rattle.lineout.proofs.put_byte.Reads as put-byte-reads
-use Rattle.lineout.proofs.put_letter.Reads as put-letter-reads
-use Rattle.lineout.proofs.put_number_or_dash.Reads as put-number-or-dash-reads
 
 put-letter-requires : tie.Need-put-letter-requires
 put-letter-requires c κs = search needs

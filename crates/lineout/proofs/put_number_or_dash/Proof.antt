@@ -5,10 +5,6 @@ use native.Mathlib.Omega.{arith}
 use Rattle.lineout.specs.Laws.{decimal-short, number-none, number-some, puts-as}
 use Rattle.lineout.proofs.put_number_or_dash.Statement.{statement}
 use Rattle.lineout.proofs.put_number_or_dash.Tie as tie
-use Rattle.lineout.proofs.put_number_or_dash.Reads as reads
-use Rattle.lineout.proofs.put_number_or_dash.Lts as lts
-use Rattle.lineout.proofs.put_byte.Reads as put-byte-reads
-use Rattle.lineout.proofs.put_decimal.Reads as put-decimal-reads
 
 put-byte-requires : tie.Need-put-byte-requires
 put-byte-requires c κs = search needs

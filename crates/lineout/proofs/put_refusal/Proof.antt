@@ -6,11 +6,6 @@ use Rattle.lineout.specs.Printed.{decimal}
 use Rattle.lineout.specs.Laws.{decimal-short, line-two}
 use Rattle.lineout.proofs.put_refusal.Statement.{statement}
 use Rattle.lineout.proofs.put_refusal.Tie as tie
-use Rattle.lineout.proofs.put_refusal.Reads as reads
-use Rattle.lineout.proofs.put_refusal.Lts as lts
-use Rattle.lineout.proofs.put_byte.Reads as put-byte-reads
-use Rattle.lineout.proofs.put_decimal.Reads as put-decimal-reads
-use Rattle.lineout.proofs.put_letter.Reads as put-letter-reads
 
 put-letter-requires : tie.Need-put-letter-requires
 put-letter-requires c κs = search needs

@@ -6,12 +6,6 @@ use Rattle.lineout.specs.Printed.{decimal, wordText}
 use Rattle.lineout.specs.Laws.{decimal-short, word-short, line-two}
 use Rattle.lineout.proofs.put_variable.Statement.{statement}
 use Rattle.lineout.proofs.put_variable.Tie as tie
-use Rattle.lineout.proofs.put_variable.Reads as reads
-use Rattle.lineout.proofs.put_variable.Lts as lts
-use Rattle.lineout.proofs.put_byte.Reads as put-byte-reads
-use Rattle.lineout.proofs.put_decimal.Reads as put-decimal-reads
-use Rattle.lineout.proofs.put_letter.Reads as put-letter-reads
-use Rattle.lineout.proofs.put_word_or_dash.Reads as put-word-or-dash-reads
 
 put-letter-requires : tie.Need-put-letter-requires
 put-letter-requires c κs = search needs

@@ -1,7 +1,7 @@
 -- `put_variables` meets its contract: the lines that are left are those from the next variable on.
 use borrow.Author.Needs.{needs}
-use mathlib.Core.Path.{_≡_, refl, sym, ap, _∙_, subst}
-use mathlib.Core.List.{List, []}
+use mathlib.Core.Path.{_≡_, refl, _∙_, subst}
+use mathlib.Core.List.{List}
 use Prim.Native.Nat.{ℕ, _+_, _*_, _-_, _≤_}
 use native.Mathlib.Omega.{arith}
 use lib.ListN.{length, drop, getD}
@@ -9,9 +9,6 @@ use Rattle.lineout.specs.Printed.{variableLine, variableLines}
 use Rattle.lineout.specs.Laws.{lines-step, lines-end, line-short, lines-short, Writing, writing-start, writing-more, writing-end}
 use Rattle.lineout.proofs.put_variables.Statement.{statement}
 use Rattle.lineout.proofs.put_variables.Tie as tie
-use Rattle.lineout.proofs.put_variables.Reads as reads
-use Rattle.lineout.proofs.put_variables.Lts as lts
-use Rattle.lineout.proofs.put_variable.Reads as put-variable-reads
 
 abbrev Inv-loop : tie.InvT-loop
 Inv-loop out₀ filled answers i₀ at₀ out i at = (i ≤ length answers) × (at ≤ filled + 40 * i) × (length out ≡ length out₀) × Writing (variableLines 0 answers) (variableLines i (drop i answers)) filled at out₀ out

@@ -1,18 +1,14 @@
 -- `put_word` meets its contract: the digits that are left are those from the next on.
 use borrow.Author.Needs.{needs}
 use mathlib.Core.Path.{_≡_, refl, sym, ap, _∙_, subst}
-use mathlib.Core.List.{List, [], _∷_, _++_, append-nil}
+use mathlib.Core.List.{List, _∷_}
 use Prim.Native.Nat.{ℕ, _+_, _-_, _≤_}
 use native.Mathlib.Omega.{arith}
 use lib.ListN.{length}
-use Rattle.lineout.specs.Printed.{hexDigit, hexDigits, Puts}
+use Rattle.lineout.specs.Printed.{hexDigits}
 use Rattle.lineout.specs.Laws.{hex-step, hex-end, hex-length, Writing, writing-start, writing-step, writing-end}
 use Rattle.lineout.proofs.put_word.Statement.{statement}
 use Rattle.lineout.proofs.put_word.Tie as tie
-use Rattle.lineout.proofs.put_word.Reads as reads
-use Rattle.lineout.proofs.put_word.Lts as lts
-use Rattle.lineout.proofs.hex_digit.Reads as hex-digit-reads
-use Rattle.lineout.proofs.put_byte.Reads as put-byte-reads
 
 abbrev Inv-loop : tie.InvT-loop
 Inv-loop out₀ filled w k₀ at₀ out k at = (k ≤ 16) × (at ≡ filled + k) × (length out ≡ length out₀) × Writing (hexDigits 16 w) (hexDigits (16 - k) w) filled at out₀ out

@@ -1,14 +1,9 @@
 -- `put_word_or_dash` meets its contract.
 use borrow.Author.Needs.{needs}
 use mathlib.Core.Path.{sym}
-use native.Mathlib.Omega.{arith}
 use Rattle.lineout.specs.Laws.{word-none, word-some, puts-as}
 use Rattle.lineout.proofs.put_word_or_dash.Statement.{statement}
 use Rattle.lineout.proofs.put_word_or_dash.Tie as tie
-use Rattle.lineout.proofs.put_word_or_dash.Reads as reads
-use Rattle.lineout.proofs.put_word_or_dash.Lts as lts
-use Rattle.lineout.proofs.put_byte.Reads as put-byte-reads
-use Rattle.lineout.proofs.put_word.Reads as put-word-reads
 
 put-byte-requires : tie.Need-put-byte-requires
 put-byte-requires c κs = search needs

@@ -2,7 +2,6 @@
 use borrow.Author.Needs.{needs}
 use mathlib.Core.Path.{sym, ap, _∙_}
 use Rattle.methods.specs.Answers.{answerOf}
-use borrow.Author.Needs.{needs}
 use Rattle.methods.proofs.answer.Statement.{statement}
 use Rattle.methods.proofs.answer.Tie as tie
 

@@ -5,7 +5,6 @@ use borrow.Author.Tests.{not-true, not-false}
 use lib.ListN.{length}
 use Rattle.methods.specs.Strict.{closing-plain, closing-refused, closing-bad, closing-strict}
 use Rattle.descriptor.specs.Steps.{Placed}
-use borrow.Author.Needs.{needs}
 use Rattle.methods.proofs.closed.Statement.{statement}
 use Rattle.methods.proofs.closed.Tie as tie
 

@@ -2,7 +2,6 @@
 use borrow.Author.Needs.{needs}
 use mathlib.Core.Path.{ap, _∙_}
 use borrow.Author.Tests.{not-true, not-false}
-use borrow.Author.Needs.{needs}
 use Rattle.methods.specs.Strict.{refusedAt, bad-kept, bad-before, bad-here}
 use Rattle.methods.proofs.first_bad.Statement.{statement}
 use Rattle.methods.proofs.first_bad.Tie as tie

@@ -5,7 +5,6 @@ use native.Mathlib.Omega.{arith}
 use lib.ListN.{length}
 use Rattle.methods.specs.Strict.{strictly-simple, class-placed, strictly-good, strictly-bad}
 use Rattle.descriptor.specs.Read.{strictly}
-use borrow.Author.Needs.{needs}
 use Rattle.methods.proofs.judged.Statement.{statement}
 use Rattle.methods.proofs.judged.Tie as tie
 

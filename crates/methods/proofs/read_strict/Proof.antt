@@ -6,7 +6,6 @@ use lib.ListN.{length}
 use Rattle.descriptor.specs.Read.{readWhole, strictly, readStrict}
 use Rattle.descriptor.specs.Steps.{Placed}
 use Rattle.descriptor.specs.Laws.{finish-placed}
-use borrow.Author.Needs.{needs}
 use Rattle.methods.proofs.read_strict.Statement.{statement}
 use Rattle.methods.proofs.read_strict.Tie as tie
 

@@ -1,7 +1,6 @@
 -- `send_array` meets its contract: the array's side first, then the other.
 use mathlib.Core.Path.{sym, ap, _∙_}
 use mathlib.Core.List.{List}
-use Prim.Native.Nat.{_-_}
 use Rattle.solving.specs.Solving.{Addition}
 use Rattle.inserting.specs.Store.{store, putAll, sentTypes}
 use Rattle.passing.specs.Steps.{array-near, array-far, array-none}

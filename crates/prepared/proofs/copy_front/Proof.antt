@@ -1,11 +1,10 @@
 -- `copy_front` meets its contract: the first i words are copied.
 use borrow.Author.Needs.{needs}
-use mathlib.Core.Path.{_≡_, refl, sym, ap, _∙_}
-use mathlib.Core.List.{List}
-use Prim.Native.Nat.{ℕ, suc, _+_, _-_, _≤_}
+use mathlib.Core.Path.{_≡_, refl, ap, _∙_}
+use Prim.Native.Nat.{ℕ, _-_, _≤_}
 use native.Mathlib.Omega.{arith}
-use lib.ListN.{length, getD, set}
-use lib.Seq.{paste, paste-zero, paste-suc, length-paste}
+use lib.ListN.{length}
+use lib.Seq.{paste, paste-zero}
 use Rattle.prepared.specs.Prepared.{paste-more}
 use Rattle.prepared.proofs.copy_front.Statement.{statement}
 use Rattle.prepared.proofs.copy_front.Tie as tie

@@ -1,6 +1,6 @@
 -- `has_row` meets its contract, test by test.
 use borrow.Author.Needs.{needs}
-use mathlib.Core.Path.{_≡_, sym, _∙_}
+use mathlib.Core.Path.{sym, _∙_}
 use native.Mathlib.Omega.{arith}
 use Rattle.prepared.specs.Prepared.{rows-length, row-asked, row-past, row-many, row-none}
 use Rattle.prepared.proofs.has_row.Statement.{statement}

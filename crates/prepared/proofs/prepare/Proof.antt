@@ -1,18 +1,14 @@
 -- `prepare` meets its contract: rows of all classes behind, keys in front.
 use borrow.Author.Needs.{needs}
-use mathlib.Core.Path.{_≡_, sym, ap, _∙_, subst}
-use mathlib.Core.Bool.{true}
+use mathlib.Core.Path.{ap, _∙_}
 use mathlib.Core.List.{List}
 use Prim.Native.Nat.{ℕ}
 use native.Mathlib.Omega.{arith}
-use lib.ListN.{length}
 use lib.Seq.{paste}
 use borrow.Rule.Slice.PartMut.{putMid}
-use Rattle.sets.specs.Sets.{member}
 use Rattle.tables.specs.Table.{pairsRoom, viewOf, view-good}
 use Rattle.ancestry.specs.Rows.{rowsRoom}
-use Rattle.ancestry.specs.Closure.{Rows}
-use Rattle.prepared.specs.Prepared.{Laid, above-inside, above-closed, part-zero, put-length, zeros-length-of}
+use Rattle.prepared.specs.Prepared.{above-inside, above-closed, part-zero, put-length, zeros-length-of}
 use Rattle.prepared.proofs.prepare.Statement.{statement}
 use Rattle.prepared.proofs.prepare.Tie as tie
 

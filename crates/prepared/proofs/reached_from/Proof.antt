@@ -1,6 +1,6 @@
 -- `reached_from` meets its contract: a row that is there is what is reached.
 use borrow.Author.Needs.{needs}
-use mathlib.Core.Path.{_≡_, sym, _∙_}
+use mathlib.Core.Path.{sym, _∙_}
 use native.Mathlib.Omega.{arith}
 use Rattle.prepared.specs.Prepared.{rows-length, row-there}
 use Rattle.prepared.proofs.reached_from.Statement.{statement}

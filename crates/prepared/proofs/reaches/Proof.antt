@@ -1,6 +1,6 @@
 -- `reaches` meets its contract: a row that is there is what is reached.
 use borrow.Author.Needs.{needs}
-use mathlib.Core.Path.{_≡_, sym, _∙_}
+use mathlib.Core.Path.{sym, _∙_}
 use native.Mathlib.Omega.{arith}
 use Rattle.prepared.specs.Prepared.{rowsIn, rows-length, row-there, row-tells}
 use Rattle.ancestry.specs.Rows.{row}

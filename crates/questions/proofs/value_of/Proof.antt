@@ -1,7 +1,6 @@
 -- `value_of` meets its contract: each question by the function of the crate that answers it.
 use borrow.Author.Needs.{needs}
 use mathlib.Core.Path.{ap, _∙_}
-use native.Mathlib.Omega.{arith}
 use Rattle.prepared.specs.Prepared.{plain-prepared}
 use Rattle.questions.specs.Questions.{ofTypes}
 use Rattle.questions.specs.Laws.{are-classes, are-types, legal-words, value-relation, value-distance, value-supertype, value-cast, value-join, value-assignable}

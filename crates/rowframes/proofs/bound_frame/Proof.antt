@@ -4,10 +4,6 @@ use Rattle.framestate.specs.FrameState.{boundNumbers}
 use Rattle.rowframes.specs.RowFrames.{row-frames, same-bound}
 use Rattle.rowframes.proofs.bound_frame.Statement.{statement}
 use Rattle.rowframes.proofs.bound_frame.Tie as tie
-use Rattle.rowframes.proofs.bound_frame.Reads as reads
-use Rattle.rowframes.proofs.bound_frame.Lts as lts
-use Rattle.rowframes.proofs.byte_at.Reads as byte-at-reads
-use Rattle.rowframes.proofs.finish.Reads as finish-reads
 
 number-at-requires : tie.Need-number-at-requires
 number-at-requires c κs = search needs

@@ -1,7 +1,7 @@
 -- `copy` meets its contract: what is left are the bytes from the next on.
 use borrow.Author.Needs.{needs}
-use mathlib.Core.Path.{_≡_, refl, sym, ap, _∙_, subst}
-use mathlib.Core.List.{List, [], _∷_}
+use mathlib.Core.Path.{sym, ap, _∙_, subst}
+use mathlib.Core.List.{List, _∷_}
 use Prim.Native.Nat.{ℕ, _+_, _-_, _≤_}
 use native.Mathlib.Omega.{arith}
 use native.Mathlib.Numerals.{add-one}
@@ -10,8 +10,6 @@ use lib.Seq.{drop-cons}
 use Rattle.hexline.specs.Laws.{Filling, fill-start, fill-step, fill-end}
 use Rattle.rowframes.proofs.copy.Statement.{statement}
 use Rattle.rowframes.proofs.copy.Tie as tie
-use Rattle.rowframes.proofs.copy.Reads as reads
-use Rattle.rowframes.proofs.copy.Lts as lts
 
 abbrev Inv-loop : tie.InvT-loop
 Inv-loop from to₀ k₀ to k = (k ≤ length from) × (length from ≤ length to₀) × Filling from (drop k from) to₀ to k

@@ -7,9 +7,6 @@ use Rattle.framestate.specs.declared.Numbers.{Numbers}
 use Rattle.framestate.specs.FrameState.{taken, countNumbers}
 use Rattle.rowframes.proofs.count_frame.Statement.{statement}
 use Rattle.rowframes.proofs.count_frame.Tie as tie
-use Rattle.rowframes.proofs.count_frame.Reads as reads
-use Rattle.rowframes.proofs.count_frame.Lts as lts
-use Rattle.rowframes.proofs.finish.Reads as finish-reads
 
 number-at-requires : tie.Need-number-at-requires
 number-at-requires c κs = search needs

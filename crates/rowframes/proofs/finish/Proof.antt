@@ -5,8 +5,6 @@ use native.Mathlib.Omega.{arith}
 use Rattle.rowframes.specs.RowFrames.{taken-none, taken-all}
 use Rattle.rowframes.proofs.finish.Statement.{statement}
 use Rattle.rowframes.proofs.finish.Tie as tie
-use Rattle.rowframes.proofs.finish.Reads as reads
-use Rattle.rowframes.proofs.finish.Lts as lts
 
 refuse-requires : tie.Need-refuse-requires
 refuse-requires c κs = search needs

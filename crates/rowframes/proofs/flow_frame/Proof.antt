@@ -4,9 +4,6 @@ use Rattle.framestate.specs.FrameState.{flowNumbers}
 use Rattle.rowframes.specs.RowFrames.{row-frames, same-pair}
 use Rattle.rowframes.proofs.flow_frame.Statement.{statement}
 use Rattle.rowframes.proofs.flow_frame.Tie as tie
-use Rattle.rowframes.proofs.flow_frame.Reads as reads
-use Rattle.rowframes.proofs.flow_frame.Lts as lts
-use Rattle.rowframes.proofs.finish.Reads as finish-reads
 
 number-at-requires : tie.Need-number-at-requires
 number-at-requires c κs = search needs

@@ -1,6 +1,6 @@
 -- `name_frame` meets its contract: a refused name changes nothing, another is kept as the last one.
 use borrow.Author.Needs.{needs}
-use mathlib.Core.Path.{_≡_, ap, _∙_}
+use mathlib.Core.Path.{ap, _∙_}
 use mathlib.Core.List.{List}
 use Prim.Native.Nat.{ℕ}
 use native.Mathlib.Omega.{arith}
@@ -8,9 +8,6 @@ use Rattle.rows.specs.Rows.{nameRow}
 use Rattle.rowframes.specs.RowFrames.{name-none, name-all, part-front}
 use Rattle.rowframes.proofs.name_frame.Statement.{statement}
 use Rattle.rowframes.proofs.name_frame.Tie as tie
-use Rattle.rowframes.proofs.name_frame.Reads as reads
-use Rattle.rowframes.proofs.name_frame.Lts as lts
-use Rattle.rowframes.proofs.copy.Reads as copy-reads
 
 sub-add-name : tie.Need-sub-add-name
 sub-add-name c = search needs

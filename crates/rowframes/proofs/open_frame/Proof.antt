@@ -3,9 +3,6 @@ use borrow.Author.Needs.{needs}
 use Rattle.rowframes.specs.RowFrames.{open-frames}
 use Rattle.rowframes.proofs.open_frame.Statement.{statement}
 use Rattle.rowframes.proofs.open_frame.Tie as tie
-use Rattle.rowframes.proofs.open_frame.Reads as reads
-use Rattle.rowframes.proofs.open_frame.Lts as lts
-use Rattle.rowframes.proofs.finish.Reads as finish-reads
 
 open-layer-requires : tie.Need-open-layer-requires
 open-layer-requires c κs = search needs

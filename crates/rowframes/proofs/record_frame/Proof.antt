@@ -1,6 +1,6 @@
 -- `record_frame` meets its contract: the parents are the numbers of the body from its fourth byte on.
 use borrow.Author.Needs.{needs}
-use mathlib.Core.Path.{_≡_, ap, _∙_}
+use mathlib.Core.Path.{ap, _∙_}
 use mathlib.Core.List.{List}
 use Prim.Native.Nat.{ℕ, _-_}
 use native.Mathlib.Omega.{arith}
@@ -12,10 +12,6 @@ use Rattle.hexline.specs.Laws.{numbers-length}
 use Rattle.rowframes.specs.RowFrames.{record-frames, same-record, part-front}
 use Rattle.rowframes.proofs.record_frame.Statement.{statement}
 use Rattle.rowframes.proofs.record_frame.Tie as tie
-use Rattle.rowframes.proofs.record_frame.Reads as reads
-use Rattle.rowframes.proofs.record_frame.Lts as lts
-use Rattle.rowframes.proofs.byte_at.Reads as byte-at-reads
-use Rattle.rowframes.proofs.finish.Reads as finish-reads
 
 sub-put-numbers : tie.Need-sub-put-numbers
 sub-put-numbers c = search needs

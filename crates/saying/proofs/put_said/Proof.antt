@@ -1,6 +1,5 @@
 -- `put_said` meets its contract: by what is said.
 use borrow.Author.Needs.{needs}
-use mathlib.Core.Path.{_≡_}
 use Rattle.lineout.specs.Laws.{puts-none, puts-as}
 use Rattle.saying.specs.Printing.{text-accepted, text-solved, text-related, text-supertyped, text-castable, text-refused}
 use Rattle.saying.proofs.put_said.Statement.{statement}

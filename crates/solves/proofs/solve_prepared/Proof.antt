@@ -1,6 +1,5 @@
 -- `solve_prepared` meets its contract: a prepared slice gives the same world.
 use borrow.Author.Needs.{needs}
-use mathlib.Core.Path.{_≡_}
 use Rattle.lattice.specs.World.{worldOf}
 use Rattle.problems.specs.Kept.{problemOf}
 use Rattle.solves.specs.Choice.{classed-laid, laid-world, leaves-along}

@@ -1,7 +1,6 @@
 -- `lowest_by_walks` meets its contract: what is out has one strictly below, and d is one that is to be looked at.
 use borrow.Author.Needs.{needs}
 use native.Mathlib.Omega.{arith}
-use mathlib.Core.Path.{_≡_}
 use lib.ListN.{length}
 use Rattle.sets.specs.Sets.{at, members}
 use Rattle.tables.specs.Table.{viewOf, view-good}

@@ -1,6 +1,6 @@
 -- `lowest_many` meets its contract: the sources are the lowest of what they reach, and the rest is looked at by itself.
 use borrow.Author.Needs.{needs}
-use mathlib.Core.Path.{_≡_, sym, ap, _∙_}
+use mathlib.Core.Path.{sym, ap, _∙_}
 use mathlib.Core.List.{List}
 use Rattle.sets.specs.Sets.{at, members}
 use Rattle.tables.specs.Table.{viewOf, view-good}

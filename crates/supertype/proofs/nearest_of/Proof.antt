@@ -1,7 +1,6 @@
 -- `nearest_of` meets its contract: one class alone is the nearest; else, of what both sides meet first, the least that either reaches first.
 use borrow.Author.Needs.{needs}
-use mathlib.Core.Path.{_≡_, sym, subst, _∙_}
-use Prim.Native.Nat.{ℕ}
+use mathlib.Core.Path.{sym, subst, _∙_}
 use Rattle.tables.specs.Table.{viewOf, view-good}
 use Rattle.view.specs.Pick.{NearestOf}
 use Rattle.supertype.specs.Near.{nearest-lone, two-of, met-some, nearest-met, nearest-near}

@@ -1,9 +1,9 @@
 -- `check_records` meets its contract: what is left are the records from i on, after the tables that the first i leave.
 use borrow.Author.Needs.{needs}
-use mathlib.Core.Path.{_≡_, refl, ap, _∙_}
+use mathlib.Core.Path.{refl, ap, _∙_}
 use Prim.Native.Nat.{_-_, _≤_}
 use native.Mathlib.Omega.{arith}
-use lib.ListN.{length, getD}
+use lib.ListN.{length}
 use Rattle.layers.specs.Stacks.{stackOf, Holds}
 use Rattle.tablecheck.specs.Inside.{stopOf, Gone}
 use Rattle.tablecheck.specs.Steps.{fresh-holds, gone-start, gone-end, gone-stop, gone-on}

@@ -1,9 +1,9 @@
 -- `all_wide` meets its contract. The invariant: the answer is that of the digits left.
 use borrow.Author.Needs.{needs}
 use mathlib.Core.Path.{_≡_, sym, ap, _∙_}
-use Prim.Native.Nat.{_+_, _-_, _/_, _^_, _≤_}
+use Prim.Native.Nat.{_-_, _/_, _^_, _≤_}
 use native.Mathlib.Omega.{arith}
-use Rattle.ty.specs.Types.{allWide, wideCategory}
+use Rattle.ty.specs.Types.{allWide}
 use Rattle.ty.specs.Words.{listOf}
 use Rattle.ty.specs.Steps.{restOf, rest-all, wide-yes, wide-no, wide-none, wide-end}
 use Rattle.ty.proofs.all_wide.Statement.{statement}

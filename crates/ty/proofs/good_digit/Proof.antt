@@ -1,15 +1,8 @@
 -- `good_digit` meets its contract, by where the digit stands.
 use borrow.Author.Needs.{needs}
-use mathlib.Core.Path.{_≡_, ap, _∙_}
-use mathlib.Core.Bool.{Bool, not}
-use native.Mathlib.Omega.{arith}
+use mathlib.Core.Path.{ap, _∙_}
+use mathlib.Core.Bool.{not}
 use Rattle.ty.specs.Steps.{digit-past, digit-large, digit-in}
-use borrow.Author.Needs.{needs}
-use mathlib.Core.Path.{_≡_, ap, _∙_}
-use mathlib.Core.Bool.{Bool, not}
-use native.Mathlib.Omega.{arith}
-use Rattle.ty.specs.Steps.{digit-past, digit-large, digit-in}
-use borrow.Author.Needs.{needs}
 use Rattle.ty.proofs.good_digit.Statement.{statement}
 use Rattle.ty.proofs.good_digit.Tie as tie
 

@@ -1,34 +1,12 @@
 -- `list_mask` meets its contract. The invariant: the set so far, with the digits left, is the whole.
 use borrow.Author.Needs.{needs}
 use mathlib.Core.Path.{_≡_, sym, ap, _∙_}
-use Prim.Native.Nat.{ℕ, _+_, _-_, _*_, _/_, _%_, _^_, _≤_}
+use Prim.Native.Nat.{ℕ, _+_, _-_, _/_, _^_, _≤_}
 use native.Mathlib.Omega.{arith}
-use native.Mathlib.Nat.{one-mul}
 use lib.Bits.{bitOr}
-use lib.Pow.{shl-exact}
 use Rattle.ty.specs.Types.{maskWith}
 use Rattle.ty.specs.Words.{listOf}
 use Rattle.ty.specs.Steps.{restOf, rest-all, mask-step, mask-none, mask-end, one-shifted}
-use borrow.Author.Needs.{needs}
-use mathlib.Core.Path.{_≡_, sym, ap, _∙_}
-use Prim.Native.Nat.{ℕ, _+_, _-_, _*_, _/_, _%_, _^_, _≤_}
-use native.Mathlib.Omega.{arith}
-use native.Mathlib.Nat.{one-mul}
-use lib.Bits.{bitOr}
-use lib.Pow.{shl-exact}
-use Rattle.ty.specs.Types.{maskWith}
-use Rattle.ty.specs.Words.{listOf}
-use Rattle.ty.specs.Steps.{restOf, rest-all, mask-step, mask-none, mask-end, one-shifted}
-use borrow.Author.Needs.{needs}
-use mathlib.Core.Path.{_≡_, sym, ap, _∙_}
-use Prim.Native.Nat.{ℕ, _+_, _-_, _*_, _/_, _%_, _^_, _≤_, _<_}
-use native.Mathlib.Omega.{arith}
-use native.Mathlib.Nat.{one-mul}
-use lib.Bits.{bitOr}
-use lib.Pow.{shl-exact}
-use Rattle.ty.specs.Types.{maskWith}
-use Rattle.ty.specs.Words.{listOf}
-use Rattle.ty.specs.Steps.{restOf, rest-all, mask-step, mask-none, mask-end}
 use Rattle.ty.proofs.list_mask.Statement.{statement}
 use Rattle.ty.proofs.list_mask.Tie as tie
 

@@ -1,10 +1,9 @@
 -- `single_hint` meets its contract, by the length and the one category.
 use borrow.Author.Needs.{needs}
-use mathlib.Core.Path.{_≡_, sym, ap}
+use mathlib.Core.Path.{sym, ap}
 use Rattle.ty.specs.Answers.{maybeWord}
 use Rattle.ty.specs.Words.{wordOf}
 use Rattle.ty.specs.Steps.{hint-many, hint-object, hint-array, hint-primitive}
-use borrow.Author.Needs.{needs}
 use Rattle.ty.proofs.single_hint.Statement.{statement}
 use Rattle.ty.proofs.single_hint.Tie as tie
 

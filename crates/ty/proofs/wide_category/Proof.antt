@@ -1,8 +1,6 @@
 -- `wide_category` meets its contract.
 use borrow.Author.Tests.{eq-eqb, ne-eqb}
 use Rattle.ty.specs.Types.{wideCategory}
-use borrow.Author.Tests.{eq-eqb, ne-eqb}
-use Rattle.ty.specs.Types.{wideCategory}
 use Rattle.ty.proofs.wide_category.Statement.{statement}
 use Rattle.ty.proofs.wide_category.Tie as tie
 

@@ -1,6 +1,6 @@
 -- `run` meets its contract: it ends, by a count of turns that falls, and what is held is held after each read.
 use mathlib.Core.Path.{_≡_, refl, _∙_}
-use Prim.Native.Nat.{_+_, _-_, _^_, _≤_, _<_}
+use Prim.Native.Nat.{_≤_}
 use lib.ListN.{length}
 use Rattle.typeline.specs.Held.{Holds, holds-same, none-used, turn-less}
 use Rattle.typeline.proofs.run.Statement.{statement}

@@ -1,6 +1,6 @@
 -- `whole` meets its contract: the line is answered, and what is held is held after it.
 use mathlib.Core.Path.{refl, _∙_}
-use Rattle.typeline.specs.Held.{Holds, say-room}
+use Rattle.typeline.specs.Held.{say-room}
 use Rattle.typeline.proofs.whole.Statement.{statement}
 use Rattle.typeline.proofs.whole.Tie as tie
 

@@ -1,8 +1,6 @@
 -- `note_full` meets its contract.
 use mathlib.Core.Bool.{Bool, cond}
-use mathlib.Core.List.{List}
 use mathlib.Core.Path.{sym, ap, _∙_}
-use Prim.Native.Nat.{ℕ}
 use Rattle.replaying.specs.Replaying.{more}
 use borrow.Author.Needs.{needs}
 use Rattle.replaying.proofs.report.note_full.Statement.{statement}

@@ -2,7 +2,6 @@
 use borrow.Author.Needs.{needs}
 use borrow.Author.Tests.{lt-ltb, le-ltb}
 use Rattle.ty.specs.Answers.{arrayWord}
-use borrow.Author.Needs.{needs}
 use Rattle.ty.proofs.TypeWord.array.Statement.{statement}
 use Rattle.ty.proofs.TypeWord.array.Tie as tie
 

@@ -3,11 +3,6 @@ use borrow.Author.Needs.{needs}
 use mathlib.Core.Path.{_∙_}
 use native.Mathlib.Omega.{arith}
 use Rattle.ty.specs.Steps.{mask-array, mask-primitive, mask-object, mask-unknown, legal-category, one-shifted}
-use borrow.Author.Needs.{needs}
-use mathlib.Core.Path.{_∙_}
-use native.Mathlib.Omega.{arith}
-use Rattle.ty.specs.Steps.{mask-array, mask-primitive, mask-object, mask-unknown, legal-category, one-shifted}
-use borrow.Author.Needs.{needs}
 use Rattle.ty.proofs.TypeWord.categories.Statement.{statement}
 use Rattle.ty.proofs.TypeWord.categories.Tie as tie
 

@@ -1,19 +1,12 @@
 -- `TypeWord::concrete_hint` meets its contract.
 use borrow.Author.Needs.{needs}
-use mathlib.Core.Path.{_≡_, sym, ap, _∙_}
+use mathlib.Core.Path.{sym, ap, _∙_}
 use Prim.Native.Nat.{ℕ}
 use Rattle.ty.specs.Answers.{word, maybeWord}
 use Rattle.ty.specs.Types.{hintOfList}
 use Rattle.ty.specs.Words.{listOf, typeOf}
 use Rattle.ty.specs.declared.MaybeType.the-variants.{Is}
 use Rattle.ty.specs.Steps.{hint-known, hint-vague, hint-unknown, concrete-word}
-use borrow.Author.Needs.{needs}
-use mathlib.Core.Path.{_≡_, sym, ap, _∙_}
-use Prim.Native.Nat.{ℕ}
-use Rattle.ty.specs.Answers.{word, maybeWord}
-use Rattle.ty.specs.declared.MaybeType.the-variants.{Is}
-use Rattle.ty.specs.Steps.{hint-known, hint-vague, hint-unknown, concrete-word}
-use borrow.Author.Needs.{needs}
 use Rattle.ty.proofs.TypeWord.concrete_hint.Statement.{statement}
 use Rattle.ty.proofs.TypeWord.concrete_hint.Tie as tie
 

@@ -2,10 +2,6 @@
 use borrow.Author.Needs.{needs}
 use mathlib.Core.Path.{_∙_}
 use Rattle.ty.specs.Steps.{wide-array, wide-primitive, wide-object, wide-unknown}
-use borrow.Author.Needs.{needs}
-use mathlib.Core.Path.{_∙_}
-use Rattle.ty.specs.Steps.{wide-array, wide-primitive, wide-object, wide-unknown}
-use borrow.Author.Needs.{needs}
 use Rattle.ty.proofs.TypeWord.is_wide.Statement.{statement}
 use Rattle.ty.proofs.TypeWord.is_wide.Tie as tie
 
