@@ -9,7 +9,7 @@ ghost use mathlib.Core.Path.{_≡_};
 ghost use mathlib.Core.Bool.{true};
 ghost use Prim.Native.Nat.{ℕ, _≤_, _<_};
 ghost use lib.ListN.{length, replicate};
-ghost use Rattle.sets.specs.Sets.{member};
+ghost use Rattle.sets.specs.Sets.{MembersBelow, member};
 ghost use Rattle.view.specs.View.{reach};
 ghost use Rattle.tables.specs.Table.{namesRoom, viewOf};
 ghost use Rattle.ancestry.specs.Spread.{Spread};
@@ -21,7 +21,7 @@ pub const ROWS: usize = 16384;
 
 // What is reached from the classes of s, in one walk.
 pub fn spread(pairs: &[u64], marks: &[u64], t: Tables, s: Set) -> Set
-    requires { ⌜ (t .names ≤ namesRoom) × (t .object < t .names) × ((c : ℕ) → member (s .words) c ≡ true → c < t .names) ⌝ }
+    requires { ⌜ (t .names ≤ namesRoom) × (t .object < t .names) × MembersBelow (t .names) (s .words) ⌝ }
     ensures { λ r. ⌜ Spread (viewOf (now (pairs .entry)) (now (marks .entry)) t) (s .words) (r .words) ⌝ }
 {
     let mut seen = s;
@@ -112,7 +112,7 @@ fn begin(pairs: &[u64], marks: &[u64], t: Tables, s: Set, rows: &mut [u64])
 
 // Into empty rows, for each class of a set that has all above its classes: what is reached from it.
 pub fn fill(pairs: &[u64], marks: &[u64], t: Tables, s: Set, rows: &mut [u64])
-    requires { ⌜ (t .names ≤ namesRoom) × (t .object < t .names) × ((c : ℕ) → member (s .words) c ≡ true → c < t .names) × ((d e : ℕ) → member (s .words) d ≡ true → reach (viewOf (now pairs) (now marks) t) d e ≡ true → member (s .words) e ≡ true) × (now rows ≡ replicate rowsRoom 0) ⌝ }
+    requires { ⌜ (t .names ≤ namesRoom) × (t .object < t .names) × MembersBelow (t .names) (s .words) × ((d e : ℕ) → member (s .words) d ≡ true → reach (viewOf (now pairs) (now marks) t) d e ≡ true → member (s .words) e ≡ true) × (now rows ≡ replicate rowsRoom 0) ⌝ }
     ensures { λ _. ⌜ Rows (viewOf (now (pairs .entry)) (now (marks .entry)) t) (s .words) (now (rows .exit)) ⌝ }
 {
     begin(pairs, marks, t, s, rows);

@@ -17,7 +17,7 @@ use Rattle.methods.specs.Method.{Method}
 use Rattle.methods.specs.Answers.{methodAnswer}
 use Rattle.view.specs.View.{relation, relationNumber, distance, numberOf, ancestors, supertype, cast}
 use Rattle.lattice.specs.Lattice.{join, isAssignable}
-use Rattle.columns.specs.Given.{Given}
+use Rattle.columns.specs.Given.{Given, givenBy}
 use Rattle.tableview.specs.TableRows.{rowsView, rowsWorld}
 use Rattle.stackview.specs.LayerRows.{shownIn}
 use Rattle.questions.specs.declared.Question.the-variants.{Relation, Distance, Supertype, Cast, Join, Assignable}
@@ -28,8 +28,8 @@ use Rattle.tablecheck.specs.declared.TableCheck.{TableCheck}
 use Rattle.tablecheck.specs.TableCheck.{tableCheck}
 use Rattle.solving.specs.declared.Counts.{Counts}
 use Rattle.problems.specs.Problems.{Columns}
-use Rattle.solves.specs.SolveResult.{Lent, countsOf}
-use Rattle.solvedoor.specs.SolveDoor.{solveIn}
+use Rattle.solves.specs.SolveResult.{Lent, countsOf, lentBy, leftBy}
+use Rattle.solvedoor.specs.SolveDoor.{solveIn, Leaves}
 use Rattle.bracepuffin.specs.declared.BpType.{BpType}
 use Rattle.bracepuffin.specs.declared.BpMethod.{BpMethod}
 use Rattle.bracepuffin.specs.declared.BpWritten.{BpWritten}
@@ -39,6 +39,8 @@ use Rattle.bracepuffin.specs.declared.BpAnswer.{BpAnswer}
 use Rattle.bracepuffin.specs.declared.BpSet.{BpSet}
 use Rattle.bracepuffin.specs.declared.BpTable.{BpTable}
 use Rattle.bracepuffin.specs.declared.BpSolved.{BpSolved}
+use Rattle.lending.specs.Lending.{Slice}
+use Rattle.problemcolumns.specs.ProblemColumns.{columnsBy}
 
 -- tag 0 a primitive by its category, tag 1 a class by the place of its name
 abbrev pub typeFound : ℕ → Base → BpType
@@ -135,3 +137,13 @@ solvedAnswer c = record { refusal = c .refusal; bounds = c .bounds; turns = c .t
 
 unfoldable pub solvedTold : Given → Columns → Lent → BpSolved
 solvedTold g c lent = solvedAnswer (countsOf (solveIn g c lent))
+
+-- of what the call is lent, in the order of its parameters: the result, and what stands in the slices afterwards
+abbrev pub solvedBy : (names nameAt nameLen flags class at len parents : Slice) → ℕ → (variables boundComponents boundKinds boundWords flowSources flowTargets upperSources upperTargets readArrays readResults writeArrays writeValues answers outComponents outKinds outTypes work : Slice) → BpSolved
+solvedBy names nameAt nameLen flags class at len parents components variables boundComponents boundKinds boundWords flowSources flowTargets upperSources upperTargets readArrays readResults writeArrays writeValues answers outComponents outKinds outTypes work =
+    solvedTold (givenBy names nameAt nameLen flags class at len parents) (columnsBy components variables boundComponents boundKinds boundWords flowSources flowTargets upperSources upperTargets readArrays readResults writeArrays writeValues) (lentBy answers outComponents outKinds outTypes work)
+
+abbrev pub SolveLeaves : (names nameAt nameLen flags class at len parents : Slice) → ℕ → (variables boundComponents boundKinds boundWords flowSources flowTargets upperSources upperTargets readArrays readResults writeArrays writeValues answers outComponents outKinds outTypes work : Slice) → Type 0
+SolveLeaves names nameAt nameLen flags class at len parents components variables boundComponents boundKinds boundWords flowSources flowTargets upperSources upperTargets readArrays readResults writeArrays writeValues answers outComponents outKinds outTypes work =
+    Leaves (givenBy names nameAt nameLen flags class at len parents) (columnsBy components variables boundComponents boundKinds boundWords flowSources flowTargets upperSources upperTargets readArrays readResults writeArrays writeValues)
+    (lentBy answers outComponents outKinds outTypes work) (leftBy answers outComponents outKinds outTypes work)

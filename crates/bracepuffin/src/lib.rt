@@ -26,12 +26,9 @@ ghost use lib.ListN.{length};
 ghost use Rattle.descriptor.specs.Read.{readWhole, readStrict};
 ghost use Rattle.methods.specs.Answers.{methodOf, paramsAfter};
 ghost use Rattle.names.specs.Names.{lookUp};
-ghost use Rattle.columns.specs.Given.{given};
+ghost use Rattle.columns.specs.Given.{givenBy};
 ghost use Rattle.questions.specs.Questions.{workAfter};
-ghost use Rattle.problemcolumns.specs.ProblemColumns.{columnsIn};
-ghost use Rattle.solves.specs.SolveResult.{lent};
-ghost use Rattle.solvedoor.specs.SolveDoor.{Leaves};
-ghost use Rattle.bracepuffin.specs.Boundary.{typeFound, typeAnswer, methodResult, bpMethod, foundAnswer, writtenAnswer, WroteType, WroteMethod, relationAnswer, numberAnswer, setAnswer, checkAnswer, checkTold, relationTold, distanceTold, ancestorsTold, supertypeTold, castTold, joinTold, assignableTold, solvedAnswer, solvedTold};
+ghost use Rattle.bracepuffin.specs.Boundary.{typeFound, typeAnswer, methodResult, bpMethod, foundAnswer, writtenAnswer, WroteType, WroteMethod, relationAnswer, numberAnswer, setAnswer, checkAnswer, checkTold, relationTold, distanceTold, ancestorsTold, supertypeTold, castTold, joinTold, assignableTold, solvedAnswer, solvedBy, SolveLeaves};
 
 #[repr(C)]
 pub struct BpType {
@@ -305,7 +302,7 @@ pub extern "C" fn bp_check_table(
     rec_len: &[u64],
     parents: &[u64],
 ) -> BpTable
-    ensures { λ r. ⌜ r ≡ checkTold (given (now (names .entry)) (now («name_at» .entry)) (now («name_len» .entry)) (now («rec_flags» .entry)) (now («rec_class» .entry)) (now («rec_at» .entry)) (now («rec_len» .entry)) (now (parents .entry))) ⌝ }
+    ensures { λ r. ⌜ r ≡ checkTold (givenBy names «name_at» «name_len» «rec_flags» «rec_class» «rec_at» «rec_len» parents) ⌝ }
 {
     check_answer(check_table(
         names,
@@ -366,7 +363,7 @@ pub extern "C" fn bp_relation(
     expected: u64,
     work: &mut [u64],
 ) -> BpRelation
-    ensures { λ r. ⌜ r ≡ relationTold (given (now (names .entry)) (now («name_at» .entry)) (now («name_len» .entry)) (now («rec_flags» .entry)) (now («rec_class» .entry)) (now («rec_at» .entry)) (now («rec_len» .entry)) (now (parents .entry))) value expected (length (now (work .entry))) ⌝ }
+    ensures { λ r. ⌜ r ≡ relationTold (givenBy names «name_at» «name_len» «rec_flags» «rec_class» «rec_at» «rec_len» parents) value expected (length (now (work .entry))) ⌝ }
     ensures { λ _. ⌜ now (work .exit) ≡ workAfter (now (work .entry)) ⌝ }
 {
     let a = ask(
@@ -400,7 +397,7 @@ pub extern "C" fn bp_distance(
     expected: u64,
     work: &mut [u64],
 ) -> BpAnswer
-    ensures { λ r. ⌜ r ≡ distanceTold (given (now (names .entry)) (now («name_at» .entry)) (now («name_len» .entry)) (now («rec_flags» .entry)) (now («rec_class» .entry)) (now («rec_at» .entry)) (now («rec_len» .entry)) (now (parents .entry))) value expected (length (now (work .entry))) ⌝ }
+    ensures { λ r. ⌜ r ≡ distanceTold (givenBy names «name_at» «name_len» «rec_flags» «rec_class» «rec_at» «rec_len» parents) value expected (length (now (work .entry))) ⌝ }
     ensures { λ _. ⌜ now (work .exit) ≡ workAfter (now (work .entry)) ⌝ }
 {
     let a = ask(
@@ -433,7 +430,7 @@ pub extern "C" fn bp_ancestors(
     class_no: u64,
     work: &mut [u64],
 ) -> BpSet
-    ensures { λ r. ⌜ r ≡ ancestorsTold (given (now (names .entry)) (now («name_at» .entry)) (now («name_len» .entry)) (now («rec_flags» .entry)) (now («rec_class» .entry)) (now («rec_at» .entry)) (now («rec_len» .entry)) (now (parents .entry))) «class_no» (length (now (work .entry))) ⌝ }
+    ensures { λ r. ⌜ r ≡ ancestorsTold (givenBy names «name_at» «name_len» «rec_flags» «rec_class» «rec_at» «rec_len» parents) «class_no» (length (now (work .entry))) ⌝ }
     ensures { λ _. ⌜ now (work .exit) ≡ workAfter (now (work .entry)) ⌝ }
 {
     let a = ancestors_of(
@@ -465,7 +462,7 @@ pub extern "C" fn bp_supertype(
     right: u64,
     work: &mut [u64],
 ) -> BpAnswer
-    ensures { λ r. ⌜ r ≡ supertypeTold (given (now (names .entry)) (now («name_at» .entry)) (now («name_len» .entry)) (now («rec_flags» .entry)) (now («rec_class» .entry)) (now («rec_at» .entry)) (now («rec_len» .entry)) (now (parents .entry))) left right (length (now (work .entry))) ⌝ }
+    ensures { λ r. ⌜ r ≡ supertypeTold (givenBy names «name_at» «name_len» «rec_flags» «rec_class» «rec_at» «rec_len» parents) left right (length (now (work .entry))) ⌝ }
     ensures { λ _. ⌜ now (work .exit) ≡ workAfter (now (work .entry)) ⌝ }
 {
     let a = ask(
@@ -499,7 +496,7 @@ pub extern "C" fn bp_cast(
     target: u64,
     work: &mut [u64],
 ) -> BpAnswer
-    ensures { λ r. ⌜ r ≡ castTold (given (now (names .entry)) (now («name_at» .entry)) (now («name_len» .entry)) (now («rec_flags» .entry)) (now («rec_class» .entry)) (now («rec_at» .entry)) (now («rec_len» .entry)) (now (parents .entry))) source target (length (now (work .entry))) ⌝ }
+    ensures { λ r. ⌜ r ≡ castTold (givenBy names «name_at» «name_len» «rec_flags» «rec_class» «rec_at» «rec_len» parents) source target (length (now (work .entry))) ⌝ }
     ensures { λ _. ⌜ now (work .exit) ≡ workAfter (now (work .entry)) ⌝ }
 {
     let a = ask(
@@ -535,7 +532,7 @@ pub extern "C" fn bp_join(
     right: u64,
     work: &mut [u64],
 ) -> BpAnswer
-    ensures { λ r. ⌜ r ≡ joinTold (given (now (names .entry)) (now («name_at» .entry)) (now («name_len» .entry)) (now («rec_flags» .entry)) (now («rec_class» .entry)) (now («rec_at» .entry)) (now («rec_len» .entry)) (now (parents .entry))) left right (length (now (work .entry))) ⌝ }
+    ensures { λ r. ⌜ r ≡ joinTold (givenBy names «name_at» «name_len» «rec_flags» «rec_class» «rec_at» «rec_len» parents) left right (length (now (work .entry))) ⌝ }
     ensures { λ _. ⌜ now (work .exit) ≡ workAfter (now (work .entry)) ⌝ }
 {
     let a = ask(
@@ -569,7 +566,7 @@ pub extern "C" fn bp_assignable(
     expected: u64,
     work: &mut [u64],
 ) -> BpAnswer
-    ensures { λ r. ⌜ r ≡ assignableTold (given (now (names .entry)) (now («name_at» .entry)) (now («name_len» .entry)) (now («rec_flags» .entry)) (now («rec_class» .entry)) (now («rec_at» .entry)) (now («rec_len» .entry)) (now (parents .entry))) value expected (length (now (work .entry))) ⌝ }
+    ensures { λ r. ⌜ r ≡ assignableTold (givenBy names «name_at» «name_len» «rec_flags» «rec_class» «rec_at» «rec_len» parents) value expected (length (now (work .entry))) ⌝ }
     ensures { λ _. ⌜ now (work .exit) ≡ workAfter (now (work .entry)) ⌝ }
 {
     let a = ask(
@@ -628,8 +625,8 @@ pub extern "C" fn bp_solve(
     out_type: &mut [u64],
     work: &mut [u64],
 ) -> BpSolved
-    ensures { λ r. ⌜ r ≡ solvedTold (given (now (names .entry)) (now («name_at» .entry)) (now («name_len» .entry)) (now («rec_flags» .entry)) (now («rec_class» .entry)) (now («rec_at» .entry)) (now («rec_len» .entry)) (now (parents .entry))) (columnsIn components (now («var_comp» .entry)) (now («bnd_comp» .entry)) (now («bnd_kind» .entry)) (now («bnd_type» .entry)) (now («flow_src» .entry)) (now («flow_dst» .entry)) (now («up_src» .entry)) (now («up_dst» .entry)) (now («read_arr» .entry)) (now («read_res» .entry)) (now («write_arr» .entry)) (now («write_val» .entry))) (lent (now (answers .entry)) (now («out_comp» .entry)) (now («out_kind» .entry)) (now («out_type» .entry)) (now (work .entry))) ⌝ }
-    ensures { λ _. ⌜ Leaves (given (now (names .entry)) (now («name_at» .entry)) (now («name_len» .entry)) (now («rec_flags» .entry)) (now («rec_class» .entry)) (now («rec_at» .entry)) (now («rec_len» .entry)) (now (parents .entry))) (columnsIn components (now («var_comp» .entry)) (now («bnd_comp» .entry)) (now («bnd_kind» .entry)) (now («bnd_type» .entry)) (now («flow_src» .entry)) (now («flow_dst» .entry)) (now («up_src» .entry)) (now («up_dst» .entry)) (now («read_arr» .entry)) (now («read_res» .entry)) (now («write_arr» .entry)) (now («write_val» .entry))) (lent (now (answers .entry)) (now («out_comp» .entry)) (now («out_kind» .entry)) (now («out_type» .entry)) (now (work .entry))) (lent (now (answers .exit)) (now («out_comp» .exit)) (now («out_kind» .exit)) (now («out_type» .exit)) (now (work .exit))) ⌝ }
+    ensures { λ r. ⌜ r ≡ solvedBy names «name_at» «name_len» «rec_flags» «rec_class» «rec_at» «rec_len» parents components «var_comp» «bnd_comp» «bnd_kind» «bnd_type» «flow_src» «flow_dst» «up_src» «up_dst» «read_arr» «read_res» «write_arr» «write_val» answers «out_comp» «out_kind» «out_type» work ⌝ }
+    ensures { λ _. ⌜ SolveLeaves names «name_at» «name_len» «rec_flags» «rec_class» «rec_at» «rec_len» parents components «var_comp» «bnd_comp» «bnd_kind» «bnd_type» «flow_src» «flow_dst» «up_src» «up_dst» «read_arr» «read_res» «write_arr» «write_val» answers «out_comp» «out_kind» «out_type» work ⌝ }
 {
     let c = solve_slices(
         names,

@@ -26,6 +26,7 @@ use Rattle.lattice.specs.World.{worldWith}
 use Rattle.lattice.specs.References.{same-exactly, assignable-arrays, mixed-arrays}
 use Rattle.candidates.specs.Maybe.{LegalMaybe, maybeType}
 use Rattle.candidates.specs.Steps.{typesFrom}
+use Rattle.candidates.specs.declared.Best.{Best}
 
 -- dimensions and tag
 abbrev pub headOf : ℕ → ℕ
@@ -59,6 +60,10 @@ pub record BestOf (w : World) (ts : List ArgType) (best : MaybeType) (head : ℕ
   pub legal : LegalMaybe best
   pub type : maybeType best ≡ is
   pub group : Grouped w ts head rest s
+
+-- of the struct that has them
+abbrev pub BestIs : World → List ArgType → Best → Option ArgType → Type 0
+BestIs w ts b = BestOf w ts (b .best) (b .group .head) (b .group .rest) (b .group .classes .words)
 
 module _ (w : World) (ts : List ArgType) (best : MaybeType) (head : ℕ) (rest : Bool) (s : List ℕ) {is : Option ArgType} (b : BestOf w ts best head rest s is) where
   pub best-along : {is′ : Option ArgType} → is ≡ is′ → BestOf w ts best head rest s is′

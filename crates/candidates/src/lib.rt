@@ -23,7 +23,7 @@ ghost use Rattle.ty.specs.Answers.{maybeWord};
 ghost use Rattle.lattice.specs.Lattice.{producerBoundCompatible, sameRegisterCategory, observedAccepts, anyAccepts, domainAccepts, assignableToAll, lesser, candidate, mostSpecificUpper};
 ghost use Rattle.lattice.specs.World.{worldOf};
 ghost use Rattle.candidates.specs.Maybe.{AllLegal, LegalMaybe, maybeType};
-ghost use Rattle.candidates.specs.Groups.{headOf, ClassAt, Stands, Grouped, Adds, Takes, BestOf};
+ghost use Rattle.candidates.specs.Groups.{headOf, ClassAt, Stands, Grouped, Adds, Takes, BestIs};
 
 // From how many upper bounds on those of one head are asked at once. One to three are the common case, and cheaper two by two.
 const MANY: usize = 4;
@@ -367,8 +367,8 @@ fn with_class_hint(
     hint: TypeWord,
     b: Best,
 ) -> Best
-    requires { ⌜ Prepared (now pairs) (now marks) t × AllLegal (now upper) × Legal (hint .word) × (tagOf (hint .word) ≡ 1) × BestOf (worldOf (now pairs) (now marks) t) (map typeOf (now upper)) (b .best) (b .group .head) (b .group .rest) (b .group .classes .words) (maybeType (b .best)) ⌝ }
-    ensures { λ r. ⌜ BestOf (worldOf (now (pairs .entry)) (now (marks .entry)) t) (map typeOf (now (upper .entry))) (r .best) (r .group .head) (r .group .rest) (r .group .classes .words) (candidate (worldOf (now (pairs .entry)) (now (marks .entry)) t) (map typeOf (now (upper .entry))) (some (typeOf (hint .word))) (maybeType (b .best))) ⌝ }
+    requires { ⌜ Prepared (now pairs) (now marks) t × AllLegal (now upper) × Legal (hint .word) × (tagOf (hint .word) ≡ 1) × BestIs (worldOf (now pairs) (now marks) t) (map typeOf (now upper)) b (maybeType (b .best)) ⌝ }
+    ensures { λ r. ⌜ BestIs (worldOf (now (pairs .entry)) (now (marks .entry)) t) (map typeOf (now (upper .entry))) r (candidate (worldOf (now (pairs .entry)) (now (marks .entry)) t) (map typeOf (now (upper .entry))) (some (typeOf (hint .word))) (maybeType (b .best))) ⌝ }
 {
     let best = b.best;
     let g = group_for(pairs, marks, t, upper, hint, b.group);
@@ -388,8 +388,8 @@ fn with_any_hint(
     hint: TypeWord,
     b: Best,
 ) -> Best
-    requires { ⌜ Prepared (now pairs) (now marks) t × AllLegal (now upper) × Legal (hint .word) × BestOf (worldOf (now pairs) (now marks) t) (map typeOf (now upper)) (b .best) (b .group .head) (b .group .rest) (b .group .classes .words) (maybeType (b .best)) ⌝ }
-    ensures { λ r. ⌜ BestOf (worldOf (now (pairs .entry)) (now (marks .entry)) t) (map typeOf (now (upper .entry))) (r .best) (r .group .head) (r .group .rest) (r .group .classes .words) (candidate (worldOf (now (pairs .entry)) (now (marks .entry)) t) (map typeOf (now (upper .entry))) (some (typeOf (hint .word))) (maybeType (b .best))) ⌝ }
+    requires { ⌜ Prepared (now pairs) (now marks) t × AllLegal (now upper) × Legal (hint .word) × BestIs (worldOf (now pairs) (now marks) t) (map typeOf (now upper)) b (maybeType (b .best)) ⌝ }
+    ensures { λ r. ⌜ BestIs (worldOf (now (pairs .entry)) (now (marks .entry)) t) (map typeOf (now (upper .entry))) r (candidate (worldOf (now (pairs .entry)) (now (marks .entry)) t) (map typeOf (now (upper .entry))) (some (typeOf (hint .word))) (maybeType (b .best))) ⌝ }
 {
     if hint.tag() == 1 {
         return with_class_hint(pairs, marks, t, upper, hint, b);
@@ -411,8 +411,8 @@ fn with_any_bound(
     bound: TypeWord,
     b: Best,
 ) -> Best
-    requires { ⌜ Prepared (now pairs) (now marks) t × (t .object < namesRoom) × AllLegal (now upper) × Legal (bound .word) × BestOf (worldOf (now pairs) (now marks) t) (map typeOf (now upper)) (b .best) (b .group .head) (b .group .rest) (b .group .classes .words) (maybeType (b .best)) ⌝ }
-    ensures { λ r. ⌜ BestOf (worldOf (now (pairs .entry)) (now (marks .entry)) t) (map typeOf (now (upper .entry))) (r .best) (r .group .head) (r .group .rest) (r .group .classes .words) (candidate (worldOf (now (pairs .entry)) (now (marks .entry)) t) (map typeOf (now (upper .entry))) (concreteHint (t .object) (typeOf (bound .word))) (maybeType (b .best))) ⌝ }
+    requires { ⌜ Prepared (now pairs) (now marks) t × (t .object < namesRoom) × AllLegal (now upper) × Legal (bound .word) × BestIs (worldOf (now pairs) (now marks) t) (map typeOf (now upper)) b (maybeType (b .best)) ⌝ }
+    ensures { λ r. ⌜ BestIs (worldOf (now (pairs .entry)) (now (marks .entry)) t) (map typeOf (now (upper .entry))) r (candidate (worldOf (now (pairs .entry)) (now (marks .entry)) t) (map typeOf (now (upper .entry))) (concreteHint (t .object) (typeOf (bound .word))) (maybeType (b .best))) ⌝ }
 {
     let object = t.object;
     match bound.concrete_hint(object) {

@@ -9,7 +9,8 @@ use Rattle.names.specs.Names.{nameOf}
 use Rattle.tables.specs.declared.Tables.{Tables}
 use Rattle.rows.specs.declared.Outcome.{Outcome}
 use Rattle.tables.specs.Table.{pairsRoom, marksRoom}
-use Rattle.rows.specs.Rows.{noTables, nameRow, State, Ran, recordRan}
+use Rattle.rows.specs.Rows.{noTables, nameRow, State, Ran, recordRan, Fills}
+use Rattle.lending.specs.Lending.{Slice, came, became}
 
 -- len entries from at on lie inside a slice of that size; the difference does not overflow where the sum would
 unfoldable pub inside : ℕ → ℕ → ℕ → Bool
@@ -46,6 +47,10 @@ recordRows parents (f ∷ fs) (c ∷ cs) (a ∷ ats) (l ∷ ls) s =
     cond (eqb (placedRecord parents f c a l s .refusal) 0) (recordRows parents fs cs ats ls (placedRecord parents f c a l s .state))
     (placedRecord parents f c a l s)
 
+-- of the records that a function is lent
+abbrev pub recordRowsBy : (parents fs cs ats ls : Slice) → State → Ran
+recordRowsBy parents fs cs ats ls = recordRows (came parents) (came fs) (came cs) (came ats) (came ls)
+
 -- ---- the table
 
 -- the names' refusal; else the records, from no pair and the marks as they came
@@ -58,7 +63,15 @@ tableOf named parents fs cs ats ls marks =
 abbrev pub built : List ℕ → List ℕ → List ℕ → List ℕ → List ℕ → List ℕ → List ℕ → List ℕ → List ℕ → Ran
 built names ats lens fs cs starts sizes parents marks = tableOf (nameRows names ats lens [] noTables) parents fs cs starts sizes marks
 
+-- of the columns that a function is lent
+abbrev pub builtBy : (names ats lens fs cs starts sizes parents marks : Slice) → Ran
+builtBy names ats lens fs cs starts sizes parents marks = built (came names) (came ats) (came lens) (came fs) (came cs) (came starts) (came sizes) (came parents) (came marks)
+
 -- columns of equal length, and the two slices of a table in full length
 abbrev pub Roomy : List ℕ → List ℕ → List ℕ → List ℕ → List ℕ → List ℕ → List ℕ → List ℕ → Type 0
 Roomy ats lens fs cs starts sizes pairs marks =
     (length ats ≡ length lens) × (length fs ≡ length cs) × (length fs ≡ length starts) × (length fs ≡ length sizes) × (length pairs ≡ pairsRoom) × (length marks ≡ marksRoom)
+
+-- what a function leaves in the slices of a table that it is lent
+abbrev pub FillsBy : Ran → (pairs marks : Slice) → Outcome → Type 0
+FillsBy ran pairs marks = Fills ran (came pairs) (became pairs) (became marks)

@@ -7,6 +7,7 @@ use lib.ListN.{length, replicate}
 use Rattle.tables.specs.Table.{marksRoom}
 use Rattle.rows.specs.Rows.{noTables, Ran}
 use Rattle.columns.specs.Columns.{nameRows, tableOf}
+use Rattle.lending.specs.Lending.{Slice, came}
 
 -- the bytes of the names and the place of each; the flags, the class and the place of the parents of each record; the parents
 pub record Given : Type 0 where
@@ -30,6 +31,10 @@ given names nameAt nameLen flags class at len parents = record {
   «rec_len» = len;
   parents = parents;
 }
+
+-- the columns that a function is lent, as they came
+abbrev pub givenBy : (names nameAt nameLen flags class at len parents : Slice) → Given
+givenBy names nameAt nameLen flags class at len parents = given (came names) (came nameAt) (came nameLen) (came flags) (came class) (came at) (came len) (came parents)
 
 -- two columns for the names and four for the records, of equal length each
 unfoldable pub evenLengths : ℕ → ℕ → ℕ → ℕ → ℕ → ℕ → Bool

@@ -9,6 +9,7 @@ use lib.Seq.{paste}
 use Rattle.keys.specs.Rank.{keyComponent, keyKind}
 use Rattle.copying.specs.Copies.{wordIn}
 use Rattle.copying.specs.Steps.{paste-more}
+use Rattle.lending.specs.Lending.{Slice, came, became}
 
 -- the first n of some keys' parts, in front of a slice; what stands past them stays
 abbrev pub front : (ℕ → ℕ) → List ℕ → List ℕ → ℕ → List ℕ
@@ -19,6 +20,10 @@ pub record Written (keys components kinds types components′ kinds′ types′ 
   pub components-are : components′ ≡ front keyComponent keys components (length keys)
   pub kinds-are : kinds′ ≡ front keyKind keys kinds (length keys)
   pub types-are : types′ ≡ front wordIn keys types (length keys)
+
+-- of the slices that a function is lent
+abbrev pub WrittenBy : (keys components kinds types : Slice) → Type 0
+WrittenBy keys components kinds types = Written (came keys) (came components) (came kinds) (came types) (became components) (became kinds) (became types)
 
 -- one entry more
 pub front-more : (f : ℕ → ℕ) (keys out : List ℕ) (i v : ℕ) → v ≡ f (getD keys i 0) → i < length keys → length keys ≤ length out

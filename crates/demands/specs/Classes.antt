@@ -23,8 +23,7 @@ use Rattle.columns.specs.Given.{Given}
 use Rattle.tableview.specs.TableRows.{Rows, rowsView}
 use Rattle.stackview.specs.LayerRows.{shownIn}
 use Rattle.tableview.specs.Paths.{NoWay, Shortest, IsObject, Kind, near, top, neither, kind}
-use Rattle.tableview.specs.Answers.{Ancestor, Whole, Lacking, ByFacts, LeastCommon, yes-rows, no-rows, unknown-rows, set-rows, list-rows, lowest-rows, members-sorted, cast-rows}
-use Rattle.tableview.specs.Answers.{supertype-rows, supertype-right-rows, supertype-left-rows, supertype-nearest-rows}
+use Rattle.tableview.specs.Answers.{Ancestor, Whole, Lacking, ByFacts, LeastCommon, yes-rows, no-rows, unknown-rows, set-rows, list-rows, lowest-rows, members-sorted, cast-rows, supertype-rows, supertype-right-rows, supertype-left-rows, supertype-nearest-rows}
 use Rattle.questions.specs.declared.Question.the-variants.{Relation, Distance, Supertype, Cast}
 use Rattle.questions.specs.declared.Ancestors.{Ancestors}
 use Rattle.questions.specs.Questions.{questionRefusal, ancestorsRefusal, answered, gathered}

@@ -16,8 +16,7 @@ use Rattle.descriptor.specs.declared.Base.the-variants.{Simple, Class}
 use Rattle.descriptor.specs.declared.Read.{Read}
 use Rattle.descriptor.specs.declared.Read.the-variants.{Found, Refused}
 use Rattle.descriptor.specs.Read.{pickR, letterOf, indexOf, nameRead, readName, readType, finish, readWhole, strictName, strictly, readStrict}
-use Rattle.methods.specs.Method.{Params, Listed, Stopped, Method, Whole, Broken, pickP, pickM, before, onward}
-use Rattle.methods.specs.Method.{readParams, returns, afterParams, readMethod, strictParams, strictMethod, readMethodStrict}
+use Rattle.methods.specs.Method.{Params, Listed, Stopped, Method, Whole, Broken, pickP, pickM, before, onward, readParams, returns, afterParams, readMethod, strictParams, strictMethod, readMethodStrict}
 use Rattle.jvms.specs.Jvms.{AnyName, Parameter, Parameters, Parameters.none, Parameters.more}
 use Rattle.jvms.specs.Prefix.{Stop, sound}
 use Rattle.jvms.specs.Listing.{step-on}

@@ -10,8 +10,7 @@ use Rattle.descriptor.specs.declared.Base.the-variants.{Simple, Class}
 use Rattle.descriptor.specs.declared.Read.{Read}
 use Rattle.descriptor.specs.declared.Read.the-variants.{Found, Refused}
 use Rattle.descriptor.specs.Read.{pickR, readType, finish, readWhole, strictName, strictly, readStrict}
-use Rattle.methods.specs.Method.{Params, Listed, Stopped, Method, Whole, Broken, pickP, pickM, before, onward}
-use Rattle.methods.specs.Method.{readParams, returns, afterParams, readMethod, strictParams, strictMethod, readMethodStrict}
+use Rattle.methods.specs.Method.{Params, Listed, Stopped, Method, Whole, Broken, pickP, pickM, before, onward, readParams, returns, afterParams, readMethod, strictParams, strictMethod, readMethodStrict}
 use Rattle.descriptor.specs.Laws.{Tells, read-tells, finish-tells}
 
 -- ---- types

@@ -9,11 +9,10 @@ use native.Mathlib.Omega.{arith}
 use lib.Dec.{eqb, leb, ltb}
 use lib.ListN.{length}
 use borrow.Author.Tests.{eqb-false}
-use Rattle.order.specs.Compare.{compareLists}
+use Rattle.order.specs.Compare.{compareLists, isLess}
 use Rattle.ty.specs.Words.{legalWord, typeOf}
 use Rattle.utf8.specs.Utf8.{wellFormed}
 use Rattle.checks.specs.Checks as checks
-use Rattle.order.specs.Compare.{isLess}
 use Rattle.names.specs.Names.{nameChecks, checkName}
 use Rattle.rows.specs.Rows.{nameRow, goodFlags, allBelow, putAll, recordChecks, recordRefusal}
 use Rattle.layers.specs.Stacks.{topKeys, openRefusal}

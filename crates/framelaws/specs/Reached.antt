@@ -8,9 +8,8 @@ use native.Mathlib.Omega.{arith}
 use lib.Dec.{eqb, leb, ltb}
 use lib.ListN.{length, drop, getD, length-drop}
 use borrow.Author.Tests.{eq-eqb, ltb-true, ltb-false, leb-true, eqb-true, eqb-false}
-use Rattle.order.specs.Compare.{compareLists}
+use Rattle.order.specs.Compare.{compareLists, isEqual}
 use Rattle.checks.specs.Checks as checks
-use Rattle.order.specs.Compare.{isEqual}
 use Rattle.names.specs.Names.{checkName}
 use Rattle.tables.specs.declared.Tables.{Tables}
 use Rattle.rows.specs.Rows.{objectName, noTables, noted, withName, nameRow, State, recordRefusal, withRecord, recordRow}

@@ -9,9 +9,7 @@ use lib.ListN.{length, take, drop}
 use lib.Seq.{take-append-seam, drop-append-seam}
 use Rattle.text.specs.Text.{byte}
 use Rattle.descriptor.specs.Read.{letterOf, indexOf, strictName}
-use Rattle.jvms.specs.Jvms.{JavaType, Primitive, Object, Array, AnyName, ClassName, BaseType, B, C, D, F, I, BaseType.J, S, Z}
-use Rattle.jvms.specs.Jvms.{FieldType, FieldType.base, FieldType.object, FieldType.array, ReturnDescriptor, ReturnDescriptor.field, ReturnDescriptor.void}
-use Rattle.jvms.specs.Jvms.{Parameter, Signature, Parameters, Parameters.none, Parameters.more, MethodDescriptor, MethodDescriptor.method}
+use Rattle.jvms.specs.Jvms.{JavaType, Primitive, Object, Array, AnyName, ClassName, BaseType, B, C, D, F, I, BaseType.J, S, Z, FieldType, FieldType.base, FieldType.object, FieldType.array, ReturnDescriptor, ReturnDescriptor.field, ReturnDescriptor.void, Parameter, Signature, Parameters, Parameters.none, Parameters.more, MethodDescriptor, MethodDescriptor.method}
 use Rattle.jvms.specs.Names.{index-seam, class-name}
 use Rattle.jvms.specs.Prefix.{letter-base}
 

@@ -16,8 +16,7 @@ use Rattle.descriptor.specs.declared.Base.the-variants.{Simple, Class}
 use Rattle.descriptor.specs.declared.Read.{Read}
 use Rattle.descriptor.specs.declared.Read.the-variants.{Found, Refused}
 use Rattle.descriptor.specs.Read.{pickR, readType, finish, strictName, strictly}
-use Rattle.jvms.specs.Jvms.{JavaType, Object, Array, dimensions, AnyName}
-use Rattle.jvms.specs.Jvms.{FieldType, FieldType.base, FieldType.object, FieldType.array, ReturnDescriptor, ReturnDescriptor.field, ReturnDescriptor.void}
+use Rattle.jvms.specs.Jvms.{JavaType, Object, Array, dimensions, AnyName, FieldType, FieldType.base, FieldType.object, FieldType.array, ReturnDescriptor, ReturnDescriptor.field, ReturnDescriptor.void}
 use Rattle.jvms.specs.Meaning.{typeAt, typeRead, placed}
 use Rattle.jvms.specs.Prefix.{prefix, prefix-void, refused, Stop, sound}
 use Rattle.jvms.specs.Derive.{strictType}

@@ -7,8 +7,7 @@ use Rattle.ty.specs.Types.{Void, Int}
 use Rattle.utf8.specs.Utf8.{table, within, matches, firstMatch, sequence, scan, validPrefix}
 use Rattle.descriptor.specs.Read.{letterOf, indexOf, nameRead, readName, readType, finish, partsFrom, strictName, strictly}
 use Rattle.methods.specs.Method.{readParams, returns, afterParams, readMethod, strictParams, strictMethod, readMethodStrict}
-use Rattle.jvms.specs.Jvms.{JavaType, Primitive, Object, Array, ClassName, I, FieldType.base, FieldType.array}
-use Rattle.jvms.specs.Jvms.{ReturnDescriptor, ReturnDescriptor.field, MethodDescriptor}
+use Rattle.jvms.specs.Jvms.{JavaType, Primitive, Object, Array, ClassName, I, FieldType.base, FieldType.array, ReturnDescriptor, ReturnDescriptor.field, MethodDescriptor}
 use Rattle.jvms.specs.Meaning.{typeAt, typeRead, parametersAt, methodRead}
 use Rattle.jvms.specs.JvmsTheorem.{strict-method}
 

@@ -16,8 +16,7 @@ use Rattle.descriptor.specs.declared.Base.the-variants.{Simple, Class}
 use Rattle.descriptor.specs.declared.Read.{Read}
 use Rattle.descriptor.specs.declared.Read.the-variants.{Found, Refused}
 use Rattle.descriptor.specs.Read.{pickR, letterOf, indexOf, nameRead, readName, choose, readType}
-use Rattle.jvms.specs.Jvms.{JavaType, Primitive, Object, Array, dimensions, AnyName, BaseType, B, C, D, F, I, BaseType.J, S, Z}
-use Rattle.jvms.specs.Jvms.{FieldType, FieldType.base, FieldType.object, FieldType.array, ReturnDescriptor, ReturnDescriptor.field, ReturnDescriptor.void}
+use Rattle.jvms.specs.Jvms.{JavaType, Primitive, Object, Array, dimensions, AnyName, BaseType, B, C, D, F, I, BaseType.J, S, Z, FieldType, FieldType.base, FieldType.object, FieldType.array, ReturnDescriptor, ReturnDescriptor.field, ReturnDescriptor.void}
 use Rattle.jvms.specs.Names.{index-seam, Cut, index-cut}
 use Rattle.jvms.specs.Meaning.{placed}
 

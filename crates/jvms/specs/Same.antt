@@ -8,10 +8,9 @@ use native.Mathlib.Nat.{ℕ-set}
 use lib.ListN.{length, drop}
 use lib.Seq.{drop-append-seam}
 use Rattle.text.specs.Text.{byte}
-use Rattle.jvms.specs.Jvms.{JavaType, Primitive, Object, Array, BaseType, B, C, D, F, I, BaseType.J, S, Z, FieldType, FieldType.base, FieldType.object, FieldType.array}
+use Rattle.jvms.specs.Jvms.{JavaType, Primitive, Object, Array, BaseType, B, C, D, F, I, BaseType.J, S, Z, FieldType, FieldType.base, FieldType.object, FieldType.array, ReturnDescriptor, ReturnDescriptor.field, ReturnDescriptor.void, Parameter, Parameters, Parameters.none, Parameters.more, Signature, MethodDescriptor, MethodDescriptor.method}
 use Rattle.jvms.specs.Derive.{Ended}
 use Rattle.jvms.specs.JvmsTheorem.{one-type, one-signature}
-use Rattle.jvms.specs.Jvms.{ReturnDescriptor, ReturnDescriptor.field, ReturnDescriptor.void, Parameter, Parameters, Parameters.none, Parameters.more, Signature, MethodDescriptor, MethodDescriptor.method}
 
 -- two proofs that something is a name are equal
 abbrev pub OneName : (List ℕ → Type 0) → Type 0

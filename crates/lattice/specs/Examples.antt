@@ -6,8 +6,7 @@ use mathlib.Core.Option.{some, none}
 use Rattle.order.specs.Compare.{compareNumbers, compareLists}
 use Rattle.order.specs.Lists.{elem}
 use Rattle.sets.specs.Sets.{bit, at, member, insert, members, first}
-use Rattle.ty.specs.Types.{Primitive, Object, Array, Unknown, compare, categories, isPrimitive}
-use Rattle.ty.specs.Types.{Void, Boolean, Short, Byte, Char, Int, Long, Float, Double, ObjectCategory, ArrayCategory}
+use Rattle.ty.specs.Types.{Primitive, Object, Array, Unknown, compare, categories, isPrimitive, Void, Boolean, Short, Byte, Char, Int, Long, Float, Double, ObjectCategory, ArrayCategory}
 use Rattle.view.specs.View.{insertAll, withParents, grow, level, reached, reach, steps, distance, ancestor, allRecorded, complete, relation, common, below, anyBelow, lowest, nearer, nearest, numbers, candidates, supertype}
 use Rattle.view.specs.Examples.{whole}
 use Rattle.lattice.specs.Lattice.{World, sameType, hasAll, unknownAccepts, inEither, unknownUnion, primitiveAssignable, assignableApart, isAssignable, narrow, underDouble, joinPrimitive, joinKnown, joinApart, join, joinFrom, joinAll, arrayParent, joinArrayClass, elementsAssignable, joinElements, inBoth}

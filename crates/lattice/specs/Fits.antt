@@ -9,8 +9,7 @@ use lib.Dec.{eqb}
 use native.Mathlib.Decide.{ℕ-discrete}
 use borrow.Author.Tests.{eq-eqb, lt-ltb, le-leb, ne-eqb}
 use Rattle.order.specs.Lists.{elem}
-use Rattle.ty.specs.Types.{ArgType, Primitive, Object, Array, Unknown, isPrimitive}
-use Rattle.ty.specs.Types.{Boolean, Int, Long, Float, Double}
+use Rattle.ty.specs.Types.{ArgType, Primitive, Object, Array, Unknown, isPrimitive, Boolean, Int, Long, Float, Double}
 use Rattle.ty.specs.Words.{distinct, legalAtBase}
 use Rattle.ty.specs.Distinct.{distinct-first, distinct-fresh, distinct-rest}
 use Rattle.lattice.specs.Lattice.{unknownAccepts, inEither, unknownUnion, narrow, underDouble, joinPrimitive, inBoth, orFull, joinKnown, joinElements}

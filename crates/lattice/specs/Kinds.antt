@@ -8,8 +8,7 @@ use Prim.Native.Nat.{ℕ}
 use Rattle.order.specs.Compare.{compareNumbers, compareLists}
 use Rattle.order.specs.Lists.{elem}
 use Rattle.sets.specs.Sets.{bit, at, member, insert, members}
-use Rattle.ty.specs.Types.{ArgType, Primitive, Object, Array, Unknown, compare, isKnown, isPrimitive, isObject, isArray, isReference, isWide, isConcrete, element, categories, hintOfList, concreteHint}
-use Rattle.ty.specs.Types.{Void, Boolean, Byte, Short, Char, Int, Long, Float, Double, ObjectCategory, ArrayCategory}
+use Rattle.ty.specs.Types.{ArgType, Primitive, Object, Array, Unknown, compare, isKnown, isPrimitive, isObject, isArray, isReference, isWide, isConcrete, element, categories, hintOfList, concreteHint, Void, Boolean, Byte, Short, Char, Int, Long, Float, Double, ObjectCategory, ArrayCategory}
 use Rattle.view.specs.View.{insertAll, withParents, grow, level, reached, reach, ancestor, allRecorded, complete, relation, supertype}
 use Rattle.view.specs.Examples.{lacking}
 use Rattle.lattice.specs.Lattice.{World, sameType, hasAll, unknownAccepts, inEither, unknownUnion, joinKnown, primitiveAssignable, assignableApart, isAssignable, producerBoundCompatible, narrow, underDouble, joinPrimitive, joinApart, join, joinFrom, joinAll, assignableToAll, leastHint, mostSpecificUpper}

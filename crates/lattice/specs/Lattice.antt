@@ -8,8 +8,7 @@ use lib.Dec.{eqb}
 use Rattle.order.specs.Lists.{elem}
 use Rattle.order.specs.declared.Order.{Order}
 use Rattle.order.specs.declared.Order.the-variants.{Less, Equal, Greater}
-use Rattle.ty.specs.Types.{ArgType, Primitive, Object, Array, Unknown, compare, categories, isPrimitive, isReference, isWide, concreteHint}
-use Rattle.ty.specs.Types.{Boolean, Byte, Short, Char, Int, Long, Float, Double, ObjectCategory, ArrayCategory}
+use Rattle.ty.specs.Types.{ArgType, Primitive, Object, Array, Unknown, compare, categories, isPrimitive, isReference, isWide, concreteHint, Boolean, Byte, Short, Char, Int, Long, Float, Double, ObjectCategory, ArrayCategory}
 use Rattle.order.specs.Compare.{isEqual}
 use Rattle.ty.specs.Answers.{unknownType}
 use Rattle.view.specs.declared.Relation.{Relation}

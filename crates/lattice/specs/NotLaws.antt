@@ -11,8 +11,7 @@ use borrow.Author.Tests.{eq-eqb, ne-eqb}
 use Rattle.order.specs.Compare.{compareNumbers, compareLists}
 use Rattle.order.specs.Lists.{elem}
 use Rattle.sets.specs.Sets.{bit, at, member, insert, members}
-use Rattle.ty.specs.Types.{ArgType, Primitive, Object, Array, Unknown, compare, categories}
-use Rattle.ty.specs.Types.{Void, Boolean, ObjectCategory, ArrayCategory}
+use Rattle.ty.specs.Types.{ArgType, Primitive, Object, Array, Unknown, compare, categories, Void, Boolean, ObjectCategory, ArrayCategory}
 use Rattle.view.specs.View.{insertAll, withParents, grow, level, reached, reach, ancestor, relation, supertype, View}
 use Rattle.lattice.specs.Lattice.{World, sameType, hasAll, unknownAccepts, inEither, unknownUnion, assignableApart, isAssignable, narrow, underDouble, joinPrimitive, inBoth, joinKnown, joinArrayClass, joinApart, join}
 

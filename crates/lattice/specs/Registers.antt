@@ -8,8 +8,7 @@ use lib.Dec.{eqb}
 use Rattle.order.specs.Compare.{compareNumbers}
 use Rattle.order.specs.Lists.{elem}
 use Rattle.order.specs.Tests.{same, same-eq, testBelow, tested-below}
-use Rattle.ty.specs.Types.{ArgType, Primitive, Object, Array, Unknown, compare, isPrimitive, isReference, wideCategory, allWide, isWide}
-use Rattle.ty.specs.Types.{Boolean, Byte, Short, Char, Int, Long, Float, Double, ObjectCategory, ArrayCategory}
+use Rattle.ty.specs.Types.{ArgType, Primitive, Object, Array, Unknown, compare, isPrimitive, isReference, wideCategory, allWide, isWide, Boolean, Byte, Short, Char, Int, Long, Float, Double, ObjectCategory, ArrayCategory}
 use Rattle.lattice.specs.Lattice.{sameType, hasAll, unknownAccepts, sameRegisterCategory, observedAccepts, anyAccepts, domainAccepts}
 
 -- table 2.11.1-B: an actual type and its category

@@ -2,19 +2,21 @@
 use mathlib.Core.Path.{_≡_}
 use mathlib.Core.Bool.{cond, _&&_}
 use mathlib.Core.List.{List, [], _∷_}
-use Prim.Native.Nat.{ℕ, suc}
+use Prim.Native.Nat.{ℕ, suc, _*_, _≤_}
 use lib.Dec.{eqb}
 use lib.ListN.{length, take, drop, replicate}
 use Rattle.tables.specs.declared.Tables.{Tables}
 use Rattle.tables.specs.Table.{pairsRoom}
 use Rattle.rows.specs.declared.Outcome.{Outcome}
-use Rattle.rows.specs.Rows.{State, Ran, stateOf}
+use Rattle.rows.specs.Rows.{noTables, State, Ran, stateOf}
 use Rattle.rows.specs.Laws.{Sound}
-use Rattle.columns.specs.Columns.{inside, recordRows}
+use Rattle.columns.specs.Columns.{nameRows, inside, recordRows}
 use Rattle.layers.specs.declared.StackTables.{StackTables}
 use Rattle.layers.specs.declared.StackOutcome.{StackOutcome}
 use Rattle.layers.specs.Layers.{layersRoom}
 use Rattle.layers.specs.Stacks.{Stack, StackRan, ground, stackRan, openRan, stackOf, Holds}
+use Rattle.lending.specs.Lending.{Slice, came}
+use Rattle.gathering.specs.Gathering.{bitsRoom, keysIn}
 
 -- the flags of a row that opens a layer: 0x80 and the number of the frame that does
 abbrev pub openFlags : ℕ
@@ -49,6 +51,10 @@ firstOpen (f ∷ fs) = cond (eqb f openFlags) 0 (suc (firstOpen fs))
 abbrev pub grounded : Ran → StackRan
 grounded r = record { refusal = r .refusal; state = ground (r .state) }
 
+-- the first n of the records that a function is lent, as those of a plain table
+abbrev pub firstRowsBy : ℕ → (parents fs cs ats ls : Slice) → State → Ran
+firstRowsBy n parents fs cs ats ls = recordRows (came parents) (take n (came fs)) (take n (came cs)) (take n (came ats)) (take n (came ls))
+
 -- n rows as those of a plain table, then the others
 abbrev pub lowestThen : ℕ → List ℕ → List ℕ → List ℕ → List ℕ → List ℕ → State → StackRan
 lowestThen n parents fs cs ats ls s =
@@ -71,11 +77,21 @@ abbrev pub Lowest : List ℕ → List ℕ → List ℕ → List ℕ → List ℕ
 Lowest fs cs ats ls pairs marks t =
     (length fs ≡ length cs) × (length fs ≡ length ats) × (length fs ≡ length ls) × (length pairs ≡ layersRoom) × Sound (stateOf pairs marks t) × (t .pairs ≡ 0)
 
+-- records in columns of equal length, slices that hold a stack, and bits with room for every class and without a key
+abbrev pub Gatherable : List ℕ → List ℕ → List ℕ → List ℕ → List ℕ → List ℕ → StackTables → List ℕ → Type 0
+Gatherable fs cs ats ls pairs marks s bits =
+    (length fs ≡ length cs) × (length fs ≡ length ats) × (length fs ≡ length ls) × Holds pairs marks s
+    × (16 * s .tables .names ≤ length bits) × (length bits ≤ bitsRoom) × (keysIn bits ≡ [])
+
 -- THE STACK OF A TABLE: the names' refusal; else the rows, from no pair and the marks as they came
 unfoldable pub stackTable : Outcome → List ℕ → List ℕ → List ℕ → List ℕ → List ℕ → List ℕ → StackRan
 stackTable named parents fs cs ats ls marks =
     let s : Stack = ground (record { tables = named .tables; keys = []; marks = marks }) in
     cond (eqb (named .refusal) 0) (stackRows parents fs cs ats ls s) (record { refusal = named .refusal; state = s })
+
+-- of the columns that a function is lent
+abbrev pub stackBy : (names ats lens fs cs starts sizes parents marks : Slice) → StackRan
+stackBy names ats lens fs cs starts sizes parents marks = stackTable (nameRows (came names) (came ats) (came lens) [] noTables) (came parents) (came fs) (came cs) (came starts) (came sizes) (came marks)
 
 -- ---- with room for the layers that there are
 

@@ -18,8 +18,7 @@ use Rattle.methods.specs.declared.MethodRead.{MethodRead}
 use Rattle.descriptor.specs.Read.{readType, finish}
 use Rattle.methods.specs.Method.{Method, Whole, Broken, returns}
 use Rattle.methods.specs.Answers.{foundMethod, refusedMethod, answerOf, methodAnswer, paramsAfter, methodOf}
-use Rattle.methods.specs.Params.{judgedAll, methodFrom, ending, also, closing-judged, Proper, proper-from}
-use Rattle.methods.specs.Params.{method-end, method-close, method-full, method-refused, method-more, method-short, method-unopened, method-opened}
+use Rattle.methods.specs.Params.{judgedAll, methodFrom, ending, also, closing-judged, Proper, proper-from, method-end, method-close, method-full, method-refused, method-more, method-short, method-unopened, method-opened}
 
 -- ---- the answer and the slice, after `count` parameters
 

@@ -10,7 +10,7 @@ use lib.ListN.{length, take, drop, getD, set, replicate, length-set, length-take
 use lib.Seq.{paste, paste-suc, take-all, take-paste, drop-paste, length-paste, drop-drop, drop-at, getD-take, getD-drop, ext-getD, length-take-le}
 use borrow.Author.Tests.{eqb-true, leb-true, ltb-true, ne-eqb, eq-eqb, le-leb, lt-leb, lt-ltb, le-ltb}
 use borrow.Rule.Slice.PartMut.{putMid, same-len-mid}
-use Rattle.sets.specs.Sets.{member}
+use Rattle.sets.specs.Sets.{MembersBelow, member}
 use Rattle.sets.specs.Laws.{member-empty}
 use Rattle.view.specs.View.{View, reached, reach}
 use Rattle.view.specs.Reach.{Good, reach-below, reach-trans}
@@ -113,8 +113,8 @@ laid-unique v s n pairs a b p q =
     ∙ sym (q .is)
 
 -- what is reached from classes of the table are classes of it, and has all above
-module _ (v : View) (g : Good v) (s above : List ℕ) (inside : (c : ℕ) → member s c ≡ true → c < v .names) (sp : Spread v s above) where
-  pub above-inside : (c : ℕ) → member above c ≡ true → c < v .names
+module _ (v : View) (g : Good v) (s above : List ℕ) (inside : MembersBelow (v .names) s) (sp : Spread v s above) where
+  pub above-inside : MembersBelow (v .names) above
   above-inside c m = let w = sp .only c m in reach-below v g (w .0) (inside (w .0) (w .1)) c (w .2)
 
   pub above-closed : (d e : ℕ) → member above d ≡ true → reach v d e ≡ true → member above e ≡ true

@@ -12,10 +12,10 @@ use tables::Tables;
 use view::Relation;
 ghost use mathlib.Core.Path.{_≡_};
 ghost use mathlib.Core.Bool.{true};
-ghost use Prim.Native.Nat.{ℕ, _≤_, _<_};
+ghost use Prim.Native.Nat.{_≤_, _<_};
 ghost use lib.ListN.{length, replicate};
 ghost use lib.Seq.{paste};
-ghost use Rattle.sets.specs.Sets.{member};
+ghost use Rattle.sets.specs.Sets.{MembersBelow};
 ghost use Rattle.view.specs.View.{reached, reach, relation};
 ghost use Rattle.tables.specs.Table.{namesRoom, pairsRoom, viewOf};
 ghost use Rattle.prepared.specs.Prepared.{tableRoom, hasRow, Prepared, Laid};
@@ -108,7 +108,7 @@ fn copy_front(from: &[u64], n: usize, into: &mut [u64])
 
 // Into an empty table: the keys, and a row for each class that is reached from s.
 pub fn prepare(pairs: &[u64], marks: &[u64], t: Tables, s: Set, table: &mut [u64])
-    requires { ⌜ (t .names ≤ namesRoom) × (t .object < t .names) × (t .pairs ≤ pairsRoom) × (t .pairs ≤ length (now pairs)) × ((c : ℕ) → member (s .words) c ≡ true → c < t .names) × (now table ≡ replicate tableRoom 0) ⌝ }
+    requires { ⌜ (t .names ≤ namesRoom) × (t .object < t .names) × (t .pairs ≤ pairsRoom) × (t .pairs ≤ length (now pairs)) × MembersBelow (t .names) (s .words) × (now table ≡ replicate tableRoom 0) ⌝ }
     ensures { λ _. ⌜ Laid (viewOf (now (pairs .entry)) (now (marks .entry)) t) (s .words) (t .pairs) (now (pairs .entry)) (now (table .exit)) ⌝ }
 {
     let above = spread(pairs, marks, t, s);

@@ -11,6 +11,8 @@ use Rattle.problems.specs.Problems.{Columns, Placed, problem}
 use Rattle.problems.specs.Stored.{pairKey}
 use Rattle.problems.specs.Kept.{problemOf, Keeps}
 use Rattle.problemcolumns.specs.declared.ProblemCounts.{ProblemCounts}
+use denote.Ref.{now}
+use Rattle.lending.specs.Lending.{SliceIn, Slice, came, became}
 
 -- the columns that slices are, in the order of the parameters
 abbrev pub columnsIn : ℕ → List ℕ → List ℕ → List ℕ → List ℕ → List ℕ → List ℕ → List ℕ → List ℕ → List ℕ → List ℕ → List ℕ → List ℕ → Columns
@@ -29,6 +31,13 @@ columnsIn components variables boundComponents boundKinds boundWords flowSources
   writeArrays = writeArrays;
   writeValues = writeValues;
 }
+
+-- the columns that a function is lent, as `requires` has them, and as `ensures` has them: as they came
+abbrev pub columnsAsked : ℕ → (variables boundComponents boundKinds boundWords flowSources flowTargets upperSources upperTargets readArrays readResults writeArrays writeValues : SliceIn) → Columns
+columnsAsked components variables boundComponents boundKinds boundWords flowSources flowTargets upperSources upperTargets readArrays readResults writeArrays writeValues = columnsIn components (now variables) (now boundComponents) (now boundKinds) (now boundWords) (now flowSources) (now flowTargets) (now upperSources) (now upperTargets) (now readArrays) (now readResults) (now writeArrays) (now writeValues)
+
+abbrev pub columnsBy : ℕ → (variables boundComponents boundKinds boundWords flowSources flowTargets upperSources upperTargets readArrays readResults writeArrays writeValues : Slice) → Columns
+columnsBy components variables boundComponents boundKinds boundWords flowSources flowTargets upperSources upperTargets readArrays readResults writeArrays writeValues = columnsIn components (came variables) (came boundComponents) (came boundKinds) (came boundWords) (came flowSources) (came flowTargets) (came upperSources) (came upperTargets) (came readArrays) (came readResults) (came writeArrays) (came writeValues)
 
 -- `evenProblem`, of the lengths
 unfoldable pub evenRows : ℕ → ℕ → ℕ → ℕ → ℕ → ℕ → ℕ → ℕ → ℕ → ℕ → ℕ → Bool
@@ -63,3 +72,7 @@ pub record Taken (names : ℕ) (c : Columns) (bounds bounds′ flows flows′ up
       ≡ problem names c .problem
   pub keeps : r .refusal ≡ 0
       → Keeps names (c .components) (c .variables) (take (r .bounds) bounds′) (take (r .flows) flows′) (take (r .uppers) uppers′) (take (r .reads) reads′) (take (r .writes) writes′)
+
+-- of the slices that a function is lent
+abbrev pub TakenBy : ℕ → Columns → (bounds flows uppers reads writes : Slice) → ProblemCounts → Type 0
+TakenBy names c bounds flows uppers reads writes = Taken names c (came bounds) (became bounds) (came flows) (became flows) (came uppers) (became uppers) (came reads) (became reads) (came writes) (became writes)

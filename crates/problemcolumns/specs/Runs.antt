@@ -9,6 +9,7 @@ use Rattle.rows.specs.Rows.{filled}
 use Rattle.problems.specs.Problems.{Columns}
 use Rattle.problemrows.specs.ProblemRows.{Ran, refused, taken, countRefusal, variableRow, pairRow, boundRow}
 use Rattle.problemcolumns.specs.declared.ProblemCounts.{ProblemCounts}
+use Rattle.lending.specs.Lending.{Slice, came, became}
 
 -- row by row; the first refusal ends
 unfoldable pub variableRun : ℕ → List ℕ → List ℕ → Ran
@@ -67,3 +68,7 @@ pub record Enters (names : ℕ) (c : Columns) (bounds bounds′ flows flows′ u
   pub uppers-are : uppers′ ≡ filled (uppersRan names c .entries) uppers
   pub reads-are : reads′ ≡ filled (readsRan names c .entries) reads
   pub writes-are : writes′ ≡ filled (writesRan names c .entries) writes
+
+-- of the slices that a function is lent
+abbrev pub EntersBy : ℕ → Columns → (bounds flows uppers reads writes : Slice) → ProblemCounts → Type 0
+EntersBy names c bounds flows uppers reads writes = Enters names c (came bounds) (became bounds) (came flows) (became flows) (came uppers) (became uppers) (came reads) (became reads) (came writes) (became writes)

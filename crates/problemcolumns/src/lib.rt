@@ -15,8 +15,8 @@ ghost use Prim.Native.Nat.{_≤_};
 ghost use lib.ListN.{length};
 ghost use Rattle.problems.specs.Problems.{evenProblem};
 ghost use Rattle.problemrows.specs.ProblemRows.{Adds};
-ghost use Rattle.problemcolumns.specs.ProblemColumns.{columnsIn, evenRows, Roomy, Taken};
-ghost use Rattle.problemcolumns.specs.Runs.{variableRun, headRefusal, boundRun, pairRun, after, Enters};
+ghost use Rattle.problemcolumns.specs.ProblemColumns.{evenRows, Roomy, columnsAsked, columnsBy, TakenBy};
+ghost use Rattle.problemcolumns.specs.Runs.{variableRun, headRefusal, boundRun, pairRun, after, EntersBy};
 
 // 0 or the refusal, and how many entries the slices hold.
 pub struct ProblemCounts {
@@ -194,8 +194,8 @@ fn build_entries(
     reads: &mut [u64],
     writes: &mut [u64],
 ) -> ProblemCounts
-    requires { ⌜ (names ≤ 1024) × (components ≤ 512) × (evenProblem (columnsIn components (now «var_comp») (now «bnd_comp») (now «bnd_kind») (now «bnd_type») (now «flow_src») (now «flow_dst») (now «up_src») (now «up_dst») (now «read_arr») (now «read_res») (now «write_arr») (now «write_val»)) ≡ true) × Roomy (now bounds) (now flows) (now uppers) (now reads) (now writes) ⌝ }
-    ensures { λ r. ⌜ Enters names (columnsIn components (now («var_comp» .entry)) (now («bnd_comp» .entry)) (now («bnd_kind» .entry)) (now («bnd_type» .entry)) (now («flow_src» .entry)) (now («flow_dst» .entry)) (now («up_src» .entry)) (now («up_dst» .entry)) (now («read_arr» .entry)) (now («read_res» .entry)) (now («write_arr» .entry)) (now («write_val» .entry))) (now (bounds .entry)) (now (bounds .exit)) (now (flows .entry)) (now (flows .exit)) (now (uppers .entry)) (now (uppers .exit)) (now (reads .entry)) (now (reads .exit)) (now (writes .entry)) (now (writes .exit)) r ⌝ }
+    requires { ⌜ (names ≤ 1024) × (components ≤ 512) × (evenProblem (columnsAsked components «var_comp» «bnd_comp» «bnd_kind» «bnd_type» «flow_src» «flow_dst» «up_src» «up_dst» «read_arr» «read_res» «write_arr» «write_val») ≡ true) × Roomy (now bounds) (now flows) (now uppers) (now reads) (now writes) ⌝ }
+    ensures { λ r. ⌜ EntersBy names (columnsBy components «var_comp» «bnd_comp» «bnd_kind» «bnd_type» «flow_src» «flow_dst» «up_src» «up_dst» «read_arr» «read_res» «write_arr» «write_val») bounds flows uppers reads writes r ⌝ }
 {
     let b = add_bounds(names, components, bnd_comp, bnd_kind, bnd_type, bounds);
     let f = add_pairs_after(b.refusal, components, flow_src, flow_dst, flows, FLOWS);
@@ -235,8 +235,8 @@ pub fn build_problem(
     reads: &mut [u64],
     writes: &mut [u64],
 ) -> ProblemCounts
-    requires { ⌜ (names ≤ 1024) × (evenProblem (columnsIn components (now «var_comp») (now «bnd_comp») (now «bnd_kind») (now «bnd_type») (now «flow_src») (now «flow_dst») (now «up_src») (now «up_dst») (now «read_arr») (now «read_res») (now «write_arr») (now «write_val»)) ≡ true) × Roomy (now bounds) (now flows) (now uppers) (now reads) (now writes) ⌝ }
-    ensures { λ r. ⌜ Taken names (columnsIn components (now («var_comp» .entry)) (now («bnd_comp» .entry)) (now («bnd_kind» .entry)) (now («bnd_type» .entry)) (now («flow_src» .entry)) (now («flow_dst» .entry)) (now («up_src» .entry)) (now («up_dst» .entry)) (now («read_arr» .entry)) (now («read_res» .entry)) (now («write_arr» .entry)) (now («write_val» .entry))) (now (bounds .entry)) (now (bounds .exit)) (now (flows .entry)) (now (flows .exit)) (now (uppers .entry)) (now (uppers .exit)) (now (reads .entry)) (now (reads .exit)) (now (writes .entry)) (now (writes .exit)) r ⌝ }
+    requires { ⌜ (names ≤ 1024) × (evenProblem (columnsAsked components «var_comp» «bnd_comp» «bnd_kind» «bnd_type» «flow_src» «flow_dst» «up_src» «up_dst» «read_arr» «read_res» «write_arr» «write_val») ≡ true) × Roomy (now bounds) (now flows) (now uppers) (now reads) (now writes) ⌝ }
+    ensures { λ r. ⌜ TakenBy names (columnsBy components «var_comp» «bnd_comp» «bnd_kind» «bnd_type» «flow_src» «flow_dst» «up_src» «up_dst» «read_arr» «read_res» «write_arr» «write_val») bounds flows uppers reads writes r ⌝ }
 {
     let refusal = check_head(components, var_comp);
     if refusal != 0 {

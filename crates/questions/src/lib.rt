@@ -24,7 +24,7 @@ ghost use Rattle.tables.specs.Table.{marksRoom, viewOf};
 ghost use Rattle.lattice.specs.World.{worldOf};
 ghost use Rattle.joins.specs.Joins.{Fits};
 ghost use Rattle.rows.specs.Rows.{noTables, allBelow};
-ghost use Rattle.columns.specs.Given.{given, evenLengths, noMarks};
+ghost use Rattle.columns.specs.Given.{evenLengths, noMarks, givenBy};
 ghost use Rattle.layercolumns.specs.LayerColumns.{RoomFor};
 ghost use Rattle.questions.specs.Questions.{ofTypes, goodNumbers, valueOf, gathered, Asked, Gathers};
 ghost use Rattle.questions.specs.Inside.{Builds, ranChecks, tableAnswer, tableAncestors, noAncestors, Opens, NoRows, Single, Askable, TellsOver, Tells};
@@ -119,7 +119,7 @@ pub fn build_table(
     marks: &mut [u64],
 ) -> Outcome
     requires { ⌜ RoomFor (now «rec_flags») (now pairs) × (now marks ≡ noMarks) ⌝ }
-    ensures { λ r. ⌜ Builds (given (now (names .entry)) (now («name_at» .entry)) (now («name_len» .entry)) (now («rec_flags» .entry)) (now («rec_class» .entry)) (now («rec_at» .entry)) (now («rec_len» .entry)) (now (parents .entry))) (now (pairs .exit)) (now (marks .exit)) r ⌝ }
+    ensures { λ r. ⌜ Builds (givenBy names «name_at» «name_len» «rec_flags» «rec_class» «rec_at» «rec_len» parents) (now (pairs .exit)) (now (marks .exit)) r ⌝ }
 {
     if is_even(
         name_at.len(),
@@ -237,7 +237,7 @@ fn open_table(
     marks: &mut [u64],
 ) -> Outcome
     requires { ⌜ RoomFor (now «rec_flags») (now pairs) × (now marks ≡ noMarks) ⌝ }
-    ensures { λ r. ⌜ Opens (given (now (names .entry)) (now («name_at» .entry)) (now («name_len» .entry)) (now («rec_flags» .entry)) (now («rec_class» .entry)) (now («rec_at» .entry)) (now («rec_len» .entry)) (now (parents .entry))) types a b (now (pairs .exit)) (now (marks .exit)) r ⌝ }
+    ensures { λ r. ⌜ Opens (givenBy names «name_at» «name_len» «rec_flags» «rec_class» «rec_at» «rec_len» parents) types a b (now (pairs .exit)) (now (marks .exit)) r ⌝ }
 {
     let o = build_table(
         names,
@@ -314,7 +314,7 @@ fn ask_over(
     marks: &mut [u64],
 ) -> Answer
     requires { ⌜ RoomFor (now «rec_flags») (now pairs) × (now marks ≡ noMarks) ⌝ }
-    ensures { λ r. ⌜ r ≡ tableAnswer (given (now (names .entry)) (now («name_at» .entry)) (now («name_len» .entry)) (now («rec_flags» .entry)) (now («rec_class» .entry)) (now («rec_at» .entry)) (now («rec_len» .entry)) (now (parents .entry))) q a b ⌝ }
+    ensures { λ r. ⌜ r ≡ tableAnswer (givenBy names «name_at» «name_len» «rec_flags» «rec_class» «rec_at» «rec_len» parents) q a b ⌝ }
 {
     let types = of_types(q);
     let o = open_table(
@@ -384,7 +384,7 @@ fn ancestors_over(
     marks: &mut [u64],
 ) -> Ancestors
     requires { ⌜ RoomFor (now «rec_flags») (now pairs) × (now marks ≡ noMarks) ⌝ }
-    ensures { λ r. ⌜ r ≡ tableAncestors (given (now (names .entry)) (now («name_at» .entry)) (now («name_len» .entry)) (now («rec_flags» .entry)) (now («rec_class» .entry)) (now («rec_at» .entry)) (now («rec_len» .entry)) (now (parents .entry))) class ⌝ }
+    ensures { λ r. ⌜ r ≡ tableAncestors (givenBy names «name_at» «name_len» «rec_flags» «rec_class» «rec_at» «rec_len» parents) class ⌝ }
 {
     let o = open_table(
         names,
@@ -462,7 +462,7 @@ fn ask_layers(
     b: u64,
 ) -> Told
     requires { ⌜ Single set q a b ⌝ }
-    ensures { λ r. ⌜ Tells (given (now (names .entry)) (now («name_at» .entry)) (now («name_len» .entry)) (now («rec_flags» .entry)) (now («rec_class» .entry)) (now («rec_at» .entry)) (now («rec_len» .entry)) (now (parents .entry))) set q a b (r .answer) (r .ancestors) ⌝ }
+    ensures { λ r. ⌜ Tells (givenBy names «name_at» «name_len» «rec_flags» «rec_class» «rec_at» «rec_len» parents) set q a b (r .answer) (r .ancestors) ⌝ }
 {
     let mut pairs = [0u64; SHOWN];
     let mut marks = [0u64; MARKS];
@@ -500,7 +500,7 @@ pub fn ask(
     b: u64,
     work: &mut [u64],
 ) -> Answer
-    ensures { λ r. ⌜ Asked (given (now (names .entry)) (now («name_at» .entry)) (now («name_len» .entry)) (now («rec_flags» .entry)) (now («rec_class» .entry)) (now («rec_at» .entry)) (now («rec_len» .entry)) (now (parents .entry))) q a b (now (work .entry)) (now (work .exit)) r ⌝ }
+    ensures { λ r. ⌜ Asked (givenBy names «name_at» «name_len» «rec_flags» «rec_class» «rec_at» «rec_len» parents) q a b (now (work .entry)) (now (work .exit)) r ⌝ }
 {
     if work.len() < ROOM {
         return Answer {
@@ -559,7 +559,7 @@ pub fn ancestors_of(
     class: u64,
     work: &mut [u64],
 ) -> Ancestors
-    ensures { λ r. ⌜ Gathers (given (now (names .entry)) (now («name_at» .entry)) (now («name_len» .entry)) (now («rec_flags» .entry)) (now («rec_class» .entry)) (now («rec_at» .entry)) (now («rec_len» .entry)) (now (parents .entry))) class (now (work .entry)) (now (work .exit)) r ⌝ }
+    ensures { λ r. ⌜ Gathers (givenBy names «name_at» «name_len» «rec_flags» «rec_class» «rec_at» «rec_len» parents) class (now (work .entry)) (now (work .exit)) r ⌝ }
 {
     if work.len() < ROOM {
         return none_gathered(22);

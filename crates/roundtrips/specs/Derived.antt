@@ -15,9 +15,7 @@ use Rattle.ty.specs.Words.{legalAtBase, legalType}
 use Rattle.names.specs.Names.{lookup}
 use Rattle.names.specs.Lookup.{lookup-told}
 use Rattle.jvms.specs.Jvms as jvms
-use Rattle.jvms.specs.Jvms.{JavaType, dimensions, AnyName, BaseType, B, C, D, F, I, BaseType.J, S, Z, FieldType, FieldType.base, FieldType.object, FieldType.array}
-use Rattle.jvms.specs.Jvms.{ReturnDescriptor, ReturnDescriptor.field, ReturnDescriptor.void, Parameter, Parameters, Parameters.none, Parameters.more}
-use Rattle.jvms.specs.Jvms.{Signature, MethodDescriptor, MethodDescriptor.method}
+use Rattle.jvms.specs.Jvms.{JavaType, dimensions, AnyName, BaseType, B, C, D, F, I, BaseType.J, S, Z, FieldType, FieldType.base, FieldType.object, FieldType.array, ReturnDescriptor, ReturnDescriptor.field, ReturnDescriptor.void, Parameter, Parameters, Parameters.none, Parameters.more, Signature, MethodDescriptor, MethodDescriptor.method}
 use Rattle.writer.specs.Print.{letterByte, print, printAll, printMethod}
 use Rattle.roundtrips.specs.ToWord.{toType, MethodType, methodType, toTypes, toMethod}
 

@@ -14,8 +14,7 @@ use Rattle.names.specs.Names.{placeGood, nameChecks, checkRow, checkRows, check
 use Rattle.descriptor.specs.Read.{letterOf, indexOf, nameRead, readName, readType, finish}
 use Rattle.methods.specs.Method.{readParams, returns, afterParams, readMethod}
 use Rattle.jvms.specs.Meaning.{typeAt, typeRead, parametersAt, methodRead}
-use Rattle.writer.specs.Print.{letterByte, print, printAll, printMethod, printWord, printMethodWords}
-use Rattle.writer.specs.Print.{checkedTypeRefusal, typeRefusal, checkedMethodRefusal, methodRefusal, answer, output}
+use Rattle.writer.specs.Print.{letterByte, print, printAll, printMethod, printWord, printMethodWords, checkedTypeRefusal, typeRefusal, checkedMethodRefusal, methodRefusal, answer, output}
 use Rattle.roundtrips.specs.ToWord.{toType, toTypes, toMethod, readMethodAs, wordsOf, toWords}
 
 abbrev bytes : List ℕ

@@ -18,8 +18,7 @@ use Rattle.ty.specs.Round.{legal-primitive, legal-object, legal-unknown, legal-
 use Rattle.checks.specs.Checks.{Check, check, firstRefusal}
 use Rattle.names.specs.Names.{nameAt, checkNames}
 use Rattle.names.specs.Table.{Checked, checked, accepted, sum, below}
-use Rattle.writer.specs.Print.{print, printAll, printWord, printWords, printMethodWords, TypeWrote, MethodWrote}
-use Rattle.writer.specs.Print.{checkedTypeRefusal, typeRefusal, checkedMethodRefusal, methodRefusal, answer, output, Wrote}
+use Rattle.writer.specs.Print.{print, printAll, printWord, printWords, printMethodWords, TypeWrote, MethodWrote, checkedTypeRefusal, typeRefusal, checkedMethodRefusal, methodRefusal, answer, output, Wrote}
 use Rattle.writer.specs.Steps.{printBase, classBytes, print-word, print-class, print-method, legal-inside, type-named, method-named}
 use Rattle.writer.specs.declared.Written.{Written}
 

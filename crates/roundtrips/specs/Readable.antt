@@ -18,8 +18,7 @@ use Rattle.names.specs.Names.{nameAt, lookup}
 use Rattle.names.specs.Table.{Checked, name-sized}
 use Rattle.names.specs.Lookup.{lookup-is}
 use Rattle.jvms.specs.Jvms as jvms
-use Rattle.jvms.specs.Jvms.{JavaType, dimensions, AnyName, BaseType, B, C, D, F, I, BaseType.J, S, Z, FieldType, FieldType.base, FieldType.object, FieldType.array}
-use Rattle.jvms.specs.Jvms.{ReturnDescriptor, ReturnDescriptor.field, ReturnDescriptor.void, Parameter, Parameters, Parameters.none, Parameters.more}
+use Rattle.jvms.specs.Jvms.{JavaType, dimensions, AnyName, BaseType, B, C, D, F, I, BaseType.J, S, Z, FieldType, FieldType.base, FieldType.object, FieldType.array, ReturnDescriptor, ReturnDescriptor.field, ReturnDescriptor.void, Parameter, Parameters, Parameters.none, Parameters.more}
 use Rattle.writer.specs.Print.{letterByte, print, printAll}
 use Rattle.roundtrips.specs.ToWord.{toType, toTypes}
 use Rattle.roundtrips.specs.Derived.{limits-parts, legalTypes}

@@ -16,8 +16,7 @@ use Rattle.names.specs.Lookup.{lookup-told}
 use Rattle.descriptor.specs.declared.Read.the-variants.{Found}
 use Rattle.descriptor.specs.Read.{readWhole}
 use Rattle.methods.specs.Method.{readMethod}
-use Rattle.jvms.specs.Jvms.{dimensions, AnyName}
-use Rattle.jvms.specs.Jvms.{Signature, MethodDescriptor, MethodDescriptor.method}
+use Rattle.jvms.specs.Jvms.{dimensions, AnyName, Signature, MethodDescriptor, MethodDescriptor.method}
 use Rattle.jvms.specs.Meaning.{typeRead, methodRead, Limits, placed}
 use Rattle.jvms.specs.JvmsTheorem.{ordinary-type, ordinary-type-place, ordinary-method}
 use Rattle.writer.specs.Print.{print, printAll, printMethod, printWord, printMethodWords, typesOf, typeRefusal, methodRefusal, answer, output, Wrote}

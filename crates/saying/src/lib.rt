@@ -10,7 +10,7 @@ ghost use Prim.Native.Nat.{_+_, _≤_};
 ghost use lib.ListN.{length};
 ghost use Rattle.lineout.specs.Printed.{Puts};
 ghost use Rattle.framestate.specs.FrameState.{storeOf};
-ghost use Rattle.solveframe.specs.Parts.{slicesOf};
+ghost use Rattle.solveframe.specs.Parts.{slicesBy, slicesLeft};
 ghost use Rattle.stepping.specs.Stepping.{Stands};
 ghost use Rattle.saying.specs.Saying.{saidText, Speaks};
 
@@ -52,7 +52,7 @@ pub fn say_line(
     n: Numbers,
 ) -> Spoken
     requires { ⌜ Stands (now last) (now pairs) (now marks) (now rows) n × (length (now answers) ≡ 2048) × (filled + 81920 ≤ length (now out)) ⌝ }
-    ensures { λ r. ⌜ Speaks (now (line .entry)) number (storeOf (slicesOf (now (last .entry)) (now (pairs .entry)) (now (marks .entry)) (now (rows .entry))) n) (slicesOf (now (last .entry)) (now (pairs .entry)) (now (marks .entry)) (now (rows .entry))) (slicesOf (now (last .exit)) (now (pairs .exit)) (now (marks .exit)) (now (rows .exit))) (now (answers .entry)) (now (answers .exit)) filled (now (out .entry)) (now (out .exit)) r ⌝ }
+    ensures { λ r. ⌜ Speaks (now (line .entry)) number (storeOf (slicesBy last pairs marks rows) n) (slicesBy last pairs marks rows) (slicesLeft last pairs marks rows) (now (answers .entry)) (now (answers .exit)) filled (now (out .entry)) (now (out .exit)) r ⌝ }
     ensures { λ r. ⌜ Stands (now (last .exit)) (now (pairs .exit)) (now (marks .exit)) (now (rows .exit)) (r .numbers) × (r .filled ≤ length (now (out .exit))) ⌝ }
 {
     let v = n.variables;

@@ -1,4 +1,5 @@
 -- What a set is, and what each operation makes of it: every definition that a contract of this crate cites, and no law.
+use mathlib.Core.Path.{_≡_}
 use mathlib.Core.Bool.{Bool, true, false, _&&_}
 use mathlib.Core.List.{List, [], _∷_}
 use Prim.Native.Nat.{ℕ, zero, suc, _+_, _/_, _%_, _^_, _<_}
@@ -28,6 +29,10 @@ at ws i = bit (i % 64) (getD ws (i / 64) 0)
 -- whether i is in the set
 unfoldable pub member : List ℕ → ℕ → Bool
 member ws i = eqb (at ws i) 1
+
+-- every member is below n
+abbrev pub MembersBelow : ℕ → List ℕ → Type 0
+MembersBelow n s = (c : ℕ) → member s c ≡ true → c < n
 
 -- the set with i; a number past the last word changes nothing (`set` writes nothing there)
 unfoldable pub insert : List ℕ → ℕ → List ℕ

@@ -7,14 +7,16 @@ use Prim.Native.Nat.{ℕ, _-_, _^_}
 use lib.Dec.{eqb, ltb}
 use lib.ListN.{length, replicate}
 use Rattle.checks.specs.Checks.{Check, check, firstRefusal}
-use Rattle.columns.specs.Given.{Given, even}
+use Rattle.columns.specs.Given.{Given, even, givenBy}
 use Rattle.tableview.specs.TableRows.{rowsView, rowsWorld}
 use Rattle.stackview.specs.LayerRows.{shownIn}
 use Rattle.stackview.specs.LayerRefusals.{stackRefusalOf}
 use Rattle.solving.specs.declared.Counts.{Counts}
 use Rattle.solving.specs.Solving.{Solution, Unsolved, solve}
 use Rattle.problems.specs.Problems.{Columns, Placed, evenProblem, problem}
-use Rattle.solves.specs.SolveResult.{Lent, countsOf, answersAfter, componentsAfter, kindsAfter, typesAfter}
+use Rattle.solves.specs.SolveResult.{Lent, countsOf, answersAfter, componentsAfter, kindsAfter, typesAfter, lentBy, leftBy}
+use Rattle.lending.specs.Lending.{Slice}
+use Rattle.problemcolumns.specs.ProblemColumns.{columnsBy}
 
 -- one word a variable, 4,096 entries a column of bounds, 8,192 words of work
 unfoldable pub tooShort : Columns → Lent → Bool
@@ -60,3 +62,9 @@ pub record Leaves (g : Given) (c : Columns) (before after : Lent) : Type 0 where
 pub record SolvesIn (g : Given) (c : Columns) (before after : Lent) (r : Counts) : Type 0 where
   pub counts : r ≡ countsOf (solveIn g c before)
   pub memory : Leaves g c before after
+
+-- of the slices that a function is lent, in the order of its parameters
+abbrev pub SolvesInBy : (names nameAt nameLen flags class at len parents : Slice) → ℕ → (variables boundComponents boundKinds boundWords flowSources flowTargets upperSources upperTargets readArrays readResults writeArrays writeValues answers outComponents outKinds outTypes work : Slice) → Counts → Type 0
+SolvesInBy names nameAt nameLen flags class at len parents components variables boundComponents boundKinds boundWords flowSources flowTargets upperSources upperTargets readArrays readResults writeArrays writeValues answers outComponents outKinds outTypes work =
+    SolvesIn (givenBy names nameAt nameLen flags class at len parents) (columnsBy components variables boundComponents boundKinds boundWords flowSources flowTargets upperSources upperTargets readArrays readResults writeArrays writeValues)
+    (lentBy answers outComponents outKinds outTypes work) (leftBy answers outComponents outKinds outTypes work)

@@ -10,16 +10,8 @@ use solverows::solve_rows;
 use solving::Counts;
 use tables::MARKS;
 use tables::PAIRS;
-ghost use mathlib.Core.Path.{_≡_};
-ghost use mathlib.Core.Bool.{true};
-ghost use lib.ListN.{length};
-ghost use Rattle.columns.specs.Given.{given, noMarks};
-ghost use Rattle.layercolumns.specs.LayerColumns.{RoomFor};
-ghost use Rattle.problems.specs.Problems.{evenProblem};
-ghost use Rattle.problemcolumns.specs.ProblemColumns.{columnsIn};
-ghost use Rattle.solves.specs.SolveResult.{lent, Roomy, Solves};
-ghost use Rattle.solvedoor.specs.SolveDoor.{SolvesIn};
-ghost use Rattle.solvedoor.specs.Inside.{solveOf};
+ghost use Rattle.solvedoor.specs.SolveDoor.{SolvesInBy};
+ghost use Rattle.solvedoor.specs.Inside.{SolvesOfBy, Asked, AskedOver};
 
 // The solve in two slices without entries that have room for the table's layers, of a problem's columns of equal length.
 fn solve_over(
@@ -52,8 +44,8 @@ fn solve_over(
     out_type: &mut [u64],
     work: &mut [u64],
 ) -> Counts
-    requires { ⌜ RoomFor (now «rec_flags») (now pairs) × (now marks ≡ noMarks) × (evenProblem (columnsIn components (now «var_comp») (now «bnd_comp») (now «bnd_kind») (now «bnd_type») (now «flow_src») (now «flow_dst») (now «up_src») (now «up_dst») (now «read_arr») (now «read_res») (now «write_arr») (now «write_val»)) ≡ true) × Roomy (length (now «var_comp»)) (lent (now answers) (now «out_comp») (now «out_kind») (now «out_type») (now work)) ⌝ }
-    ensures { λ r. ⌜ Solves (solveOf (given (now (names .entry)) (now («name_at» .entry)) (now («name_len» .entry)) (now («rec_flags» .entry)) (now («rec_class» .entry)) (now («rec_at» .entry)) (now («rec_len» .entry)) (now (parents .entry))) (columnsIn components (now («var_comp» .entry)) (now («bnd_comp» .entry)) (now («bnd_kind» .entry)) (now («bnd_type» .entry)) (now («flow_src» .entry)) (now («flow_dst» .entry)) (now («up_src» .entry)) (now («up_dst» .entry)) (now («read_arr» .entry)) (now («read_res» .entry)) (now («write_arr» .entry)) (now («write_val» .entry)))) (lent (now (answers .entry)) (now («out_comp» .entry)) (now («out_kind» .entry)) (now («out_type» .entry)) (now (work .entry))) (lent (now (answers .exit)) (now («out_comp» .exit)) (now («out_kind» .exit)) (now («out_type» .exit)) (now (work .exit))) r ⌝ }
+    requires { ⌜ AskedOver «rec_flags» pairs marks components «var_comp» «bnd_comp» «bnd_kind» «bnd_type» «flow_src» «flow_dst» «up_src» «up_dst» «read_arr» «read_res» «write_arr» «write_val» answers «out_comp» «out_kind» «out_type» work ⌝ }
+    ensures { λ r. ⌜ SolvesOfBy names «name_at» «name_len» «rec_flags» «rec_class» «rec_at» «rec_len» parents components «var_comp» «bnd_comp» «bnd_kind» «bnd_type» «flow_src» «flow_dst» «up_src» «up_dst» «read_arr» «read_res» «write_arr» «write_val» answers «out_comp» «out_kind» «out_type» work r ⌝ }
 {
     let o = build_table(
         names,
@@ -124,8 +116,8 @@ fn solve_layers(
     out_type: &mut [u64],
     work: &mut [u64],
 ) -> Counts
-    requires { ⌜ (evenProblem (columnsIn components (now «var_comp») (now «bnd_comp») (now «bnd_kind») (now «bnd_type») (now «flow_src») (now «flow_dst») (now «up_src») (now «up_dst») (now «read_arr») (now «read_res») (now «write_arr») (now «write_val»)) ≡ true) × Roomy (length (now «var_comp»)) (lent (now answers) (now «out_comp») (now «out_kind») (now «out_type») (now work)) ⌝ }
-    ensures { λ r. ⌜ Solves (solveOf (given (now (names .entry)) (now («name_at» .entry)) (now («name_len» .entry)) (now («rec_flags» .entry)) (now («rec_class» .entry)) (now («rec_at» .entry)) (now («rec_len» .entry)) (now (parents .entry))) (columnsIn components (now («var_comp» .entry)) (now («bnd_comp» .entry)) (now («bnd_kind» .entry)) (now («bnd_type» .entry)) (now («flow_src» .entry)) (now («flow_dst» .entry)) (now («up_src» .entry)) (now («up_dst» .entry)) (now («read_arr» .entry)) (now («read_res» .entry)) (now («write_arr» .entry)) (now («write_val» .entry)))) (lent (now (answers .entry)) (now («out_comp» .entry)) (now («out_kind» .entry)) (now («out_type» .entry)) (now (work .entry))) (lent (now (answers .exit)) (now («out_comp» .exit)) (now («out_kind» .exit)) (now («out_type» .exit)) (now (work .exit))) r ⌝ }
+    requires { ⌜ Asked components «var_comp» «bnd_comp» «bnd_kind» «bnd_type» «flow_src» «flow_dst» «up_src» «up_dst» «read_arr» «read_res» «write_arr» «write_val» answers «out_comp» «out_kind» «out_type» work ⌝ }
+    ensures { λ r. ⌜ SolvesOfBy names «name_at» «name_len» «rec_flags» «rec_class» «rec_at» «rec_len» parents components «var_comp» «bnd_comp» «bnd_kind» «bnd_type» «flow_src» «flow_dst» «up_src» «up_dst» «read_arr» «read_res» «write_arr» «write_val» answers «out_comp» «out_kind» «out_type» work r ⌝ }
 {
     let mut pairs = [0u64; SHOWN];
     let mut marks = [0u64; MARKS];
@@ -190,7 +182,7 @@ pub fn solve_slices(
     out_type: &mut [u64],
     work: &mut [u64],
 ) -> Counts
-    ensures { λ r. ⌜ SolvesIn (given (now (names .entry)) (now («name_at» .entry)) (now («name_len» .entry)) (now («rec_flags» .entry)) (now («rec_class» .entry)) (now («rec_at» .entry)) (now («rec_len» .entry)) (now (parents .entry))) (columnsIn components (now («var_comp» .entry)) (now («bnd_comp» .entry)) (now («bnd_kind» .entry)) (now («bnd_type» .entry)) (now («flow_src» .entry)) (now («flow_dst» .entry)) (now («up_src» .entry)) (now («up_dst» .entry)) (now («read_arr» .entry)) (now («read_res» .entry)) (now («write_arr» .entry)) (now («write_val» .entry))) (lent (now (answers .entry)) (now («out_comp» .entry)) (now («out_kind» .entry)) (now («out_type» .entry)) (now (work .entry))) (lent (now (answers .exit)) (now («out_comp» .exit)) (now («out_kind» .exit)) (now («out_type» .exit)) (now (work .exit))) r ⌝ }
+    ensures { λ r. ⌜ SolvesInBy names «name_at» «name_len» «rec_flags» «rec_class» «rec_at» «rec_len» parents components «var_comp» «bnd_comp» «bnd_kind» «bnd_type» «flow_src» «flow_dst» «up_src» «up_dst» «read_arr» «read_res» «write_arr» «write_val» answers «out_comp» «out_kind» «out_type» work r ⌝ }
 {
     let short = lengths_refusal(
         var_comp.len(),

@@ -13,6 +13,7 @@ use Rattle.problems.specs.Held.{Held}
 use Rattle.problems.specs.Kept.{problemOf, Keeps}
 use Rattle.framestate.specs.declared.Numbers.{Numbers}
 use Rattle.framestate.specs.FrameState.{Slices, Sized, Within}
+use Rattle.lending.specs.Lending.{Slice, came, became}
 
 -- how long the slice of a problem's rows is
 abbrev pub problemRoom : ℕ
@@ -35,6 +36,13 @@ slicesOf last pairs marks rows = record {
   reads = part 9216 1024 rows;
   writes = part 10240 1024 rows;
 }
+
+-- the four slices that a function is lent, as they came, and as they are left
+abbrev pub slicesBy : (last pairs marks rows : Slice) → Slices
+slicesBy last pairs marks rows = slicesOf (came last) (came pairs) (came marks) (came rows)
+
+abbrev pub slicesLeft : (last pairs marks rows : Slice) → Slices
+slicesLeft last pairs marks rows = slicesOf (became last) (became pairs) (became marks) (became rows)
 
 -- the entries that count
 abbrev pub problemIn : List ℕ → Numbers → Problem

@@ -1,6 +1,6 @@
 -- The solve of columns over a table as it was built: the checks from the problem's rows on, and the solve.
 use mathlib.Core.Path.{_≡_}
-use mathlib.Core.Bool.{cond}
+use mathlib.Core.Bool.{cond, true}
 use mathlib.Core.List.{List}
 use Prim.Native.Nat.{ℕ, _-_, _^_, _≤_, _<_}
 use lib.Dec.{eqb}
@@ -9,10 +9,16 @@ use Rattle.tables.specs.declared.Tables.{Tables}
 use Rattle.tables.specs.Table.{marksRoom}
 use Rattle.lattice.specs.Lattice.{World}
 use Rattle.solving.specs.Solving.{Problem, Solution, Unsolved, solve}
-use Rattle.problems.specs.Problems.{Columns, problem}
+use Rattle.problems.specs.Problems.{Columns, problem, evenProblem}
 use Rattle.problems.specs.Kept.{problemOf, Keeps}
 use Rattle.problemcolumns.specs.declared.ProblemCounts.{ProblemCounts}
 use Rattle.solvechecks.specs.SolveChecks.{rowsRefusal}
+use denote.Ref.{now}
+use Rattle.solving.specs.declared.Counts.{Counts}
+use Rattle.lending.specs.Lending.{SliceIn, Slice, came}
+use Rattle.problemcolumns.specs.ProblemColumns.{columnsAsked, columnsBy}
+use Rattle.solves.specs.SolveResult.{Roomy, lentAsked, SolvesBy}
+use Rattle.resolving.specs.Bounds.{Classes}
 
 -- the front of a slice, as a part that begins at 0 holds it
 abbrev pub front : ℕ → List ℕ → List ℕ
@@ -43,3 +49,24 @@ solveRows w t c = cond (eqb (columnsRefusal t c) 0) (solve w (problem (t .names)
 -- a table that was built: four sets of marks, few names, Object among them or all ones
 abbrev pub Built : List ℕ → Tables → Type 0
 Built marks t = (length marks ≡ marksRoom) × (t .names ≤ 1024) × ((t .object ≡ 2 ^ 64 - 1 → ⊥) → t .object < t .names)
+
+-- ---- of the slices that a function is lent
+
+-- a table that was built, columns of equal length, and room for what is answered
+abbrev pub AskedRows : SliceIn → Tables → ℕ → (variables boundComponents boundKinds boundWords flowSources flowTargets upperSources upperTargets readArrays readResults writeArrays writeValues answers outComponents outKinds outTypes work : SliceIn) → Type 0
+AskedRows marks t components variables boundComponents boundKinds boundWords flowSources flowTargets upperSources upperTargets readArrays readResults writeArrays writeValues answers outComponents outKinds outTypes work =
+    Built (now marks) t × (evenProblem (columnsAsked components variables boundComponents boundKinds boundWords flowSources flowTargets upperSources upperTargets readArrays readResults writeArrays writeValues) ≡ true) × Roomy (length (now variables)) (lentAsked answers outComponents outKinds outTypes work)
+
+-- a table with classes, a problem that fronts keep, and room for what is answered
+abbrev pub AskedFront : SliceIn → Tables → ℕ → SliceIn → ProblemCounts → (bounds flows uppers reads writes answers outComponents outKinds outTypes work : SliceIn) → Type 0
+AskedFront marks t components variables n bounds flows uppers reads writes answers outComponents outKinds outTypes work =
+    Classes (now marks) t × Fronts n (now bounds) (now flows) (now uppers) (now reads) (now writes)
+    × KeepsFront (t .names) components (now variables) n (now bounds) (now flows) (now uppers) (now reads) (now writes)
+    × Roomy (length (now variables)) (lentAsked answers outComponents outKinds outTypes work)
+
+abbrev pub frontBy : ℕ → Slice → ProblemCounts → (bounds flows uppers reads writes : Slice) → Problem
+frontBy components variables n bounds flows uppers reads writes = problemFront components (came variables) n (came bounds) (came flows) (came uppers) (came reads) (came writes)
+
+abbrev pub SolvesRowsBy : World → Tables → ℕ → (variables boundComponents boundKinds boundWords flowSources flowTargets upperSources upperTargets readArrays readResults writeArrays writeValues answers outComponents outKinds outTypes work : Slice) → Counts → Type 0
+SolvesRowsBy w t components variables boundComponents boundKinds boundWords flowSources flowTargets upperSources upperTargets readArrays readResults writeArrays writeValues answers outComponents outKinds outTypes work =
+    SolvesBy (solveRows w t (columnsBy components variables boundComponents boundKinds boundWords flowSources flowTargets upperSources upperTargets readArrays readResults writeArrays writeValues)) answers outComponents outKinds outTypes work

@@ -7,16 +7,10 @@ use solvechecks::rows_refusal;
 use solves::solve_problem;
 use solving::Counts;
 use tables::Tables;
-ghost use mathlib.Core.Path.{_≡_};
-ghost use mathlib.Core.Bool.{true};
-ghost use lib.ListN.{length};
 ghost use Rattle.lattice.specs.World.{worldOf};
 ghost use Rattle.solving.specs.Solving.{solve};
-ghost use Rattle.problems.specs.Problems.{evenProblem};
-ghost use Rattle.problemcolumns.specs.ProblemColumns.{columnsIn};
-ghost use Rattle.resolving.specs.Bounds.{Classes};
-ghost use Rattle.solves.specs.SolveResult.{lent, Roomy, Solves};
-ghost use Rattle.solverows.specs.SolveRows.{Fronts, KeepsFront, problemFront, solveRows, Built};
+ghost use Rattle.solves.specs.SolveResult.{SolvesBy};
+ghost use Rattle.solverows.specs.SolveRows.{AskedRows, AskedFront, frontBy, SolvesRowsBy};
 
 // The solve of the problem that the fronts of slices keep.
 fn solve_kept(
@@ -37,8 +31,8 @@ fn solve_kept(
     out_type: &mut [u64],
     work: &mut [u64],
 ) -> Counts
-    requires { ⌜ Classes (now marks) t × Fronts n (now bounds) (now flows) (now uppers) (now reads) (now writes) × KeepsFront (t .names) components (now «var_comp») n (now bounds) (now flows) (now uppers) (now reads) (now writes) × Roomy (length (now «var_comp»)) (lent (now answers) (now «out_comp») (now «out_kind») (now «out_type») (now work)) ⌝ }
-    ensures { λ r. ⌜ Solves (solve (worldOf (now (pairs .entry)) (now (marks .entry)) t) (problemFront components (now («var_comp» .entry)) n (now (bounds .entry)) (now (flows .entry)) (now (uppers .entry)) (now (reads .entry)) (now (writes .entry)))) (lent (now (answers .entry)) (now («out_comp» .entry)) (now («out_kind» .entry)) (now («out_type» .entry)) (now (work .entry))) (lent (now (answers .exit)) (now («out_comp» .exit)) (now («out_kind» .exit)) (now («out_type» .exit)) (now (work .exit))) r ⌝ }
+    requires { ⌜ AskedFront marks t components «var_comp» n bounds flows uppers reads writes answers «out_comp» «out_kind» «out_type» work ⌝ }
+    ensures { λ r. ⌜ SolvesBy (solve (worldOf (now (pairs .entry)) (now (marks .entry)) t) (frontBy components «var_comp» n bounds flows uppers reads writes)) answers «out_comp» «out_kind» «out_type» work r ⌝ }
 {
     let b = n.bounds;
     let f = n.flows;
@@ -88,8 +82,8 @@ pub fn solve_rows(
     out_type: &mut [u64],
     work: &mut [u64],
 ) -> Counts
-    requires { ⌜ Built (now marks) t × (evenProblem (columnsIn components (now «var_comp») (now «bnd_comp») (now «bnd_kind») (now «bnd_type») (now «flow_src») (now «flow_dst») (now «up_src») (now «up_dst») (now «read_arr») (now «read_res») (now «write_arr») (now «write_val»)) ≡ true) × Roomy (length (now «var_comp»)) (lent (now answers) (now «out_comp») (now «out_kind») (now «out_type») (now work)) ⌝ }
-    ensures { λ r. ⌜ Solves (solveRows (worldOf (now (pairs .entry)) (now (marks .entry)) t) t (columnsIn components (now («var_comp» .entry)) (now («bnd_comp» .entry)) (now («bnd_kind» .entry)) (now («bnd_type» .entry)) (now («flow_src» .entry)) (now («flow_dst» .entry)) (now («up_src» .entry)) (now («up_dst» .entry)) (now («read_arr» .entry)) (now («read_res» .entry)) (now («write_arr» .entry)) (now («write_val» .entry)))) (lent (now (answers .entry)) (now («out_comp» .entry)) (now («out_kind» .entry)) (now («out_type» .entry)) (now (work .entry))) (lent (now (answers .exit)) (now («out_comp» .exit)) (now («out_kind» .exit)) (now («out_type» .exit)) (now (work .exit))) r ⌝ }
+    requires { ⌜ AskedRows marks t components «var_comp» «bnd_comp» «bnd_kind» «bnd_type» «flow_src» «flow_dst» «up_src» «up_dst» «read_arr» «read_res» «write_arr» «write_val» answers «out_comp» «out_kind» «out_type» work ⌝ }
+    ensures { λ r. ⌜ SolvesRowsBy (worldOf (now (pairs .entry)) (now (marks .entry)) t) t components «var_comp» «bnd_comp» «bnd_kind» «bnd_type» «flow_src» «flow_dst» «up_src» «up_dst» «read_arr» «read_res» «write_arr» «write_val» answers «out_comp» «out_kind» «out_type» work r ⌝ }
 {
     let mut bounds = [0u64; 4096];
     let mut flows = [0u64; 2048];

@@ -6,7 +6,7 @@ use Prim.Native.Nat.{ℕ, _≤_, _<_}
 use native.Mathlib.Omega.{arith}
 use native.Mathlib.Decide.{ℕ-discrete}
 use lib.ListN.{length, replicate}
-use Rattle.sets.specs.Sets.{member, insert}
+use Rattle.sets.specs.Sets.{MembersBelow, member, insert}
 use Rattle.sets.specs.Laws.{member-empty, member-cong, at-insert-other}
 use Rattle.tables.specs.declared.Tables.{Tables}
 use Rattle.tables.specs.Table.{pairsRoom, viewOf}
@@ -20,14 +20,10 @@ use Rattle.solving.specs.Solving.{Problem, solve}
 use Rattle.solves.specs.SolveResult.{Lent}
 use Rattle.solves.specs.Laws.{Leaves}
 
--- every member is below n
-abbrev pub Inside : ℕ → List ℕ → Type 0
-Inside n s = (c : ℕ) → member s c ≡ true → c < n
-
-pub inside-none : (n : ℕ) (s : List ℕ) → s ≡ replicate 16 0 → Inside n s
+pub inside-none : (n : ℕ) (s : List ℕ) → s ≡ replicate 16 0 → MembersBelow n s
 inside-none n s e c m = absurd (true≢false (sym m ∙ ap (λ (x : List ℕ). member x c) e ∙ member-empty 16 c))
 
-pub inside-more : (n k : ℕ) (s s′ : List ℕ) → Inside n s → k < n → s′ ≡ insert s k → Inside n s′
+pub inside-more : (n k : ℕ) (s s′ : List ℕ) → MembersBelow n s → k < n → s′ ≡ insert s k → MembersBelow n s′
 inside-more n k s s′ i h e c m = go (ℕ-discrete c k)
   where
     go : Dec (c ≡ k) → c < n

@@ -12,7 +12,7 @@ use Rattle.ty.specs.Words.{wordOf}
 use Rattle.rows.specs.Rows.{filled}
 use Rattle.rows.specs.Keys.{take-filled, length-filled}
 use Rattle.tables.specs.declared.Tables.{Tables}
-use Rattle.tables.specs.Table.{viewOf, view-good}
+use Rattle.tables.specs.Table.{viewOf, view-good, pairsRoom}
 use Rattle.lattice.specs.Lattice.{World, Lawful}
 use Rattle.lattice.specs.World.{present, worldOf, with-lawful}
 use Rattle.joins.specs.Joins.{Fits}
@@ -31,14 +31,15 @@ use Rattle.solving.specs.Solving.{Bound, Table, compareBounds, comparePairs, Li
 use Rattle.problems.specs.Kept.{problemOf, Keeps, keeps-checked, keeps-flows, kept-below, keeps-few}
 use Rattle.rules.specs.Rules.{linksIn}
 use Rattle.copying.specs.Steps.{paste-front}
-use Rattle.resolving.specs.Bounds.{Classed}
+use Rattle.resolving.specs.Bounds.{Classed, Classes}
 use Rattle.answering.specs.Answering.{tableIn, Final, answerWord, answerWords}
 use Rattle.answering.specs.FromFinal.{keys-final, keys-answers}
 use Rattle.solver.specs.Solver.{Solvable, counted, Solved}
 use Rattle.linking.specs.Linking.{incomingOf}
 use Rattle.linking.specs.Laws.{incoming-sorted, incoming-most, incoming-links}
 use Rattle.columnsout.specs.Columns.{front, Written}
-use Rattle.solves.specs.SolveResult.{Lent, countsOf, answersAfter, componentsAfter, kindsAfter, typesAfter, Solves}
+use Rattle.solves.specs.SolveResult.{Lent, countsOf, answersAfter, componentsAfter, kindsAfter, typesAfter, Solves, lentBy, leftBy}
+use Rattle.lending.specs.Lending.{Slice, came}
 
 minus-none : (n : ℕ) → n - 0 ≡ n
 minus-none n = omega arith
@@ -66,6 +67,25 @@ pub record Leaves (s : Solution) (before after : Lent) (r : Counts) : Type 0 whe
   pub components : after .components ≡ componentsAfter s (before .components)
   pub kinds : after .kinds ≡ kindsAfter s (before .kinds)
   pub types : after .types ≡ typesAfter s (before .types)
+
+-- of the slices that a function is lent
+abbrev pub LeavesBy : Solution → (answers components kinds types work : Slice) → Counts → Type 0
+LeavesBy s answers components kinds types work = Leaves s (lentBy answers components kinds types work) (leftBy answers components kinds types work)
+
+-- the problem that slices keep
+abbrev pub keptBy : ℕ → (variables bounds flows uppers reads writes : Slice) → Problem
+keptBy components variables bounds flows uppers reads writes = problemOf components (came variables) (came bounds) (came flows) (came uppers) (came reads) (came writes)
+
+-- over classes, a problem that is kept, with room for the answers of its variables and for the columns of bounds, and the slice of the keys
+abbrev pub Answerable : (classes keeps : Type 0) (variables into components kinds types a : List ℕ) → Type 0
+Answerable classes keeps variables into components kinds types a =
+    classes × keeps × (length variables ≤ length into) × (room ≤ length components) × (room ≤ length kinds) × (room ≤ length types) × (length a ≡ room)
+
+-- the same, of a table with few pairs
+abbrev pub Preparable : Tables → (pairs marks : List ℕ) (keeps : Type 0) (variables into components kinds types a : List ℕ) → Type 0
+Preparable t pairs marks keeps variables into components kinds types a =
+    Classes marks t × (t .pairs ≤ pairsRoom) × (t .pairs ≤ length pairs) × keeps
+    × (length variables ≤ length into) × (room ≤ length components) × (room ≤ length kinds) × (room ≤ length types) × (length a ≡ room)
 
 -- ---- a number of each bound, from its key
 

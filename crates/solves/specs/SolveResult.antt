@@ -9,6 +9,8 @@ use Rattle.solving.specs.declared.Counts.{Counts}
 use Rattle.solving.specs.Solving.{Bound, room, Solution, Unsolved, Solved}
 use Rattle.solver.specs.Solver.{counted}
 use Rattle.answering.specs.Answering.{answerWord}
+use denote.Ref.{now}
+use Rattle.lending.specs.Lending.{SliceIn, Slice, came, became}
 
 -- the slices: a word a variable; the final bounds in three columns; the work
 pub record Lent : Type 0 where
@@ -20,6 +22,16 @@ pub record Lent : Type 0 where
 
 abbrev pub lent : List ℕ → List ℕ → List ℕ → List ℕ → List ℕ → Lent
 lent answers components kinds types work = record { answers = answers; components = components; kinds = kinds; types = types; work = work }
+
+-- the slices that a function is lent, as `requires` has them; as they came; and as they are left
+abbrev pub lentAsked : (answers components kinds types work : SliceIn) → Lent
+lentAsked answers components kinds types work = lent (now answers) (now components) (now kinds) (now types) (now work)
+
+abbrev pub lentBy : (answers components kinds types work : Slice) → Lent
+lentBy answers components kinds types work = lent (came answers) (came components) (came kinds) (came types) (came work)
+
+abbrev pub leftBy : (answers components kinds types work : Slice) → Lent
+leftBy answers components kinds types work = lent (became answers) (became components) (became kinds) (became types) (became work)
 
 -- how long they must be for so many variables
 pub record Roomy (variables : ℕ) (l : Lent) : Type 0 where
@@ -64,3 +76,7 @@ pub record Solves (s : Solution) (before after : Lent) (r : Counts) : Type 0 whe
   pub kinds : after .kinds ≡ kindsAfter s (before .kinds)
   pub types : after .types ≡ typesAfter s (before .types)
   pub work : after .work ≡ replicate (length (before .work)) 0
+
+-- a function with many slices
+abbrev pub SolvesBy : Solution → (answers components kinds types work : Slice) → Counts → Type 0
+SolvesBy s answers components kinds types work = Solves s (lentBy answers components kinds types work) (leftBy answers components kinds types work)

@@ -19,15 +19,15 @@ ghost use lib.Seq.{paste};
 ghost use Rattle.lattice.specs.World.{worldOf};
 ghost use Rattle.solving.specs.Queue.{Below};
 ghost use Rattle.solving.specs.Solving.{room, solve};
-ghost use Rattle.problems.specs.Kept.{problemOf, Keeps};
-ghost use Rattle.tables.specs.Table.{pairsRoom};
+ghost use Rattle.problems.specs.Kept.{Keeps};
 ghost use Rattle.resolving.specs.Bounds.{Classes, Classed};
 ghost use Rattle.answering.specs.Answering.{tableIn, Final, answerWords};
 ghost use Rattle.solver.specs.Solver.{Solved};
-ghost use Rattle.columnsout.specs.Columns.{Written};
-ghost use Rattle.solves.specs.SolveResult.{lent, Roomy, Solves};
-ghost use Rattle.solves.specs.Laws.{runOf, Leaves};
-ghost use Rattle.solves.specs.Choice.{Inside, Decides};
+ghost use Rattle.columnsout.specs.Columns.{WrittenBy};
+ghost use Rattle.solves.specs.SolveResult.{Roomy, lentAsked, SolvesBy};
+ghost use Rattle.solves.specs.Laws.{runOf, LeavesBy, keptBy, Answerable, Preparable};
+ghost use Rattle.solves.specs.Choice.{Decides};
+ghost use Rattle.sets.specs.Sets.{MembersBelow};
 
 // From how many given bounds on rows are made.
 const MANY: usize = 8;
@@ -48,7 +48,7 @@ fn run_linked(
     a: &mut [u64],
 ) -> Counts
     requires { ⌜ Classed (now pairs) (now marks) t × Keeps (t .names) components (now variables) (now bounds) (now flows) (now uppers) (now reads) (now writes) × (length (now incoming) ≡ 3072) × (length (now a) ≡ room) ⌝ }
-    ensures { λ r. ⌜ Solved (runOf (worldOf (now (pairs .entry)) (now (marks .entry)) t) (problemOf components (now (variables .entry)) (now (bounds .entry)) (now (flows .entry)) (now (uppers .entry)) (now (reads .entry)) (now (writes .entry)))) (now (a .exit)) r ⌝ }
+    ensures { λ r. ⌜ Solved (runOf (worldOf (now (pairs .entry)) (now (marks .entry)) t) (keptBy components variables bounds flows uppers reads writes)) (now (a .exit)) r ⌝ }
 {
     let n = incoming_links(flows, uppers, incoming);
     solve(
@@ -80,7 +80,7 @@ fn run_problem(
     a: &mut [u64],
 ) -> Counts
     requires { ⌜ Classed (now pairs) (now marks) t × Keeps (t .names) components (now variables) (now bounds) (now flows) (now uppers) (now reads) (now writes) × (length (now a) ≡ room) ⌝ }
-    ensures { λ r. ⌜ Solved (runOf (worldOf (now (pairs .entry)) (now (marks .entry)) t) (problemOf components (now (variables .entry)) (now (bounds .entry)) (now (flows .entry)) (now (uppers .entry)) (now (reads .entry)) (now (writes .entry)))) (now (a .exit)) r ⌝ }
+    ensures { λ r. ⌜ Solved (runOf (worldOf (now (pairs .entry)) (now (marks .entry)) t) (keptBy components variables bounds flows uppers reads writes)) (now (a .exit)) r ⌝ }
 {
     let mut incoming = [0u64; 3072];
     run_linked(
@@ -112,7 +112,7 @@ fn write_solution(
     out_type: &mut [u64],
 )
     requires { ⌜ Classed (now pairs) (now marks) t × Final (t .names) (now keys) × Below 512 (now variables) × (length (now keys) ≤ room) × (length (now variables) ≤ length (now into)) × (room ≤ length (now «out_comp»)) × (room ≤ length (now «out_kind»)) × (room ≤ length (now «out_type»)) ⌝ }
-    ensures { λ _. ⌜ (now (into .exit) ≡ paste (now (into .entry)) 0 (answerWords (worldOf (now (pairs .entry)) (now (marks .entry)) t) (tableIn (now (keys .entry))) (now (variables .entry))) (length (now (variables .entry)))) × Written (now (keys .entry)) (now («out_comp» .entry)) (now («out_kind» .entry)) (now («out_type» .entry)) (now («out_comp» .exit)) (now («out_kind» .exit)) (now («out_type» .exit)) ⌝ }
+    ensures { λ _. ⌜ (now (into .exit) ≡ paste (now (into .entry)) 0 (answerWords (worldOf (now (pairs .entry)) (now (marks .entry)) t) (tableIn (now (keys .entry))) (now (variables .entry))) (length (now (variables .entry)))) × WrittenBy keys «out_comp» «out_kind» «out_type» ⌝ }
 {
     let mut copies = [0u64; 4096];
     answers(pairs, marks, t, keys, variables, &mut copies, into);
@@ -137,8 +137,8 @@ fn solve_into(
     out_type: &mut [u64],
     a: &mut [u64],
 ) -> Counts
-    requires { ⌜ Classed (now pairs) (now marks) t × Keeps (t .names) components (now variables) (now bounds) (now flows) (now uppers) (now reads) (now writes) × (length (now variables) ≤ length (now into)) × (room ≤ length (now «out_comp»)) × (room ≤ length (now «out_kind»)) × (room ≤ length (now «out_type»)) × (length (now a) ≡ room) ⌝ }
-    ensures { λ r. ⌜ Leaves (solve (worldOf (now (pairs .entry)) (now (marks .entry)) t) (problemOf components (now (variables .entry)) (now (bounds .entry)) (now (flows .entry)) (now (uppers .entry)) (now (reads .entry)) (now (writes .entry)))) (lent (now (into .entry)) (now («out_comp» .entry)) (now («out_kind» .entry)) (now («out_type» .entry)) (now (a .entry))) (lent (now (into .exit)) (now («out_comp» .exit)) (now («out_kind» .exit)) (now («out_type» .exit)) (now (a .exit))) r ⌝ }
+    requires { ⌜ Answerable (Classed (now pairs) (now marks) t) (Keeps (t .names) components (now variables) (now bounds) (now flows) (now uppers) (now reads) (now writes)) (now variables) (now into) (now «out_comp») (now «out_kind») (now «out_type») (now a) ⌝ }
+    ensures { λ r. ⌜ LeavesBy (solve (worldOf (now (pairs .entry)) (now (marks .entry)) t) (keptBy components variables bounds flows uppers reads writes)) into «out_comp» «out_kind» «out_type» a r ⌝ }
 {
     let c = run_problem(
         pairs,
@@ -174,8 +174,8 @@ fn solve_into(
 
 // The set with the class of a key, where that is a class of the table, or an array of one.
 fn with_given(names: u64, key: u64, s: Set) -> Set
-    requires { ⌜ Inside names (s .words) ⌝ }
-    ensures { λ r. ⌜ Inside names (r .words) ⌝ }
+    requires { ⌜ MembersBelow names (s .words) ⌝ }
+    ensures { λ r. ⌜ MembersBelow names (r .words) ⌝ }
 {
     let ty = key_type(key);
     if ty.tag() == 1 {
@@ -190,7 +190,7 @@ fn with_given(names: u64, key: u64, s: Set) -> Set
 
 // The classes that the given bounds speak of.
 fn given_classes(names: u64, bounds: &[u64]) -> Set
-    ensures { λ r. ⌜ Inside names (r .words) ⌝ }
+    ensures { λ r. ⌜ MembersBelow names (r .words) ⌝ }
 {
     let mut s = Set::empty();
     let mut i: usize = 0;
@@ -219,8 +219,8 @@ fn solve_prepared(
     out_type: &mut [u64],
     a: &mut [u64],
 ) -> Counts
-    requires { ⌜ Classes (now marks) t × (t .pairs ≤ pairsRoom) × (t .pairs ≤ length (now pairs)) × Keeps (t .names) components (now variables) (now bounds) (now flows) (now uppers) (now reads) (now writes) × (length (now variables) ≤ length (now into)) × (room ≤ length (now «out_comp»)) × (room ≤ length (now «out_kind»)) × (room ≤ length (now «out_type»)) × (length (now a) ≡ room) ⌝ }
-    ensures { λ r. ⌜ Leaves (solve (worldOf (now (pairs .entry)) (now (marks .entry)) t) (problemOf components (now (variables .entry)) (now (bounds .entry)) (now (flows .entry)) (now (uppers .entry)) (now (reads .entry)) (now (writes .entry)))) (lent (now (into .entry)) (now («out_comp» .entry)) (now («out_kind» .entry)) (now («out_type» .entry)) (now (a .entry))) (lent (now (into .exit)) (now («out_comp» .exit)) (now («out_kind» .exit)) (now («out_type» .exit)) (now (a .exit))) r ⌝ }
+    requires { ⌜ Preparable t (now pairs) (now marks) (Keeps (t .names) components (now variables) (now bounds) (now flows) (now uppers) (now reads) (now writes)) (now variables) (now into) (now «out_comp») (now «out_kind») (now «out_type») (now a) ⌝ }
+    ensures { λ r. ⌜ LeavesBy (solve (worldOf (now (pairs .entry)) (now (marks .entry)) t) (keptBy components variables bounds flows uppers reads writes)) into «out_comp» «out_kind» «out_type» a r ⌝ }
 {
     let mut table = [0u64; TABLE];
     let given = given_classes(t.names, bounds);
@@ -281,8 +281,8 @@ fn solve_either(
     out_type: &mut [u64],
     a: &mut [u64],
 ) -> Counts
-    requires { ⌜ Classes (now marks) t × Keeps (t .names) components (now variables) (now bounds) (now flows) (now uppers) (now reads) (now writes) × (length (now variables) ≤ length (now into)) × (room ≤ length (now «out_comp»)) × (room ≤ length (now «out_kind»)) × (room ≤ length (now «out_type»)) × (length (now a) ≡ room) ⌝ }
-    ensures { λ r. ⌜ Leaves (solve (worldOf (now (pairs .entry)) (now (marks .entry)) t) (problemOf components (now (variables .entry)) (now (bounds .entry)) (now (flows .entry)) (now (uppers .entry)) (now (reads .entry)) (now (writes .entry)))) (lent (now (into .entry)) (now («out_comp» .entry)) (now («out_kind» .entry)) (now («out_type» .entry)) (now (a .entry))) (lent (now (into .exit)) (now («out_comp» .exit)) (now («out_kind» .exit)) (now («out_type» .exit)) (now (a .exit))) r ⌝ }
+    requires { ⌜ Answerable (Classes (now marks) t) (Keeps (t .names) components (now variables) (now bounds) (now flows) (now uppers) (now reads) (now writes)) (now variables) (now into) (now «out_comp») (now «out_kind») (now «out_type») (now a) ⌝ }
+    ensures { λ r. ⌜ LeavesBy (solve (worldOf (now (pairs .entry)) (now (marks .entry)) t) (keptBy components variables bounds flows uppers reads writes)) into «out_comp» «out_kind» «out_type» a r ⌝ }
 {
     if is_prepared(pairs.len(), t.pairs, bounds.len()) {
         return solve_prepared(
@@ -340,8 +340,8 @@ pub fn solve_problem(
     out_type: &mut [u64],
     work: &mut [u64],
 ) -> Counts
-    requires { ⌜ Classes (now marks) t × Keeps (t .names) components (now variables) (now bounds) (now flows) (now uppers) (now reads) (now writes) × Roomy (length (now variables)) (lent (now answers) (now «out_comp») (now «out_kind») (now «out_type») (now work)) ⌝ }
-    ensures { λ r. ⌜ Solves (solve (worldOf (now (pairs .entry)) (now (marks .entry)) t) (problemOf components (now (variables .entry)) (now (bounds .entry)) (now (flows .entry)) (now (uppers .entry)) (now (reads .entry)) (now (writes .entry)))) (lent (now (answers .entry)) (now («out_comp» .entry)) (now («out_kind» .entry)) (now («out_type» .entry)) (now (work .entry))) (lent (now (answers .exit)) (now («out_comp» .exit)) (now («out_kind» .exit)) (now («out_type» .exit)) (now (work .exit))) r ⌝ }
+    requires { ⌜ Classes (now marks) t × Keeps (t .names) components (now variables) (now bounds) (now flows) (now uppers) (now reads) (now writes) × Roomy (length (now variables)) (lentAsked answers «out_comp» «out_kind» «out_type» work) ⌝ }
+    ensures { λ r. ⌜ SolvesBy (solve (worldOf (now (pairs .entry)) (now (marks .entry)) t) (keptBy components variables bounds flows uppers reads writes)) answers «out_comp» «out_kind» «out_type» work r ⌝ }
 {
     let c = solve_either(
         pairs,

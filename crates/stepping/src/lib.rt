@@ -25,7 +25,7 @@ ghost use lib.ListN.{length, drop, getD};
 ghost use Rattle.frames.specs.Frames.{frame};
 ghost use Rattle.framelaws.specs.Reached.{BytesIn};
 ghost use Rattle.framestate.specs.FrameState.{storeOf, Leaves};
-ghost use Rattle.solveframe.specs.Parts.{slicesOf};
+ghost use Rattle.solveframe.specs.Parts.{slicesOf, slicesBy, slicesLeft};
 ghost use Rattle.stepping.specs.Stepping.{Stands, stepOf, classKind, Headed, Rests};
 ghost use Rattle.stepping.specs.Lines.{bytesStep};
 
@@ -50,7 +50,7 @@ fn class_message(
     n: Numbers,
 ) -> Framed
     requires { ⌜ Stands (now last) (now pairs) (now marks) (now rows) n × Headed kind (now body) n × (classKind kind ≡ true) ⌝ }
-    ensures { λ r. ⌜ Rests (stepOf kind (now (body .entry)) (storeOf (slicesOf (now (last .entry)) (now (pairs .entry)) (now (marks .entry)) (now (rows .entry))) n)) (slicesOf (now (last .entry)) (now (pairs .entry)) (now (marks .entry)) (now (rows .entry))) (slicesOf (now (last .exit)) (now (pairs .exit)) (now (marks .exit)) (now (rows .entry))) r ⌝ }
+    ensures { λ r. ⌜ Rests (stepOf kind (now (body .entry)) (storeOf (slicesBy last pairs marks rows) n)) (slicesBy last pairs marks rows) (slicesOf (now (last .exit)) (now (pairs .exit)) (now (marks .exit)) (now (rows .entry))) r ⌝ }
 {
     if kind == 1 {
         return name_frame(body, last, n);
@@ -72,7 +72,7 @@ fn value_message(
     n: Numbers,
 ) -> Framed
     requires { ⌜ Stands (now last) (now pairs) (now marks) (now rows) n × Headed kind (now body) n × BytesIn (now body) × (3 ≤ kind) × (kind ≤ 5) ⌝ }
-    ensures { λ r. ⌜ Rests (stepOf kind (now (body .entry)) (storeOf (slicesOf (now (last .entry)) (now (pairs .entry)) (now (marks .entry)) (now (rows .entry))) n)) (slicesOf (now (last .entry)) (now (pairs .entry)) (now (marks .entry)) (now (rows .entry))) (slicesOf (now (last .entry)) (now (pairs .entry)) (now (marks .entry)) (now (rows .exit))) r ⌝ }
+    ensures { λ r. ⌜ Rests (stepOf kind (now (body .entry)) (storeOf (slicesBy last pairs marks rows) n)) (slicesBy last pairs marks rows) (slicesOf (now (last .entry)) (now (pairs .entry)) (now (marks .entry)) (now (rows .exit))) r ⌝ }
 {
     if kind == 3 {
         return count_frame(body, n);
@@ -94,7 +94,7 @@ fn link_message(
     n: Numbers,
 ) -> Framed
     requires { ⌜ Stands (now last) (now pairs) (now marks) (now rows) n × Headed kind (now body) n × (6 ≤ kind) × (kind ≤ 9) ⌝ }
-    ensures { λ r. ⌜ Rests (stepOf kind (now (body .entry)) (storeOf (slicesOf (now (last .entry)) (now (pairs .entry)) (now (marks .entry)) (now (rows .entry))) n)) (slicesOf (now (last .entry)) (now (pairs .entry)) (now (marks .entry)) (now (rows .entry))) (slicesOf (now (last .entry)) (now (pairs .entry)) (now (marks .entry)) (now (rows .exit))) r ⌝ }
+    ensures { λ r. ⌜ Rests (stepOf kind (now (body .entry)) (storeOf (slicesBy last pairs marks rows) n)) (slicesBy last pairs marks rows) (slicesOf (now (last .entry)) (now (pairs .entry)) (now (marks .entry)) (now (rows .exit))) r ⌝ }
 {
     if kind == 6 {
         return flow_frame(body, &mut rows[6144..8192], n);
@@ -119,7 +119,7 @@ fn question_message(
     n: Numbers,
 ) -> Framed
     requires { ⌜ Stands (now last) (now pairs) (now marks) (now rows) n × Headed kind (now body) n × (11 ≤ kind) × (classKind kind ≡ false) ⌝ }
-    ensures { λ r. ⌜ Rests (stepOf kind (now (body .entry)) (storeOf (slicesOf (now (last .entry)) (now (pairs .entry)) (now (marks .entry)) (now (rows .entry))) n)) (slicesOf (now (last .entry)) (now (pairs .entry)) (now (marks .entry)) (now (rows .entry))) (slicesOf (now (last .entry)) (now (pairs .entry)) (now (marks .entry)) (now (rows .entry))) r ⌝ }
+    ensures { λ r. ⌜ Rests (stepOf kind (now (body .entry)) (storeOf (slicesBy last pairs marks rows) n)) (slicesBy last pairs marks rows) (slicesBy last pairs marks rows) r ⌝ }
 {
     if kind == 11 {
         return relation_frame(body, pairs, marks, n);
@@ -142,7 +142,7 @@ fn later_message(
     n: Numbers,
 ) -> Framed
     requires { ⌜ Stands (now last) (now pairs) (now marks) (now rows) n × (length (now answers) ≡ 2048) × Headed kind (now body) n × BytesIn (now body) × (classKind kind ≡ false) ⌝ }
-    ensures { λ r. ⌜ Leaves (stepOf kind (now (body .entry)) (storeOf (slicesOf (now (last .entry)) (now (pairs .entry)) (now (marks .entry)) (now (rows .entry))) n)) (slicesOf (now (last .entry)) (now (pairs .entry)) (now (marks .entry)) (now (rows .entry))) (slicesOf (now (last .entry)) (now (pairs .entry)) (now (marks .entry)) (now (rows .exit))) (now (answers .entry)) (now (answers .exit)) r ⌝ }
+    ensures { λ r. ⌜ Leaves (stepOf kind (now (body .entry)) (storeOf (slicesBy last pairs marks rows) n)) (slicesBy last pairs marks rows) (slicesOf (now (last .entry)) (now (pairs .entry)) (now (marks .entry)) (now (rows .exit))) (now (answers .entry)) (now (answers .exit)) r ⌝ }
 {
     if kind <= 5 {
         return value_message(kind, body, last, pairs, marks, rows, n);
@@ -167,7 +167,7 @@ fn frame_bytes(
     n: Numbers,
 ) -> Framed
     requires { ⌜ Stands (now last) (now pairs) (now marks) (now rows) n × (length (now answers) ≡ 2048) × BytesIn (now bytes) × (1 ≤ length (now bytes)) ⌝ }
-    ensures { λ r. ⌜ Leaves (bytesStep (getD (now (bytes .entry)) 0 0) (drop 1 (now (bytes .entry))) (storeOf (slicesOf (now (last .entry)) (now (pairs .entry)) (now (marks .entry)) (now (rows .entry))) n)) (slicesOf (now (last .entry)) (now (pairs .entry)) (now (marks .entry)) (now (rows .entry))) (slicesOf (now (last .exit)) (now (pairs .exit)) (now (marks .exit)) (now (rows .exit))) (now (answers .entry)) (now (answers .exit)) r ⌝ }
+    ensures { λ r. ⌜ Leaves (bytesStep (getD (now (bytes .entry)) 0 0) (drop 1 (now (bytes .entry))) (storeOf (slicesBy last pairs marks rows) n)) (slicesBy last pairs marks rows) (slicesLeft last pairs marks rows) (now (answers .entry)) (now (answers .exit)) r ⌝ }
 {
     let kind = bytes[0] as u64;
     let refusal = check_head(kind, bytes.len() - 1, n.rank);
@@ -192,7 +192,7 @@ pub fn frame(
     n: Numbers,
 ) -> Framed
     requires { ⌜ Stands (now last) (now pairs) (now marks) (now rows) n × (length (now answers) ≡ 2048) ⌝ }
-    ensures { λ r. ⌜ Leaves (frame (now (line .entry)) (storeOf (slicesOf (now (last .entry)) (now (pairs .entry)) (now (marks .entry)) (now (rows .entry))) n)) (slicesOf (now (last .entry)) (now (pairs .entry)) (now (marks .entry)) (now (rows .entry))) (slicesOf (now (last .exit)) (now (pairs .exit)) (now (marks .exit)) (now (rows .exit))) (now (answers .entry)) (now (answers .exit)) r ⌝ }
+    ensures { λ r. ⌜ Leaves (frame (now (line .entry)) (storeOf (slicesBy last pairs marks rows) n)) (slicesBy last pairs marks rows) (slicesLeft last pairs marks rows) (now (answers .entry)) (now (answers .exit)) r ⌝ }
     ensures { λ r. ⌜ Stands (now (last .exit)) (now (pairs .exit)) (now (marks .exit)) (now (rows .exit)) (r .numbers) ⌝ }
 {
     let mut bytes = [0u8; 512];

@@ -14,7 +14,7 @@ ghost use mathlib.Core.Path.{_≡_};
 ghost use mathlib.Core.Bool.{true, cond};
 ghost use Prim.Native.Nat.{ℕ, _≤_, _<_};
 ghost use lib.ListN.{length};
-ghost use Rattle.sets.specs.Sets.{at, member, members, remove, intersect};
+ghost use Rattle.sets.specs.Sets.{MembersBelow, at, member, members, remove, intersect};
 ghost use Rattle.view.specs.View.{reached, ancestors, supertype, numberOf};
 ghost use Rattle.view.specs.Supertype.{Common};
 ghost use Rattle.view.specs.Lows.{strip, Lows, LowestOf};
@@ -58,7 +58,7 @@ fn not_reaching(pairs: &[u64], marks: &[u64], t: Tables, s: Set, d: u64) -> Set
 // Of a set of classes, those with none strictly below, looked at from `start` on. What a class reaches is looked at no more: it is strictly
 // above, and out, or reaches back, and has the same above it.
 fn lowest_by_walks(pairs: &[u64], marks: &[u64], t: Tables, all: Set, start: u64) -> Set
-    requires { ⌜ (t .names ≤ namesRoom) × (t .object < t .names) × (length (all .words) ≡ 16) × ((c : ℕ) → member (all .words) c ≡ true → c < t .names) × Prepared (now pairs) (now marks) t × Starts start (all .words) ⌝ }
+    requires { ⌜ (t .names ≤ namesRoom) × (t .object < t .names) × (length (all .words) ≡ 16) × MembersBelow (t .names) (all .words) × Prepared (now pairs) (now marks) t × Starts start (all .words) ⌝ }
     ensures { λ r. ⌜ Lows (viewOf (now (pairs .entry)) (now (marks .entry)) t) (all .words) (r .words) ⌝ }
 {
     let mut alive = all;
@@ -92,7 +92,7 @@ fn not_in_rows(rows: &[u64], s: Set, d: u64) -> Set
 
 // As `lowest_by_walks`, where the rows of the classes are at hand: what each reaches.
 fn lowest_by_rows(pairs: &[u64], marks: &[u64], t: Tables, all: Set, rows: &[u64]) -> Set
-    requires { ⌜ (t .names ≤ namesRoom) × (t .object < t .names) × (length (all .words) ≡ 16) × ((c : ℕ) → member (all .words) c ≡ true → c < t .names) × (length (now rows) ≡ rowsRoom) × ((c : ℕ) → member (all .words) c ≡ true → row (now rows) c ≡ reached (viewOf (now pairs) (now marks) t) c) ⌝ }
+    requires { ⌜ (t .names ≤ namesRoom) × (t .object < t .names) × (length (all .words) ≡ 16) × MembersBelow (t .names) (all .words) × (length (now rows) ≡ rowsRoom) × ((c : ℕ) → member (all .words) c ≡ true → row (now rows) c ≡ reached (viewOf (now pairs) (now marks) t) c) ⌝ }
     ensures { λ r. ⌜ Lows (viewOf (now (pairs .entry)) (now (marks .entry)) t) (all .words) (r .words) ⌝ }
 {
     let mut alive = all;
@@ -110,7 +110,7 @@ fn lowest_by_rows(pairs: &[u64], marks: &[u64], t: Tables, all: Set, rows: &[u64
 
 // The same, with rows made for it.
 fn lowest_by_table(pairs: &[u64], marks: &[u64], t: Tables, all: Set) -> Set
-    requires { ⌜ (t .names ≤ namesRoom) × (t .object < t .names) × (length (all .words) ≡ 16) × ((c : ℕ) → member (all .words) c ≡ true → c < t .names) ⌝ }
+    requires { ⌜ (t .names ≤ namesRoom) × (t .object < t .names) × (length (all .words) ≡ 16) × MembersBelow (t .names) (all .words) ⌝ }
     ensures { λ r. ⌜ Lows (viewOf (now (pairs .entry)) (now (marks .entry)) t) (all .words) (r .words) ⌝ }
 {
     let mut rows = [0u64; ROWS];
@@ -121,7 +121,7 @@ fn lowest_by_table(pairs: &[u64], marks: &[u64], t: Tables, all: Set) -> Set
 
 // The same: a few classes are walked from, for more of them rows are made.
 fn lowest_left(pairs: &[u64], marks: &[u64], t: Tables, all: Set) -> Set
-    requires { ⌜ (t .names ≤ namesRoom) × (t .object < t .names) × (length (all .words) ≡ 16) × ((c : ℕ) → member (all .words) c ≡ true → c < t .names) × Prepared (now pairs) (now marks) t ⌝ }
+    requires { ⌜ (t .names ≤ namesRoom) × (t .object < t .names) × (length (all .words) ≡ 16) × MembersBelow (t .names) (all .words) × Prepared (now pairs) (now marks) t ⌝ }
     ensures { λ r. ⌜ Lows (viewOf (now (pairs .entry)) (now (marks .entry)) t) (all .words) (r .words) ⌝ }
 {
     if all.count() < FEW {
@@ -133,7 +133,7 @@ fn lowest_left(pairs: &[u64], marks: &[u64], t: Tables, all: Set) -> Set
 // The same of `others`, which is `all` but for Object: first the sources, which no class of `all` has as a parent. What they reach is
 // not among the lowest; what is left stands on a cycle, or above one.
 fn lowest_many(pairs: &[u64], marks: &[u64], t: Tables, all: Set, others: Set) -> Set
-    requires { ⌜ (t .names ≤ namesRoom) × (t .object < t .names) × (length (all .words) ≡ 16) × (length (others .words) ≡ 16) × ((c : ℕ) → member (others .words) c ≡ true → c < t .names) × Upward (viewOf (now pairs) (now marks) t) (all .words) (others .words) × Prepared (now pairs) (now marks) t ⌝ }
+    requires { ⌜ (t .names ≤ namesRoom) × (t .object < t .names) × (length (all .words) ≡ 16) × (length (others .words) ≡ 16) × MembersBelow (t .names) (others .words) × Upward (viewOf (now pairs) (now marks) t) (all .words) (others .words) × Prepared (now pairs) (now marks) t ⌝ }
     ensures { λ r. ⌜ Lows (viewOf (now (pairs .entry)) (now (marks .entry)) t) (others .words) (r .words) ⌝ }
 {
     let direct = expand(pairs, marks, t, Set::empty(), all);
@@ -169,7 +169,7 @@ fn lowest_prepared(
     right: u64,
     others: Set,
 ) -> Set
-    requires { ⌜ (t .names ≤ namesRoom) × (t .object < t .names) × (length (others .words) ≡ 16) × ((c : ℕ) → member (others .words) c ≡ true → c < t .names) × Prepared (now pairs) (now marks) t ⌝ }
+    requires { ⌜ (t .names ≤ namesRoom) × (t .object < t .names) × (length (others .words) ≡ 16) × MembersBelow (t .names) (others .words) × Prepared (now pairs) (now marks) t ⌝ }
     ensures { λ r. ⌜ Lows (viewOf (now (pairs .entry)) (now (marks .entry)) t) (others .words) (r .words) ⌝ }
 {
     if others.count() < FEW {
@@ -199,7 +199,7 @@ fn lowest_others(
     all: Set,
     others: Set,
 ) -> Set
-    requires { ⌜ (t .names ≤ namesRoom) × (t .object < t .names) × (length (all .words) ≡ 16) × (length (others .words) ≡ 16) × ((c : ℕ) → member (others .words) c ≡ true → c < t .names) × Upward (viewOf (now pairs) (now marks) t) (all .words) (others .words) × Prepared (now pairs) (now marks) t ⌝ }
+    requires { ⌜ (t .names ≤ namesRoom) × (t .object < t .names) × (length (all .words) ≡ 16) × (length (others .words) ≡ 16) × MembersBelow (t .names) (others .words) × Upward (viewOf (now pairs) (now marks) t) (all .words) (others .words) × Prepared (now pairs) (now marks) t ⌝ }
     ensures { λ r. ⌜ Lows (viewOf (now (pairs .entry)) (now (marks .entry)) t) (others .words) (r .words) ⌝ }
 {
     if is_lone(others) {
@@ -213,7 +213,7 @@ fn lowest_others(
 
 // Of a set with Object, the classes with none strictly below. Below Object is what it does not reach.
 fn lowest_of(pairs: &[u64], marks: &[u64], t: Tables, left: u64, right: u64, all: Set) -> Set
-    requires { ⌜ (t .names ≤ namesRoom) × (t .object < t .names) × (length (all .words) ≡ 16) × ((c : ℕ) → member (all .words) c ≡ true → c < t .names) × (member (all .words) (t .object) ≡ true) × Upward (viewOf (now pairs) (now marks) t) (all .words) (remove (all .words) (t .object)) × Prepared (now pairs) (now marks) t ⌝ }
+    requires { ⌜ (t .names ≤ namesRoom) × (t .object < t .names) × (length (all .words) ≡ 16) × MembersBelow (t .names) (all .words) × (member (all .words) (t .object) ≡ true) × Upward (viewOf (now pairs) (now marks) t) (all .words) (remove (all .words) (t .object)) × Prepared (now pairs) (now marks) t ⌝ }
     ensures { λ r. ⌜ LowestOf (viewOf (now (pairs .entry)) (now (marks .entry)) t) (all .words) (r .words) ⌝ }
 {
     let others = all.without(t.object);

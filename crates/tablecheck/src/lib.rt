@@ -12,7 +12,7 @@ use tables::PAIRS;
 use tables::Tables;
 ghost use mathlib.Core.Path.{_≡_};
 ghost use lib.ListN.{length};
-ghost use Rattle.columns.specs.Given.{given};
+ghost use Rattle.columns.specs.Given.{given, givenBy};
 ghost use Rattle.layers.specs.Stacks.{ground};
 ghost use Rattle.layercolumns.specs.LayerColumns.{firstOpen};
 ghost use Rattle.stackview.specs.Agrees.{stackIn};
@@ -87,7 +87,7 @@ fn build_plain(
     parents: &[u64],
 ) -> Outcome
     requires { ⌜ (length (now «name_at») ≡ length (now «name_len»)) × Equal (now «rec_flags») (now «rec_class») (now «rec_at») (now «rec_len») × (firstOpen (now «rec_flags») ≡ length (now «rec_flags»)) ⌝ }
-    ensures { λ r. ⌜ r ≡ cameTo (stackIn (given (now (names .entry)) (now («name_at» .entry)) (now («name_len» .entry)) (now («rec_flags» .entry)) (now («rec_class» .entry)) (now («rec_at» .entry)) (now («rec_len» .entry)) (now (parents .entry)))) ⌝ }
+    ensures { λ r. ⌜ r ≡ cameTo (stackIn (givenBy names «name_at» «name_len» «rec_flags» «rec_class» «rec_at» «rec_len» parents)) ⌝ }
 {
     let mut pairs = [0u64; PAIRS];
     let mut marks = [0u64; MARKS];
@@ -117,7 +117,7 @@ fn build_layers(
     parents: &[u64],
 ) -> Outcome
     requires { ⌜ (length (now «name_at») ≡ length (now «name_len»)) × Equal (now «rec_flags») (now «rec_class») (now «rec_at») (now «rec_len») ⌝ }
-    ensures { λ r. ⌜ r ≡ cameTo (stackIn (given (now (names .entry)) (now («name_at» .entry)) (now («name_len» .entry)) (now («rec_flags» .entry)) (now («rec_class» .entry)) (now («rec_at» .entry)) (now («rec_len» .entry)) (now (parents .entry)))) ⌝ }
+    ensures { λ r. ⌜ r ≡ cameTo (stackIn (givenBy names «name_at» «name_len» «rec_flags» «rec_class» «rec_at» «rec_len» parents)) ⌝ }
 {
     let mut pairs = [0u64; SHOWN];
     let mut marks = [0u64; MARKS];
@@ -147,7 +147,7 @@ fn build_rows(
     parents: &[u64],
 ) -> Outcome
     requires { ⌜ (length (now «name_at») ≡ length (now «name_len»)) × Equal (now «rec_flags») (now «rec_class») (now «rec_at») (now «rec_len») ⌝ }
-    ensures { λ r. ⌜ r ≡ cameTo (stackIn (given (now (names .entry)) (now («name_at» .entry)) (now («name_len» .entry)) (now («rec_flags» .entry)) (now («rec_class» .entry)) (now («rec_at» .entry)) (now («rec_len» .entry)) (now (parents .entry)))) ⌝ }
+    ensures { λ r. ⌜ r ≡ cameTo (stackIn (givenBy names «name_at» «name_len» «rec_flags» «rec_class» «rec_at» «rec_len» parents)) ⌝ }
 {
     if first_open(rec_flags) < rec_flags.len() {
         return build_layers(
@@ -185,7 +185,7 @@ fn find_row(
     parents: &[u64],
 ) -> TableCheck
     requires { ⌜ (length (now «name_at») ≡ length (now «name_len»)) × Equal (now «rec_flags») (now «rec_class») (now «rec_at») (now «rec_len») × (stackIn (given (now names) (now «name_at») (now «name_len») (now «rec_flags») (now «rec_class») (now «rec_at») (now «rec_len») (now parents)) .refusal ≡ 0 → ⊥) ⌝ }
-    ensures { λ r. ⌜ r ≡ rowsCheck (given (now (names .entry)) (now («name_at» .entry)) (now («name_len» .entry)) (now («rec_flags» .entry)) (now («rec_class» .entry)) (now («rec_at» .entry)) (now («rec_len» .entry)) (now (parents .entry))) ⌝ }
+    ensures { λ r. ⌜ r ≡ rowsCheck (givenBy names «name_at» «name_len» «rec_flags» «rec_class» «rec_at» «rec_len» parents) ⌝ }
 {
     let named = build_names(names, name_at, name_len);
     let t = named.tables;
@@ -216,7 +216,7 @@ fn check_rows(
     parents: &[u64],
 ) -> TableCheck
     requires { ⌜ (length (now «name_at») ≡ length (now «name_len»)) × Equal (now «rec_flags») (now «rec_class») (now «rec_at») (now «rec_len») ⌝ }
-    ensures { λ r. ⌜ r ≡ rowsCheck (given (now (names .entry)) (now («name_at» .entry)) (now («name_len» .entry)) (now («rec_flags» .entry)) (now («rec_class» .entry)) (now («rec_at» .entry)) (now («rec_len» .entry)) (now (parents .entry))) ⌝ }
+    ensures { λ r. ⌜ r ≡ rowsCheck (givenBy names «name_at» «name_len» «rec_flags» «rec_class» «rec_at» «rec_len» parents) ⌝ }
 {
     let whole = build_rows(
         names,
@@ -266,7 +266,7 @@ pub fn check_table(
     rec_len: &[u64],
     parents: &[u64],
 ) -> TableCheck
-    ensures { λ r. ⌜ r ≡ tableCheck (given (now (names .entry)) (now («name_at» .entry)) (now («name_len» .entry)) (now («rec_flags» .entry)) (now («rec_class» .entry)) (now («rec_at» .entry)) (now («rec_len» .entry)) (now (parents .entry))) ⌝ }
+    ensures { λ r. ⌜ r ≡ tableCheck (givenBy names «name_at» «name_len» «rec_flags» «rec_class» «rec_at» «rec_len» parents) ⌝ }
 {
     if is_even(
         name_at.len(),

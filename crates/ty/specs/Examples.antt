@@ -6,8 +6,7 @@ use Prim.Native.Nat.{ℕ}
 use Rattle.order.specs.Compare.{compareNumbers, compareLists}
 use Rattle.order.specs.Lists.{elem}
 use Rattle.order.specs.declared.Order.the-variants.{Less, Greater}
-use Rattle.ty.specs.Types.{Primitive, Object, Array, Unknown, Void, Boolean, Byte, Short, Char, Int, Long, Float, Double}
-use Rattle.ty.specs.Types.{ObjectCategory, ArrayCategory, arrays, compare}
+use Rattle.ty.specs.Types.{Primitive, Object, Array, Unknown, Void, Boolean, Byte, Short, Char, Int, Long, Float, Double, ObjectCategory, ArrayCategory, arrays, compare}
 use Rattle.ty.specs.Words.{unpack, pack, listOf, goodDigits, goodUnknown, baseOf, typeOf, wordOf, legalBase, legalWord}
 
 -- the categories of the full Unknown, in the order of ArgType::unknown()

@@ -11,8 +11,7 @@ use lib.Seq.{take-append-seam, length-take-le}
 use borrow.Author.Tests.{leb-true, ltb-true, le-leb, lt-ltb, ne-eqb}
 use Rattle.order.specs.Truth.{and-left, and-right, and-both}
 use Rattle.ty.specs.Types.{ArgType, Primitive, Object, Array, Unknown, arrays, depth}
-use Rattle.ty.specs.Words.{dimsOf, tagOf, loadOf, unpack, pack, listOf, goodDigits, goodUnknown, baseOf, typeOf, wordOf}
-use Rattle.ty.specs.Words.{legalBase, legalWord, distinct, legalAtBase, legalType}
+use Rattle.ty.specs.Words.{dimsOf, tagOf, loadOf, unpack, pack, listOf, goodDigits, goodUnknown, baseOf, typeOf, wordOf, legalBase, legalWord, distinct, legalAtBase, legalType}
 use Rattle.ty.specs.Digits.{pack-unpack, pack-lt, unpack-pack, pack-zeros, digits-zeros}
 use Rattle.ty.specs.Distinct.{good-distinct, good-zeros, good-padded, distinct-digits, distinct-length}
 use Rattle.ty.specs.Shape.{type-deeper, word-deeper, type-flat, legal-deeper}

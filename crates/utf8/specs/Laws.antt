@@ -10,8 +10,7 @@ use lib.Seq.{length-take-le, take-all, take-take, drop-append-seam}
 use lib.Dec.{ltb}
 use borrow.Author.Tests.{eqb-true, eq-eqb, ltb-true}
 use Rattle.order.specs.Truth.{both}
-use Rattle.utf8.specs.Utf8.{_‥_, table, matches, sequence, passing, scan, validPrefix, ascii, wellFormed}
-use Rattle.utf8.specs.Utf8.{Fits, Fits.done, Fits.next, WellFormed, WellFormed.empty, WellFormed.more}
+use Rattle.utf8.specs.Utf8.{_‥_, table, matches, sequence, passing, scan, validPrefix, ascii, wellFormed, Fits, Fits.done, Fits.next, WellFormed, WellFormed.empty, WellFormed.more}
 use Rattle.utf8.specs.Rows.{fits-some, sequence-row, sequence-fits, sequence-found, sequence-le, long-high}
 
 -- ---- the valid prefix

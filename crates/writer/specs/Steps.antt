@@ -16,8 +16,7 @@ use Rattle.ty.specs.Round.{legal-primitive, legal-object}
 use Rattle.checks.specs.Checks.{firstRefusal, else-none, else-some}
 use Rattle.names.specs.Names.{nameAt, checkNames}
 use Rattle.names.specs.Table.{Checked, name-length}
-use Rattle.writer.specs.Print.{letterByte, print, printAll, printMethod, printWord, printWords, printMethodWords}
-use Rattle.writer.specs.Print.{checkedTypeRefusal, typeRefusal, checkedMethodRefusal, methodRefusal, answer, output, Wrote}
+use Rattle.writer.specs.Print.{letterByte, print, printAll, printMethod, printWord, printWords, printMethodWords, checkedTypeRefusal, typeRefusal, checkedMethodRefusal, methodRefusal, answer, output, Wrote}
 use Rattle.writer.specs.Store.{Put, put-whole}
 use Rattle.writer.specs.declared.Written.{Written}
 

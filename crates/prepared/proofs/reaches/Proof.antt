@@ -1,12 +1,11 @@
 -- `reaches` meets its contract: a row that is there is what is reached.
 use borrow.Author.Needs.{needs}
-use mathlib.Core.Path.{sym, _∙_}
+use mathlib.Core.Path.{sym, _∙_, refl}
 use native.Mathlib.Omega.{arith}
 use Rattle.prepared.specs.Prepared.{rowsIn, rows-length, row-there, row-tells}
 use Rattle.ancestry.specs.Rows.{row}
 use Rattle.prepared.proofs.reaches.Statement.{statement}
 use Rattle.prepared.proofs.reaches.Tie as tie
-use mathlib.Core.Path.{refl}
 
 has-row-requires : tie.Need-has-row-requires
 has-row-requires c κs = search needs

@@ -2,12 +2,13 @@
 use borrow.Author.Needs.{needs}
 use Prim.Native.Nat.{_-_}
 use lib.ListN.{length}
-use Rattle.solves.specs.Choice.{Inside, inside-none}
+use Rattle.solves.specs.Choice.{inside-none}
 use Rattle.solves.proofs.given_classes.Statement.{statement}
 use Rattle.solves.proofs.given_classes.Tie as tie
+use Rattle.sets.specs.Sets.{MembersBelow}
 
 abbrev Inv-loop : tie.InvT-loop
-Inv-loop names bounds s₀ i₀ s i = Inside names (s .words)
+Inv-loop names bounds s₀ i₀ s i = MembersBelow names (s .words)
 
 abbrev μ-loop : tie.MeasureT-loop
 μ-loop names bounds s₀ i₀ s i = length bounds - i
