@@ -32,12 +32,13 @@ columnsIn components variables boundComponents boundKinds boundWords flowSources
   writeValues = writeValues;
 }
 
--- the columns that a function is lent, as `requires` has them, and as `ensures` has them: as they came
-abbrev pub columnsAsked : ℕ → (variables boundComponents boundKinds boundWords flowSources flowTargets upperSources upperTargets readArrays readResults writeArrays writeValues : SliceIn) → Columns
-columnsAsked components variables boundComponents boundKinds boundWords flowSources flowTargets upperSources upperTargets readArrays readResults writeArrays writeValues = columnsIn components (now variables) (now boundComponents) (now boundKinds) (now boundWords) (now flowSources) (now flowTargets) (now upperSources) (now upperTargets) (now readArrays) (now readResults) (now writeArrays) (now writeValues)
+-- the columns that a function is lent, as `requires` has them, and as `ensures` has them: as they came. Parameters stand here, and where they are
+-- handed on, by the initials of their names: vc is var_comp
+abbrev pub columnsAsked : ℕ → (vc bc bk bt fs fd us ud ra rr wa wv : SliceIn) → Columns
+columnsAsked n vc bc bk bt fs fd us ud ra rr wa wv = columnsIn n (now vc) (now bc) (now bk) (now bt) (now fs) (now fd) (now us) (now ud) (now ra) (now rr) (now wa) (now wv)
 
-abbrev pub columnsBy : ℕ → (variables boundComponents boundKinds boundWords flowSources flowTargets upperSources upperTargets readArrays readResults writeArrays writeValues : Slice) → Columns
-columnsBy components variables boundComponents boundKinds boundWords flowSources flowTargets upperSources upperTargets readArrays readResults writeArrays writeValues = columnsIn components (came variables) (came boundComponents) (came boundKinds) (came boundWords) (came flowSources) (came flowTargets) (came upperSources) (came upperTargets) (came readArrays) (came readResults) (came writeArrays) (came writeValues)
+abbrev pub columnsBy : ℕ → (vc bc bk bt fs fd us ud ra rr wa wv : Slice) → Columns
+columnsBy n vc bc bk bt fs fd us ud ra rr wa wv = columnsIn n (came vc) (came bc) (came bk) (came bt) (came fs) (came fd) (came us) (came ud) (came ra) (came rr) (came wa) (came wv)
 
 -- `evenProblem`, of the lengths
 unfoldable pub evenRows : ℕ → ℕ → ℕ → ℕ → ℕ → ℕ → ℕ → ℕ → ℕ → ℕ → ℕ → Bool

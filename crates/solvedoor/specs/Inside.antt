@@ -24,17 +24,17 @@ solveOf g c =
     cond (eqb (firstRefusal (solveChecks g c)) 0) (solve (rowsWorld (shownIn g)) (problemOver g c .problem)) (Unsolved (firstRefusal (solveChecks g c)))
 
 -- of the slices that a function is lent, in the order of its parameters
-abbrev pub SolvesOfBy : (names nameAt nameLen flags class at len parents : Slice) → ℕ → (variables boundComponents boundKinds boundWords flowSources flowTargets upperSources upperTargets readArrays readResults writeArrays writeValues answers outComponents outKinds outTypes work : Slice) → Counts → Type 0
-SolvesOfBy names nameAt nameLen flags class at len parents components variables boundComponents boundKinds boundWords flowSources flowTargets upperSources upperTargets readArrays readResults writeArrays writeValues answers outComponents outKinds outTypes work =
-    SolvesBy (solveOf (givenBy names nameAt nameLen flags class at len parents) (columnsBy components variables boundComponents boundKinds boundWords flowSources flowTargets upperSources upperTargets readArrays readResults writeArrays writeValues)) answers outComponents outKinds outTypes work
+abbrev pub SolvesOfBy : (names nameAt nameLen flags class at len parents : Slice) → ℕ → (vc bc bk bt fs fd us ud ra rr wa wv answers oc ok ot work : Slice) → Counts → Type 0
+SolvesOfBy names nameAt nameLen flags class at len parents n vc bc bk bt fs fd us ud ra rr wa wv answers oc ok ot work =
+    SolvesBy (solveOf (givenBy names nameAt nameLen flags class at len parents) (columnsBy n vc bc bk bt fs fd us ud ra rr wa wv)) answers oc ok ot work
 
 -- columns of equal length, and room for what is answered
-abbrev pub Asked : ℕ → (variables boundComponents boundKinds boundWords flowSources flowTargets upperSources upperTargets readArrays readResults writeArrays writeValues answers outComponents outKinds outTypes work : SliceIn) → Type 0
-Asked components variables boundComponents boundKinds boundWords flowSources flowTargets upperSources upperTargets readArrays readResults writeArrays writeValues answers outComponents outKinds outTypes work =
-    (evenProblem (columnsAsked components variables boundComponents boundKinds boundWords flowSources flowTargets upperSources upperTargets readArrays readResults writeArrays writeValues) ≡ true) × Roomy (length (now variables)) (lentAsked answers outComponents outKinds outTypes work)
+abbrev pub Asked : ℕ → (vc bc bk bt fs fd us ud ra rr wa wv answers oc ok ot work : SliceIn) → Type 0
+Asked n vc bc bk bt fs fd us ud ra rr wa wv answers oc ok ot work =
+    (evenProblem (columnsAsked n vc bc bk bt fs fd us ud ra rr wa wv) ≡ true) × Roomy (length (now vc)) (lentAsked answers oc ok ot work)
 
 -- the same, and room for a table that holds nothing yet
-abbrev pub AskedOver : (flags pairs marks : SliceIn) → ℕ → (variables boundComponents boundKinds boundWords flowSources flowTargets upperSources upperTargets readArrays readResults writeArrays writeValues answers outComponents outKinds outTypes work : SliceIn) → Type 0
-AskedOver flags pairs marks components variables boundComponents boundKinds boundWords flowSources flowTargets upperSources upperTargets readArrays readResults writeArrays writeValues answers outComponents outKinds outTypes work =
-    RoomFor (now flags) (now pairs) × (now marks ≡ noMarks) × (evenProblem (columnsAsked components variables boundComponents boundKinds boundWords flowSources flowTargets upperSources upperTargets readArrays readResults writeArrays writeValues) ≡ true)
-    × Roomy (length (now variables)) (lentAsked answers outComponents outKinds outTypes work)
+abbrev pub AskedOver : (flags pairs marks : SliceIn) → ℕ → (vc bc bk bt fs fd us ud ra rr wa wv answers oc ok ot work : SliceIn) → Type 0
+AskedOver flags pairs marks n vc bc bk bt fs fd us ud ra rr wa wv answers oc ok ot work =
+    RoomFor (now flags) (now pairs) × (now marks ≡ noMarks) × (evenProblem (columnsAsked n vc bc bk bt fs fd us ud ra rr wa wv) ≡ true)
+    × Roomy (length (now vc)) (lentAsked answers oc ok ot work)

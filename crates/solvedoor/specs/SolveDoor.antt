@@ -64,7 +64,7 @@ pub record SolvesIn (g : Given) (c : Columns) (before after : Lent) (r : Counts)
   pub memory : Leaves g c before after
 
 -- of the slices that a function is lent, in the order of its parameters
-abbrev pub SolvesInBy : (names nameAt nameLen flags class at len parents : Slice) → ℕ → (variables boundComponents boundKinds boundWords flowSources flowTargets upperSources upperTargets readArrays readResults writeArrays writeValues answers outComponents outKinds outTypes work : Slice) → Counts → Type 0
-SolvesInBy names nameAt nameLen flags class at len parents components variables boundComponents boundKinds boundWords flowSources flowTargets upperSources upperTargets readArrays readResults writeArrays writeValues answers outComponents outKinds outTypes work =
-    SolvesIn (givenBy names nameAt nameLen flags class at len parents) (columnsBy components variables boundComponents boundKinds boundWords flowSources flowTargets upperSources upperTargets readArrays readResults writeArrays writeValues)
-    (lentBy answers outComponents outKinds outTypes work) (leftBy answers outComponents outKinds outTypes work)
+abbrev pub SolvesInBy : (names nameAt nameLen flags class at len parents : Slice) → ℕ → (vc bc bk bt fs fd us ud ra rr wa wv answers oc ok ot work : Slice) → Counts → Type 0
+SolvesInBy names nameAt nameLen flags class at len parents n vc bc bk bt fs fd us ud ra rr wa wv answers oc ok ot work =
+    SolvesIn (givenBy names nameAt nameLen flags class at len parents) (columnsBy n vc bc bk bt fs fd us ud ra rr wa wv)
+    (lentBy answers oc ok ot work) (leftBy answers oc ok ot work)

@@ -53,20 +53,20 @@ Built marks t = (length marks ≡ marksRoom) × (t .names ≤ 1024) × ((t .obje
 -- ---- of the slices that a function is lent
 
 -- a table that was built, columns of equal length, and room for what is answered
-abbrev pub AskedRows : SliceIn → Tables → ℕ → (variables boundComponents boundKinds boundWords flowSources flowTargets upperSources upperTargets readArrays readResults writeArrays writeValues answers outComponents outKinds outTypes work : SliceIn) → Type 0
-AskedRows marks t components variables boundComponents boundKinds boundWords flowSources flowTargets upperSources upperTargets readArrays readResults writeArrays writeValues answers outComponents outKinds outTypes work =
-    Built (now marks) t × (evenProblem (columnsAsked components variables boundComponents boundKinds boundWords flowSources flowTargets upperSources upperTargets readArrays readResults writeArrays writeValues) ≡ true) × Roomy (length (now variables)) (lentAsked answers outComponents outKinds outTypes work)
+abbrev pub AskedRows : SliceIn → Tables → ℕ → (vc bc bk bt fs fd us ud ra rr wa wv answers oc ok ot work : SliceIn) → Type 0
+AskedRows marks t n vc bc bk bt fs fd us ud ra rr wa wv answers oc ok ot work =
+    Built (now marks) t × (evenProblem (columnsAsked n vc bc bk bt fs fd us ud ra rr wa wv) ≡ true) × Roomy (length (now vc)) (lentAsked answers oc ok ot work)
 
 -- a table with classes, a problem that fronts keep, and room for what is answered
-abbrev pub AskedFront : SliceIn → Tables → ℕ → SliceIn → ProblemCounts → (bounds flows uppers reads writes answers outComponents outKinds outTypes work : SliceIn) → Type 0
-AskedFront marks t components variables n bounds flows uppers reads writes answers outComponents outKinds outTypes work =
+abbrev pub AskedFront : SliceIn → Tables → ℕ → SliceIn → ProblemCounts → (bounds flows uppers reads writes answers oc ok ot work : SliceIn) → Type 0
+AskedFront marks t components variables n bounds flows uppers reads writes answers oc ok ot work =
     Classes (now marks) t × Fronts n (now bounds) (now flows) (now uppers) (now reads) (now writes)
     × KeepsFront (t .names) components (now variables) n (now bounds) (now flows) (now uppers) (now reads) (now writes)
-    × Roomy (length (now variables)) (lentAsked answers outComponents outKinds outTypes work)
+    × Roomy (length (now variables)) (lentAsked answers oc ok ot work)
 
 abbrev pub frontBy : ℕ → Slice → ProblemCounts → (bounds flows uppers reads writes : Slice) → Problem
 frontBy components variables n bounds flows uppers reads writes = problemFront components (came variables) n (came bounds) (came flows) (came uppers) (came reads) (came writes)
 
-abbrev pub SolvesRowsBy : World → Tables → ℕ → (variables boundComponents boundKinds boundWords flowSources flowTargets upperSources upperTargets readArrays readResults writeArrays writeValues answers outComponents outKinds outTypes work : Slice) → Counts → Type 0
-SolvesRowsBy w t components variables boundComponents boundKinds boundWords flowSources flowTargets upperSources upperTargets readArrays readResults writeArrays writeValues answers outComponents outKinds outTypes work =
-    SolvesBy (solveRows w t (columnsBy components variables boundComponents boundKinds boundWords flowSources flowTargets upperSources upperTargets readArrays readResults writeArrays writeValues)) answers outComponents outKinds outTypes work
+abbrev pub SolvesRowsBy : World → Tables → ℕ → (vc bc bk bt fs fd us ud ra rr wa wv answers oc ok ot work : Slice) → Counts → Type 0
+SolvesRowsBy w t n vc bc bk bt fs fd us ud ra rr wa wv answers oc ok ot work =
+    SolvesBy (solveRows w t (columnsBy n vc bc bk bt fs fd us ud ra rr wa wv)) answers oc ok ot work

@@ -77,6 +77,6 @@ pub record Solves (s : Solution) (before after : Lent) (r : Counts) : Type 0 whe
   pub types : after .types ≡ typesAfter s (before .types)
   pub work : after .work ≡ replicate (length (before .work)) 0
 
--- a function with many slices
+-- of the slices that a function is lent
 abbrev pub SolvesBy : Solution → (answers components kinds types work : Slice) → Counts → Type 0
 SolvesBy s answers components kinds types work = Solves s (lentBy answers components kinds types work) (leftBy answers components kinds types work)
