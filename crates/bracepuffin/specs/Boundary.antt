@@ -139,8 +139,8 @@ unfoldable pub solvedTold : Given → Columns → Lent → BpSolved
 solvedTold g c lent = solvedAnswer (countsOf (solveIn g c lent))
 
 -- of what the call is lent, in the order of its parameters: the result, and what stands in the slices afterwards
-abbrev pub solvedBy : (names nameAt nameLen flags class at len parents : Slice) → ℕ → (vc bc bk bt fs fd us ud ra rr wa wv answers oc ok ot work : Slice) → BpSolved
-solvedBy names nameAt nameLen flags class at len parents n vc bc bk bt fs fd us ud ra rr wa wv answers oc ok ot work =
+abbrev pub bpSolved : (names nameAt nameLen flags class at len parents : Slice) → ℕ → (vc bc bk bt fs fd us ud ra rr wa wv answers oc ok ot work : Slice) → BpSolved
+bpSolved names nameAt nameLen flags class at len parents n vc bc bk bt fs fd us ud ra rr wa wv answers oc ok ot work =
     solvedTold (givenBy names nameAt nameLen flags class at len parents) (columnsBy n vc bc bk bt fs fd us ud ra rr wa wv) (lentBy answers oc ok ot work)
 
 abbrev pub SolveLeaves : (names nameAt nameLen flags class at len parents : Slice) → ℕ → (vc bc bk bt fs fd us ud ra rr wa wv answers oc ok ot work : Slice) → Type 0

@@ -28,7 +28,7 @@ ghost use Rattle.methods.specs.Answers.{methodOf, paramsAfter};
 ghost use Rattle.names.specs.Names.{lookUp};
 ghost use Rattle.columns.specs.Given.{givenBy};
 ghost use Rattle.questions.specs.Questions.{workAfter};
-ghost use Rattle.bracepuffin.specs.Boundary.{typeFound, typeAnswer, methodResult, bpMethod, foundAnswer, writtenAnswer, WroteType, WroteMethod, relationAnswer, numberAnswer, setAnswer, checkAnswer, checkTold, relationTold, distanceTold, ancestorsTold, supertypeTold, castTold, joinTold, assignableTold, solvedAnswer, solvedBy, SolveLeaves};
+ghost use Rattle.bracepuffin.specs.Boundary.{typeFound, typeAnswer, methodResult, bpMethod, foundAnswer, writtenAnswer, WroteType, WroteMethod, relationAnswer, numberAnswer, setAnswer, checkAnswer, checkTold, relationTold, distanceTold, ancestorsTold, supertypeTold, castTold, joinTold, assignableTold, solvedAnswer, bpSolved, SolveLeaves};
 
 #[repr(C)]
 pub struct BpType {
@@ -625,7 +625,7 @@ pub extern "C" fn bp_solve(
     out_type: &mut [u64],
     work: &mut [u64],
 ) -> BpSolved
-    ensures { λ r. ⌜ r ≡ solvedBy names «name_at» «name_len» «rec_flags» «rec_class» «rec_at» «rec_len» parents components «var_comp» «bnd_comp» «bnd_kind» «bnd_type» «flow_src» «flow_dst» «up_src» «up_dst» «read_arr» «read_res» «write_arr» «write_val» answers «out_comp» «out_kind» «out_type» work ⌝ }
+    ensures { λ r. ⌜ r ≡ bpSolved names «name_at» «name_len» «rec_flags» «rec_class» «rec_at» «rec_len» parents components «var_comp» «bnd_comp» «bnd_kind» «bnd_type» «flow_src» «flow_dst» «up_src» «up_dst» «read_arr» «read_res» «write_arr» «write_val» answers «out_comp» «out_kind» «out_type» work ⌝ }
     ensures { λ _. ⌜ SolveLeaves names «name_at» «name_len» «rec_flags» «rec_class» «rec_at» «rec_len» parents components «var_comp» «bnd_comp» «bnd_kind» «bnd_type» «flow_src» «flow_dst» «up_src» «up_dst» «read_arr» «read_res» «write_arr» «write_val» answers «out_comp» «out_kind» «out_type» work ⌝ }
 {
     let c = solve_slices(

@@ -78,8 +78,8 @@ Lowest fs cs ats ls pairs marks t =
     (length fs ≡ length cs) × (length fs ≡ length ats) × (length fs ≡ length ls) × (length pairs ≡ layersRoom) × Sound (stateOf pairs marks t) × (t .pairs ≡ 0)
 
 -- records in columns of equal length, slices that hold a stack, and bits with room for every class and without a key
-abbrev pub Gatherable : List ℕ → List ℕ → List ℕ → List ℕ → List ℕ → List ℕ → StackTables → List ℕ → Type 0
-Gatherable fs cs ats ls pairs marks s bits =
+abbrev pub StackGatherable : List ℕ → List ℕ → List ℕ → List ℕ → List ℕ → List ℕ → StackTables → List ℕ → Type 0
+StackGatherable fs cs ats ls pairs marks s bits =
     (length fs ≡ length cs) × (length fs ≡ length ats) × (length fs ≡ length ls) × Holds pairs marks s
     × (16 * s .tables .names ≤ length bits) × (length bits ≤ bitsRoom) × (keysIn bits ≡ [])
 

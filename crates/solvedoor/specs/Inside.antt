@@ -29,8 +29,8 @@ SolvesOfBy names nameAt nameLen flags class at len parents n vc bc bk bt fs fd u
     SolvesBy (solveOf (givenBy names nameAt nameLen flags class at len parents) (columnsBy n vc bc bk bt fs fd us ud ra rr wa wv)) answers oc ok ot work
 
 -- columns of equal length, and room for what is answered
-abbrev pub Asked : ℕ → (vc bc bk bt fs fd us ud ra rr wa wv answers oc ok ot work : SliceIn) → Type 0
-Asked n vc bc bk bt fs fd us ud ra rr wa wv answers oc ok ot work =
+abbrev pub AskedSolve : ℕ → (vc bc bk bt fs fd us ud ra rr wa wv answers oc ok ot work : SliceIn) → Type 0
+AskedSolve n vc bc bk bt fs fd us ud ra rr wa wv answers oc ok ot work =
     (evenProblem (columnsAsked n vc bc bk bt fs fd us ud ra rr wa wv) ≡ true) × Roomy (length (now vc)) (lentAsked answers oc ok ot work)
 
 -- the same, and room for a table that holds nothing yet

@@ -11,7 +11,7 @@ use solving::Counts;
 use tables::MARKS;
 use tables::PAIRS;
 ghost use Rattle.solvedoor.specs.SolveDoor.{SolvesInBy};
-ghost use Rattle.solvedoor.specs.Inside.{SolvesOfBy, Asked, AskedOver};
+ghost use Rattle.solvedoor.specs.Inside.{SolvesOfBy, AskedSolve, AskedOver};
 
 // The solve in two slices without entries that have room for the table's layers, of a problem's columns of equal length.
 fn solve_over(
@@ -116,7 +116,7 @@ fn solve_layers(
     out_type: &mut [u64],
     work: &mut [u64],
 ) -> Counts
-    requires { ⌜ Asked components «var_comp» «bnd_comp» «bnd_kind» «bnd_type» «flow_src» «flow_dst» «up_src» «up_dst» «read_arr» «read_res» «write_arr» «write_val» answers «out_comp» «out_kind» «out_type» work ⌝ }
+    requires { ⌜ AskedSolve components «var_comp» «bnd_comp» «bnd_kind» «bnd_type» «flow_src» «flow_dst» «up_src» «up_dst» «read_arr» «read_res» «write_arr» «write_val» answers «out_comp» «out_kind» «out_type» work ⌝ }
     ensures { λ r. ⌜ SolvesOfBy names «name_at» «name_len» «rec_flags» «rec_class» «rec_at» «rec_len» parents components «var_comp» «bnd_comp» «bnd_kind» «bnd_type» «flow_src» «flow_dst» «up_src» «up_dst» «read_arr» «read_res» «write_arr» «write_val» answers «out_comp» «out_kind» «out_type» work r ⌝ }
 {
     let mut pairs = [0u64; SHOWN];
