@@ -27,6 +27,6 @@ pub is-in-one : (κs : Lfts 1) (a : Dens κs is-in-kinds.ps) (r₁ r₂ : (res_t
 is-in-one κs a r₁ r₂ x₁ x₂ p q = p ∙ sym q
 
 -- the fifth parameter is lent
-pub fill_one : (κs : Lfts 3) (a : Dens κs fill-kinds.ps) (r₁ r₂ : (res_t fill-kinds.r κs).Denot) (x₁ x₂ : AtExit (ended_of 3 fill-kinds.ps fill-kinds.r) κs)
+pub fill-one : (κs : Lfts 3) (a : Dens κs fill-kinds.ps) (r₁ r₂ : (res_t fill-kinds.r κs).Denot) (x₁ x₂ : AtExit (ended_of 3 fill-kinds.ps fill-kinds.r) κs)
     → fill-reads.Post κs a r₁ x₁ → fill-reads.Post κs a r₂ x₂ → x₁.1.1.1.1.0.now ≡ x₂.1.1.1.1.0.now
-fill_one κs a r₁ r₂ x₁ x₂ p q = rows-unique _ _ _ _ p q
+fill-one κs a r₁ r₂ x₁ x₂ p q = rows-unique _ _ _ _ p q

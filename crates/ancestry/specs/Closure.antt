@@ -11,30 +11,30 @@ use Rattle.std.proofs.lemmas.List.{length-replicate}
 use Rattle.order.specs.Truth.{implied-both}
 use Rattle.sets.specs.Sets.{at, member, insert, remove, unite, members, first}
 use Rattle.sets.specs.Laws.{at-ext, at-empty, member-empty, member-none, member-ext, member-unite, at-unite, length-unite, words-unite, length-remove, at-remove-same, at-remove-other, member-cong, lowest-member, lowest-none}
-use Rattle.view.specs.View.{View, insertAll, reached, reach, ancestor, allRecorded, complete, relation}
+use Rattle.view.specs.View.{View, insert_all, reached, reach, ancestor, all_recorded, complete, relation}
 use Rattle.view.specs.declared.Relation.TheVariants.{Yes, No, Unknown}
-use Rattle.view.specs.Grow.{Formed, empty-formed, insert-formed, insertAll-formed, insertAll-keeps, insertAll-has, insertAll-only, member-le, member-insert-same, member-insert-only}
+use Rattle.view.specs.Grow.{Formed, empty-formed, insert-formed, insert_all-formed, insert_all-keeps, insert_all-has, insert_all-only, member-le, member-insert-same, member-insert-only}
 use Rattle.view.specs.Reach.{Good, reach-refl, reach-trans, reach-parent, reach-induction, reached-formed}
-use Rattle.ancestry.specs.Rows.{rowsRoom, row, row_word, Joined, Through}
+use Rattle.ancestry.specs.Rows.{rows_room, row, row-word, Joined, Through}
 
 -- the rows of a set: what each of its classes reaches, and nothing for the others
 pub record Rows (v : View) (s rows : List ℕ) : Type 0 where
-  pub size : length rows ≡ rowsRoom
+  pub size : length rows ≡ rows_room
   pub has : (c : ℕ) → member s c ≡ true → row rows c ≡ reached v c
   pub none : (c : ℕ) → c < 1024 → member s c ≡ false → row rows c ≡ replicate 16 0
 
 -- the rows at first: each class and its parents
 abbrev pub base : View → ℕ → List ℕ
-base v c = insertAll (insert (replicate 16 0) c) (v.parents c)
+base v c = insert_all (insert (replicate 16 0) c) (v.parents c)
 
 pub record Bases (v : View) (s rows : List ℕ) : Type 0 where
-  pub size : length rows ≡ rowsRoom
+  pub size : length rows ≡ rows_room
   pub has : (c : ℕ) → member s c ≡ true → row rows c ≡ base v c
   pub none : (c : ℕ) → c < 1024 → member s c ≡ false → row rows c ≡ replicate 16 0
 
 -- on the way there
 pub record Based (v : View) (s left rows : List ℕ) : Type 0 where
-  pub size : length rows ≡ rowsRoom
+  pub size : length rows ≡ rows_room
   pub left-size : length left ≡ 16
   pub part : (c : ℕ) → member left c ≡ true → member s c ≡ true
   pub done : (c : ℕ) → member s c ≡ true → member left c ≡ false → row rows c ≡ base v c
@@ -42,7 +42,7 @@ pub record Based (v : View) (s left rows : List ℕ) : Type 0 where
 
 -- on the way: what leads through a class that is not left is there
 pub record Closing (v : View) (s left rows : List ℕ) : Type 0 where
-  pub size : length rows ≡ rowsRoom
+  pub size : length rows ≡ rows_room
   pub left-size : length left ≡ 16
   pub part : (c : ℕ) → member left c ≡ true → member s c ≡ true
   pub formed : (c : ℕ) → member s c ≡ true → Formed (row rows c)
@@ -72,12 +72,12 @@ unite-empty s f =
 
 module _ (v : View) where
   base-formed : (c : ℕ) → Formed (base v c)
-  base-formed c = insertAll-formed (insert (replicate 16 0) c) (v.parents c) (insert-formed (replicate 16 0) c empty-formed)
+  base-formed c = insert_all-formed (insert (replicate 16 0) c) (v.parents c) (insert-formed (replicate 16 0) c empty-formed)
 
 -- ---- the rows at first
 
 module _ (v : View) (s : List ℕ) (size-s : length s ≡ 16) where
-  pub based-start : (rows : List ℕ) → length rows ≡ rowsRoom → ((c : ℕ) → c < 1024 → row rows c ≡ replicate 16 0) → Based v s s rows
+  pub based-start : (rows : List ℕ) → length rows ≡ rows_room → ((c : ℕ) → c < 1024 → row rows c ≡ replicate 16 0) → Based v s s rows
   based-start rows l z = record {
     size = l;
     left-size = size-s;
@@ -96,8 +96,8 @@ module _ (v : View) (s : List ℕ) (size-s : length s ≡ 16) where
     todo = λ d l w. q.other d (λ k. not-c d k w) ∙ st.todo d l (⊎_elim (λ x. inl x) (λ x. inr (was d x (ℕ_discrete d c))) w);
   }
     where
-      in_left : member left c ≡ true
-      in_left = subst (λ (x : ℕ). member left x ≡ true) (sym e) (lowest-member left 1024 (omega arith))
+      in-left : member left c ≡ true
+      in-left = subst (λ (x : ℕ). member left x ≡ true) (sym e) (lowest-member left 1024 (omega arith))
 
       gone : (d : ℕ) → d ≡ c → member left' d ≡ true → ⊥
       gone d k m = true≢false (sym m ∙ ap₂ (λ (w : List ℕ) (x : ℕ). member w x) r k ∙ member-removed left c)
@@ -107,12 +107,12 @@ module _ (v : View) (s : List ℕ) (size-s : length s ≡ 16) where
       was d m (no n) = sym (removed left c d n) ∙ sym (ap (λ (w : List ℕ). member w d) r) ∙ m
 
       not-c : (d : ℕ) → d ≡ c → (member s d ≡ false) ⊎ (member left' d ≡ true) → ⊥
-      not-c d k (inl x) = true≢false (sym (st.part c in_left) ∙ sym (ap (member s) k) ∙ x)
+      not-c d k (inl x) = true≢false (sym (st.part c in-left) ∙ sym (ap (member s) k) ∙ x)
       not-c d k (inr x) = gone d k x
 
       go : (d : ℕ) → member s d ≡ true → member left' d ≡ false → Dec (d ≡ c) → row rows' d ≡ base v d
       go d m n (yes k) =
-          ap (row rows') k ∙ q.same ∙ ap₂ (λ (x y : List ℕ). unite x y) (st.todo c h (inr in_left)) is ∙ unite-empty (base v c) (base-formed v c)
+          ap (row rows') k ∙ q.same ∙ ap₂ (λ (x y : List ℕ). unite x y) (st.todo c h (inr in-left)) is ∙ unite-empty (base v c) (base-formed v c)
           ∙ ap (base v) (sym k)
       go d m n (no x) = q.other d x ∙ st.done d m (sym (removed left c d x) ∙ sym (ap (λ (w : List ℕ). member w d) r) ∙ n)
 
@@ -140,7 +140,7 @@ module _ (v : View) (g : Good v) (s : List ℕ) (size-s : length s ≡ 16) (insi
     own = λ c m. subst (λ (w : List ℕ). member w c ≡ true) (sym (is c m)) (own-base c (few c (inside c m)));
     up = λ c p m q.
         subst (λ (w : List ℕ). member w p ≡ true) (sym (is c m))
-        (insertAll-has (insert (replicate 16 0) c) (v.parents c) p (insert-formed (replicate 16 0) c empty-formed) (few p (g.parents-in c p (inside c m) q)) q);
+        (insert_all-has (insert (replicate 16 0) c) (v.parents c) p (insert-formed (replicate 16 0) c empty-formed) (few p (g.parents-in c p (inside c m) q)) q);
     sound = λ c j m k. sound-base c j (inside c m) (subst (λ (w : List ℕ). member w j ≡ true) (is c m) k);
     through = λ a c j m n. absurd (true≢false (sym m ∙ n));
   }
@@ -149,7 +149,7 @@ module _ (v : View) (g : Good v) (s : List ℕ) (size-s : length s ≡ 16) (insi
       is = st.has
 
       own-base : (c : ℕ) → c < 1024 → member (base v c) c ≡ true
-      own-base c h = member-le (insert (replicate 16 0) c) (base v c) c (insertAll-keeps (insert (replicate 16 0) c) (v.parents c) c) (member-insert-same (replicate 16 0) c empty-formed h)
+      own-base c h = member-le (insert (replicate 16 0) c) (base v c) c (insert_all-keeps (insert (replicate 16 0) c) (v.parents c) c) (member-insert-same (replicate 16 0) c empty-formed h)
 
       sound-base : (c j : ℕ) → c < v.names → member (base v c) j ≡ true → reach v c j ≡ true
       sound-base c j h m =
@@ -158,13 +158,13 @@ module _ (v : View) (g : Good v) (s : List ℕ) (size-s : length s ≡ 16) (insi
           ⊎_elim (λ q. absurd (true≢false (sym q ∙ member-empty 16 j))) (λ q. subst (λ (x : ℕ). reach v c x ≡ true) (sym q) (reach-refl v g c h))
           (member-insert-only (replicate 16 0) c j k))
           (λ q. reach-parent v g c h c j (reach-refl v g c h) q)
-          (insertAll-only (insert (replicate 16 0) c) (v.parents c) j m)
+          (insert_all-only (insert (replicate 16 0) c) (v.parents c) j m)
 
   module _ (left rows : List ℕ) (st : Closing v s left rows) where
     -- every class was gone through
-    pub closing_end : first (at left) 1024 ≡ 1024 → Rows v s rows
+    pub closing-end : first (at left) 1024 ≡ 1024 → Rows v s rows
     unfolding reach
-    closing_end e = record {
+    closing-end e = record {
       size = st.size;
       has = λ c m.
           let f = st.formed c m in
@@ -289,8 +289,8 @@ rows-unique v s a b p q =
     (λ i h.
     let n = p.size in
     let e : i ≡ 16 * (i / 16) + i % 16 = omega arith in
-    ap (λ (k : ℕ). get_or a k 0) e ∙ sym (row_word a (i / 16) (i % 16) (omega arith)) ∙ ap (λ (w : List ℕ). get_or w (i % 16) 0) (same (i / 16) (omega arith) (member s (i / 16)) refl)
-    ∙ row_word b (i / 16) (i % 16) (omega arith)
+    ap (λ (k : ℕ). get_or a k 0) e ∙ sym (row-word a (i / 16) (i % 16) (omega arith)) ∙ ap (λ (w : List ℕ). get_or w (i % 16) 0) (same (i / 16) (omega arith) (member s (i / 16)) refl)
+    ∙ row-word b (i / 16) (i % 16) (omega arith)
     ∙ ap (λ (k : ℕ). get_or b k 0) (sym e))
   where
     same : (c : ℕ) → c < 1024 → (t : Bool) → member s c ≡ t → row a c ≡ row b c
@@ -311,12 +311,12 @@ module _ (v : View) (s rows : List ℕ) (rs : Rows v s rows) (c : ℕ) (m : memb
   row-ancestor y = ap (λ (b : Bool). eqb c y || (eqb y v.object || b)) (sym (row-reach y))
 
   -- whether all above it is recorded is asked of its members
-  pub row-complete : complete v c ≡ allRecorded v (members (at (row rows c)) 0 1024)
+  pub row-complete : complete v c ≡ all_recorded v (members (at (row rows c)) 0 1024)
   unfolding complete
-  row-complete = ap (λ (w : List ℕ). allRecorded v (members (at w) 0 1024)) (sym (rs.has c m))
+  row-complete = ap (λ (w : List ℕ). all_recorded v (members (at w) 0 1024)) (sym (rs.has c m))
 
   -- HOW IT STANDS TO ANOTHER CLASS, by its row alone
   pub row-relation : (y : ℕ)
-      → relation v c y ≡ cond (eqb c y || (eqb y v.object || member (row rows c) y)) Yes (cond (allRecorded v (members (at (row rows c)) 0 1024)) No Unknown)
+      → relation v c y ≡ cond (eqb c y || (eqb y v.object || member (row rows c) y)) Yes (cond (all_recorded v (members (at (row rows c)) 0 1024)) No Unknown)
   unfolding relation
   row-relation y = ap₂ (λ (a b : Bool). cond a Yes (cond b No Unknown)) (row-ancestor y) row-complete

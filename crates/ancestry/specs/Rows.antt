@@ -8,11 +8,11 @@ use Rattle.std.specs.Int.Bits.{bit_or}
 use Rattle.std.proofs.Math.ListN.{length}
 use Rattle.std.proofs.lemmas.List.{length-replicate, get_or-replicate}
 use Rattle.sets.specs.Sets.{member, pairwise, unite}
-use Rattle.sets.specs.Laws.{length-pairwise, getD-pairwise}
+use Rattle.sets.specs.Laws.{length-pairwise, get_d-pairwise}
 use Rattle.tables.specs.Table.{mark}
 
-abbrev pub rowsRoom : ℕ
-rowsRoom = 16384
+abbrev pub rows_room : ℕ
+rows_room = 16384
 
 -- row c
 abbrev pub row : List ℕ → ℕ → List ℕ
@@ -20,35 +20,35 @@ row rows c = mark rows c
 
 -- row c has what it had and s, the other rows are as they were
 pub record Joined (rows : List ℕ) (c : ℕ) (s rows' : List ℕ) : Type 0 where
-  pub size : length rows' ≡ rowsRoom
+  pub size : length rows' ≡ rows_room
   pub same : row rows' c ≡ unite (row rows c) s
   pub other : (d : ℕ) → (d ≡ c → ⊥) → row rows' d ≡ row rows d
 
 -- the same where `taken`
 pub record JoinedIf (rows : List ℕ) (c : ℕ) (taken : Bool) (s rows' : List ℕ) : Type 0 where
-  pub size : length rows' ≡ rowsRoom
+  pub size : length rows' ≡ rows_room
   pub same : row rows' c ≡ cond taken (unite (row rows c) s) (row rows c)
   pub other : (d : ℕ) → (d ≡ c → ⊥) → row rows' d ≡ row rows d
 
 -- each of the first n rows that has k has row k too
 pub record Through (rows : List ℕ) (n k : ℕ) (rows' : List ℕ) : Type 0 where
-  pub size : length rows' ≡ rowsRoom
+  pub size : length rows' ≡ rows_room
   pub below : (i : ℕ) → i < n → row rows' i ≡ cond (member (row rows i) k) (unite (row rows i) (row rows k)) (row rows i)
   pub past : (i : ℕ) → n ≤ i → row rows' i ≡ row rows i
 
 -- ---- a word of a row
 
-pub row-length : (rows : List ℕ) (c : ℕ) → length rows ≡ rowsRoom → c < 1024 → length (row rows c) ≡ 16
+pub row-length : (rows : List ℕ) (c : ℕ) → length rows ≡ rows_room → c < 1024 → length (row rows c) ≡ 16
 unfolding mark
 row-length rows c l h = simp (length-take, length-drop) (omega arith)
 
-pub row_word : (rows : List ℕ) (c j : ℕ) → j < 16 → get_or (row rows c) j 0 ≡ get_or rows (16 * c + j) 0
+pub row-word : (rows : List ℕ) (c j : ℕ) → j < 16 → get_or (row rows c) j 0 ≡ get_or rows (16 * c + j) 0
 unfolding mark
-row_word rows c j h = get_or-take 16 (drop (16 * c) rows) j 0 h ∙ get_or-drop (16 * c) rows j 0
+row-word rows c j h = get_or-take 16 (drop (16 * c) rows) j 0 h ∙ get_or-drop (16 * c) rows j 0
 
-same_length : (a b : List ℕ) (d : ℕ) → length a ≡ length b → length (row a d) ≡ length (row b d)
+same-length : (a b : List ℕ) (d : ℕ) → length a ≡ length b → length (row a d) ≡ length (row b d)
 unfolding mark
-same_length a b d e =
+same-length a b d e =
     let p = length-take 16 (drop (16 * d) a) in
     let q = length-take 16 (drop (16 * d) b) in
     let x = length-drop (16 * d) a in
@@ -60,9 +60,9 @@ unfolding mark
 short rows d = let p = length-take 16 (drop (16 * d) rows) in omega arith
 
 -- the rows of a slice of zeros
-pub zero_row : (n c : ℕ) → 16 * c + 16 ≤ n → row (replicate n 0) c ≡ replicate 16 0
+pub zero-row : (n c : ℕ) → 16 * c + 16 ≤ n → row (replicate n 0) c ≡ replicate 16 0
 unfolding mark
-zero_row n c h =
+zero-row n c h =
     ext_get_or 0 (row (replicate n 0) c) (replicate 16 0)
     (let a = length-take 16 (drop (16 * c) (replicate {A = ℕ} n 0)) in
     let b = length-drop (16 * c) (replicate {A = ℕ} n 0) in
@@ -71,18 +71,18 @@ zero_row n c h =
     omega arith)
     (λ j l.
     let a = length-take 16 (drop (16 * c) (replicate {A = ℕ} n 0)) in
-    row_word (replicate n 0) c j (omega arith) ∙ get_or-replicate n (16 * c + j) 0 0 (omega arith) ∙ sym (get_or-replicate 16 j 0 0 (omega arith)))
+    row-word (replicate n 0) c j (omega arith) ∙ get_or-replicate n (16 * c + j) 0 0 (omega arith) ∙ sym (get_or-replicate 16 j 0 0 (omega arith)))
 
 -- ---- a row, word by word: at word k those below k are joined
 
 pub record Joining (rows₀ : List ℕ) (c : ℕ) (s rows : List ℕ) (k : ℕ) : Type 0 where
   pub within : k ≤ 16
-  pub size : length rows ≡ rowsRoom
+  pub size : length rows ≡ rows_room
   pub done : (j : ℕ) → j < k → get_or rows (16 * c + j) 0 ≡ bit_or (get_or rows₀ (16 * c + j) 0) (get_or s j 0)
   pub rest : (i : ℕ) → (i < 16 * c) ⊎ (16 * c + k ≤ i) → get_or rows i 0 ≡ get_or rows₀ i 0
 
 module _ (rows₀ : List ℕ) (c : ℕ) (s : List ℕ) where
-  pub joining-start : length rows₀ ≡ rowsRoom → Joining rows₀ c s rows₀ 0
+  pub joining-start : length rows₀ ≡ rows_room → Joining rows₀ c s rows₀ 0
   joining-start l = record { within = omega arith; size = l; done = λ j h. absurd (omega arith); rest = λ i h. refl }
 
   pub joining-more : (rows : List ℕ) (k i : ℕ) → Joining rows₀ c s rows k → k < 16 → c < 1024 → i ≡ 16 * c + k
@@ -106,28 +106,28 @@ module _ (rows₀ : List ℕ) (c : ℕ) (s : List ℕ) where
           (ap (λ (x : ℕ). get_or s x 0) (sym q))
       below j b (no n) = get_or-set_other rows i (16 * c + j) w 0 (λ u. n (omega arith)) ∙ p.done j (omega arith)
 
-  pub joining-end : (rows : List ℕ) (k : ℕ) → Joining rows₀ c s rows k → 16 ≤ k → c < 1024 → length rows₀ ≡ rowsRoom → length s ≡ 16 → Joined rows₀ c s rows
+  pub joining-end : (rows : List ℕ) (k : ℕ) → Joining rows₀ c s rows k → 16 ≤ k → c < 1024 → length rows₀ ≡ rows_room → length s ≡ 16 → Joined rows₀ c s rows
   unfolding unite
-  joining-end rows k p h l size₀ size-s = record { size = p.size; same = same_row; other = other_row }
+  joining-end rows k p h l size₀ size-s = record { size = p.size; same = same-row; other = other-row }
     where
       long : length (row rows₀ c) ≡ length s
       long = row-length rows₀ c size₀ l ∙ sym size-s
 
-      same_row : row rows c ≡ pairwise bit_or (row rows₀ c) s
-      same_row =
+      same-row : row rows c ≡ pairwise bit_or (row rows₀ c) s
+      same-row =
           ext_get_or 0 (row rows c) (pairwise bit_or (row rows₀ c) s) (row-length rows c p.size l ∙ sym (length-pairwise bit_or (row rows₀ c) s long ∙ row-length rows₀ c size₀ l))
           (λ j b.
           let u = row-length rows c p.size l in
-          row_word rows c j (omega arith) ∙ p.done j (let x = p.within in omega arith)
-          ∙ ap (λ (x : ℕ). bit_or x (get_or s j 0)) (sym (row_word rows₀ c j (omega arith)))
-          ∙ sym (getD-pairwise bit_or refl (row rows₀ c) s j long))
+          row-word rows c j (omega arith) ∙ p.done j (let x = p.within in omega arith)
+          ∙ ap (λ (x : ℕ). bit_or x (get_or s j 0)) (sym (row-word rows₀ c j (omega arith)))
+          ∙ sym (get_d-pairwise bit_or refl (row rows₀ c) s j long))
 
-      other_row : (d : ℕ) → (d ≡ c → ⊥) → row rows d ≡ row rows₀ d
-      other_row d n =
-          ext_get_or 0 (row rows d) (row rows₀ d) (same_length rows rows₀ d (p.size ∙ sym size₀))
+      other-row : (d : ℕ) → (d ≡ c → ⊥) → row rows d ≡ row rows₀ d
+      other-row d n =
+          ext_get_or 0 (row rows d) (row rows₀ d) (same-length rows rows₀ d (p.size ∙ sym size₀))
           (λ j b.
           let u = short rows d in
-          row_word rows d j (omega arith) ∙ p.rest (16 * d + j) (side (ℕ_discrete d c) j (omega arith)) ∙ sym (row_word rows₀ d j (omega arith)))
+          row-word rows d j (omega arith) ∙ p.rest (16 * d + j) (side (ℕ_discrete d c) j (omega arith)) ∙ sym (row-word rows₀ d j (omega arith)))
         where
           side : Dec (d ≡ c) → (j : ℕ) → j < 16 → (16 * d + j < 16 * c) ⊎ (16 * c + k ≤ 16 * d + j)
           side (yes q) j b = absurd (n q)
@@ -140,7 +140,7 @@ module _ (rows₀ : List ℕ) (c : ℕ) (s : List ℕ) where
 pub joined-if : (rows : List ℕ) (c : ℕ) (s rows' : List ℕ) → Joined rows c s rows' → (taken : Bool) → taken ≡ true → JoinedIf rows c taken s rows'
 joined-if rows c s rows' p taken e = record { size = p.size; same = p.same ∙ ap (λ (b : Bool). cond b (unite (row rows c) s) (row rows c)) (sym e); other = p.other }
 
-pub joined-not : (rows : List ℕ) (c : ℕ) (s : List ℕ) → length rows ≡ rowsRoom → (taken : Bool) → taken ≡ false → JoinedIf rows c taken s rows
+pub joined-not : (rows : List ℕ) (c : ℕ) (s : List ℕ) → length rows ≡ rows_room → (taken : Bool) → taken ≡ false → JoinedIf rows c taken s rows
 joined-not rows c s l taken e = record { size = l; same = ap (λ (b : Bool). cond b (unite (row rows c) s) (row rows c)) (sym e); other = λ d n. refl }
 
 -- ---- one row read
@@ -148,8 +148,8 @@ joined-not rows c s l taken e = record { size = l; same = ap (λ (b : Bool). con
 abbrev pub Copied : List ℕ → ℕ → List ℕ → ℕ → Type 0
 Copied rows c words i = (i ≤ 16) × (length words ≡ 16) × ((j : ℕ) → j < i → get_or words j 0 ≡ get_or rows (16 * c + j) 0)
 
-pub copied_more : (rows : List ℕ) (c : ℕ) (words : List ℕ) (i x : ℕ) → Copied rows c words i → i < 16 → x ≡ 16 * c + i → Copied rows c (set words i (get_or rows x 0)) (i + 1)
-copied_more rows c words i x p h e = (omega arith, length-set words i (get_or rows x 0) ∙ p.1, λ j l. go j l (ℕ_discrete j i))
+pub copied-more : (rows : List ℕ) (c : ℕ) (words : List ℕ) (i x : ℕ) → Copied rows c words i → i < 16 → x ≡ 16 * c + i → Copied rows c (set words i (get_or rows x 0)) (i + 1)
+copied-more rows c words i x p h e = (omega arith, length-set words i (get_or rows x 0) ∙ p.1, λ j l. go j l (ℕ_discrete j i))
   where
     go : (j : ℕ) → j < i + 1 → Dec (j ≡ i) → get_or (set words i (get_or rows x 0)) j 0 ≡ get_or rows (16 * c + j) 0
     go j l (yes q) =
@@ -157,19 +157,19 @@ copied_more rows c words i x p h e = (omega arith, length-set words i (get_or ro
         ∙ ap (λ (k : ℕ). get_or rows k 0) (let u : x ≡ 16 * c + j = omega arith in u)
     go j l (no n) = get_or-set_other words i j (get_or rows x 0) 0 n ∙ p.2 j (omega arith)
 
-pub copied_all : (rows : List ℕ) (c : ℕ) (words : List ℕ) (i : ℕ) → Copied rows c words i → 16 ≤ i → length rows ≡ rowsRoom → c < 1024 → words ≡ row rows c
-copied_all rows c words i p h l b =
-    ext_get_or 0 words (row rows c) (p.1 ∙ sym (row-length rows c l b)) (λ j k. let n = p.1 in p.2 j (omega arith) ∙ sym (row_word rows c j (omega arith)))
+pub copied-all : (rows : List ℕ) (c : ℕ) (words : List ℕ) (i : ℕ) → Copied rows c words i → 16 ≤ i → length rows ≡ rows_room → c < 1024 → words ≡ row rows c
+copied-all rows c words i p h l b =
+    ext_get_or 0 words (row rows c) (p.1 ∙ sym (row-length rows c l b)) (λ j k. let n = p.1 in p.2 j (omega arith) ∙ sym (row-word rows c j (omega arith)))
 
 -- ---- all rows that have k, one by one: those below i are done
 
 pub record Passing (rows₀ : List ℕ) (k : ℕ) (rows : List ℕ) (i : ℕ) : Type 0 where
-  pub size : length rows ≡ rowsRoom
+  pub size : length rows ≡ rows_room
   pub done : (j : ℕ) → j < i → row rows j ≡ cond (member (row rows₀ j) k) (unite (row rows₀ j) (row rows₀ k)) (row rows₀ j)
   pub rest : (j : ℕ) → i ≤ j → row rows j ≡ row rows₀ j
 
 module _ (rows₀ : List ℕ) (k : ℕ) where
-  pub passing-start : length rows₀ ≡ rowsRoom → Passing rows₀ k rows₀ 0
+  pub passing-start : length rows₀ ≡ rows_room → Passing rows₀ k rows₀ 0
   passing-start l = record { size = l; done = λ j h. absurd (omega arith); rest = λ j h. refl }
 
   pub passing-more : (rows : List ℕ) (i : ℕ) → Passing rows₀ k rows i → (taken : Bool) → taken ≡ member (row rows i) k → (via rows' : List ℕ) → via ≡ row rows₀ k

@@ -5,9 +5,9 @@ use Rattle.std.proofs.lemmas.Bool.{false≢true}
 use Rattle.order.specs.Truth.{implied-both}
 use Rattle.sets.specs.Sets.{at, member, subtract, members, first}
 use Rattle.sets.specs.Bits.{tally-le, tally-eq, tally-bound}
-use Rattle.sets.specs.Laws.{at_lt, at-member, member-ext, member-subtract, length-subtract, at-subtract, members_only, members-all, count-tally, lowest-member, lowest-none}
-use Rattle.view.specs.View.{View, withParents, reach}
-use Rattle.view.specs.Grow.{Formed, member-le, withParents-formed, withParents-keeps, withParents-has, withParents-only}
+use Rattle.sets.specs.Laws.{at-lt, at-member, member-ext, member-subtract, length-subtract, at-subtract, members-only, members-all, count-tally, lowest-member, lowest-none}
+use Rattle.view.specs.View.{View, with_parents, reach}
+use Rattle.view.specs.Grow.{Formed, member-le, with_parents-formed, with_parents-keeps, with_parents-has, with_parents-only}
 use Rattle.view.specs.Reach.{Good, reach-refl, reach-below, reach-parent, reach-induction}
 use Rattle.view.specs.Frontier.{Expanded, member-lt}
 
@@ -83,12 +83,12 @@ module _ (v : View) (g : Good v) (s : List ℕ) (inside : (c : ℕ) → member s
       only = st.sound;
     }
 
-    module _ (next new : List ℕ) (e : next ≡ withParents v seen (members (at front) 0 1024)) (q : new ≡ subtract next seen) where
+    module _ (next new : List ℕ) (e : next ≡ with_parents v seen (members (at front) 0 1024)) (q : new ≡ subtract next seen) where
       formed-next : Formed next
-      formed-next = subst Formed (sym e) (withParents-formed v seen (members (at front) 0 1024) st.formed)
+      formed-next = subst Formed (sym e) (with_parents-formed v seen (members (at front) 0 1024) st.formed)
 
       keeps : (j : ℕ) → at seen j ≤ at next j
-      keeps j = subst (λ (w : List ℕ). at seen j ≤ at w j) (sym e) (withParents-keeps v seen (members (at front) 0 1024) j)
+      keeps j = subst (λ (w : List ℕ). at seen j ≤ at w j) (sym e) (with_parents-keeps v seen (members (at front) 0 1024) j)
 
       size-new : length new ≡ 16
       size-new = ap length q ∙ length-subtract next seen (formed-next.0 ∙ sym st.formed.0) ∙ formed-next.0
@@ -97,9 +97,9 @@ module _ (v : View) (g : Good v) (s : List ℕ) (inside : (c : ℕ) → member s
       sound-next y m =
           ⊎_elim (st.sound y)
           (λ w.
-          let u = st.sound w.0 (st.part w.0 (members_only front 1024 w.0 w.1)) in
+          let u = st.sound w.0 (st.part w.0 (members-only front 1024 w.0 w.1)) in
           (u.0, u.1, reach-parent v g u.0 (inside u.0 u.1) w.0 y u.2 w.2))
-          (withParents-only v seen (members (at front) 0 1024) y (subst (λ (w : List ℕ). member w y ≡ true) e m))
+          (with_parents-only v seen (members (at front) 0 1024) y (subst (λ (w : List ℕ). member w y ≡ true) e m))
 
       expanded-next : Expanded v next new
       expanded-next c p m n k h = go (member front c) refl
@@ -110,7 +110,7 @@ module _ (v : View) (g : Good v) (s : List ℕ) (inside : (c : ℕ) → member s
           go : (b : Bool) → member front c ≡ b → member next p ≡ true
           go true f =
               subst (λ (w : List ℕ). member w p ≡ true) (sym e)
-              (withParents-has v seen (members (at front) 0 1024) c p st.formed h (members-all front 1024 c (member-lt front c st.front-size f) f) k)
+              (with_parents-has v seen (members (at front) 0 1024) c p st.formed h (members-all front 1024 c (member-lt front c st.front-size f) f) k)
           go false f = member-le seen next p (keeps p) (st.expanded c p old f k h)
 
       pub spreading-next : Spreading v s next new
@@ -138,7 +138,7 @@ module _ (v : View) (g : Good v) (s : List ℕ) (inside : (c : ℕ) → member s
           omega arith))
           (λ l.
           let a = count-tally (subtract next new) 1024 in
-          let b = tally-bound (at (subtract next new)) 1024 (at_lt (subtract next new)) in
+          let b = tally-bound (at (subtract next new)) 1024 (at-lt (subtract next new)) in
           omega arith)
           (eq-or-lt_of_le
           (let a = count-tally (subtract seen front) 1024 in

@@ -3,9 +3,9 @@
 ghost use Rattle.std.specs.Prelude.{◌≡◌, true, ℕ, ◌≤◌, ◌<◌, length, replicate};
 ghost use Rattle.sets.specs.Sets.{MembersBelow, member};
 ghost use Rattle.view.specs.View.{reach};
-ghost use Rattle.tables.specs.Table.{namesRoom, view_of};
+ghost use Rattle.tables.specs.Table.{names_room, view_of};
 ghost use Rattle.ancestry.specs.Spread.{Spread};
-ghost use Rattle.ancestry.specs.Rows.{rowsRoom, row, Joined, JoinedIf, Through};
+ghost use Rattle.ancestry.specs.Rows.{rows_room, row, Joined, JoinedIf, Through};
 ghost use Rattle.ancestry.specs.Closure.{Rows, Bases};
 
 use hierarchy::{expand, with_parents};
@@ -17,7 +17,7 @@ pub const ROWS: usize = 16384;
 
 // What is reached from the classes of s, in one walk.
 pub fn spread(pairs: &[u64], marks: &[u64], t: Tables, s: Set) -> Set
-    requires { (t.names ≤ namesRoom) × (t.object < t.names) × MembersBelow t.names s.words }
+    requires { (t.names ≤ names_room) × (t.object < t.names) × MembersBelow t.names s.words }
     ensures { Spread (view_of pairs.now marks.now t) s.words result.words }
 {
     let mut seen = s;
@@ -34,7 +34,7 @@ pub fn spread(pairs: &[u64], marks: &[u64], t: Tables, s: Set) -> Set
 
 // Row c.
 pub fn row_of(rows: &[u64], c: u64) -> Set
-    requires { (length rows.now ≡ rowsRoom) × (c < namesRoom) }
+    requires { (length rows.now ≡ rows_room) × (c < names_room) }
     ensures { result.words ≡ row rows.now c }
 {
     let first = (16 * c) as usize;
@@ -47,7 +47,7 @@ pub fn row_of(rows: &[u64], c: u64) -> Set
 
 // Whether d is in row c.
 pub fn is_in(rows: &[u64], c: u64, d: u64) -> bool
-    requires { (length rows.now ≡ rowsRoom) × (c < namesRoom) × (d < namesRoom) }
+    requires { (length rows.now ≡ rows_room) × (c < names_room) × (d < names_room) }
     ensures { result ≡ member (row rows.now c) d }
 {
     let i = (16 * c + d / 64) as usize;
@@ -57,7 +57,7 @@ pub fn is_in(rows: &[u64], c: u64, d: u64) -> bool
 
 // Puts s into row c.
 fn join(rows: &mut [u64], c: u64, s: Set)
-    requires { (length rows.old ≡ rowsRoom) × (c < namesRoom) }
+    requires { (length rows.old ≡ rows_room) × (c < names_room) }
     ensures { Joined rows.old c s.words rows.new }
 {
     let first = (16 * c) as usize;
@@ -68,7 +68,7 @@ fn join(rows: &mut [u64], c: u64, s: Set)
 
 // The same where `taken`.
 fn join_if(rows: &mut [u64], c: u64, taken: bool, s: Set)
-    requires { (length rows.old ≡ rowsRoom) × (c < namesRoom) }
+    requires { (length rows.old ≡ rows_room) × (c < names_room) }
     ensures { JoinedIf rows.old c taken s.words rows.new }
 {
     if taken {
@@ -78,7 +78,7 @@ fn join_if(rows: &mut [u64], c: u64, taken: bool, s: Set)
 
 // Puts row k into each of the first `names` rows that has k.
 fn through(rows: &mut [u64], names: u64, k: u64)
-    requires { (length rows.old ≡ rowsRoom) × (names ≤ namesRoom) × (k < namesRoom) }
+    requires { (length rows.old ≡ rows_room) × (names ≤ names_room) × (k < names_room) }
     ensures { Through rows.old names k rows.new }
 {
     let via = row_of(rows, k);
@@ -92,7 +92,7 @@ fn through(rows: &mut [u64], names: u64, k: u64)
 
 // Into empty rows, for each class of s: itself and its parents.
 fn begin(pairs: &[u64], marks: &[u64], t: Tables, s: Set, rows: &mut [u64])
-    requires { (rows.old ≡ replicate rowsRoom 0) × ((c : ℕ) → member s.words c ≡ true → c < namesRoom) }
+    requires { (rows.old ≡ replicate rows_room 0) × ((c : ℕ) → member s.words c ≡ true → c < names_room) }
     ensures { Bases (view_of pairs.now marks.now t) s.words rows.new }
 {
     let none = Set::empty();
@@ -108,7 +108,7 @@ fn begin(pairs: &[u64], marks: &[u64], t: Tables, s: Set, rows: &mut [u64])
 
 // Into empty rows, for each class of a set that has all above its classes: what is reached from it.
 pub fn fill(pairs: &[u64], marks: &[u64], t: Tables, s: Set, rows: &mut [u64])
-    requires { (t.names ≤ namesRoom) × (t.object < t.names) × MembersBelow t.names s.words × ((d e : ℕ) → member s.words d ≡ true → reach (view_of pairs.now marks.now t) d e ≡ true → member s.words e ≡ true) × (rows.old ≡ replicate rowsRoom 0) }
+    requires { (t.names ≤ names_room) × (t.object < t.names) × MembersBelow t.names s.words × ((d e : ℕ) → member s.words d ≡ true → reach (view_of pairs.now marks.now t) d e ≡ true → member s.words e ≡ true) × (rows.old ≡ replicate rows_room 0) }
     ensures { Rows (view_of pairs.now marks.now t) s.words rows.new }
 {
     begin(pairs, marks, t, s, rows);

@@ -19,6 +19,6 @@ pub answer-one : (κs : Lfts 4) (a : Dens κs answer-kinds.ps) (r₁ r₂ : (res
     → answer.Post κs a r₁ x₁ → answer.Post κs a r₂ x₂ → r₁ ≡ r₂
 answer-one κs a r₁ r₂ x₁ x₂ p q = p ∙ sym q
 
-pub answers_one : (κs : Lfts 6) (a : Dens κs answers-kinds.ps) (r₁ r₂ : (res_t answers-kinds.r κs).Denot) (x₁ x₂ : AtExit (ended_of 6 answers-kinds.ps answers-kinds.r) κs)
+pub answers-one : (κs : Lfts 6) (a : Dens κs answers-kinds.ps) (r₁ r₂ : (res_t answers-kinds.r κs).Denot) (x₁ x₂ : AtExit (ended_of 6 answers-kinds.ps answers-kinds.r) κs)
     → answers.Post κs a r₁ x₁ → answers.Post κs a r₂ x₂ → x₁.1.1.1.1.1.1.0.now ≡ x₂.1.1.1.1.1.1.0.now
-answers_one κs a r₁ r₂ x₁ x₂ p q = p ∙ sym q
+answers-one κs a r₁ r₂ x₁ x₂ p q = p ∙ sym q

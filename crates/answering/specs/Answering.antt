@@ -8,23 +8,23 @@ use Rattle.ty.specs.Words.{word_of}
 use Rattle.tables.specs.declared.Tables.{Tables}
 use Rattle.lattice.specs.Lattice.{World}
 use Rattle.joins.specs.Joins.{AllLegal}
-use Rattle.solving.specs.Solving.{Domain, Fallback, Upper, Lower, Exact, Table, TypeState, state_of, resolveState, answers}
+use Rattle.solving.specs.Solving.{Domain, Fallback, Upper, Lower, Exact, Table, TypeState, state_of, resolve_state, answers}
 use Rattle.solving.specs.Tidy.{Tidy}
-use Rattle.solving.specs.TableKeys.{boundOf, keys_of}
-use Rattle.copying.specs.Copies.{runIn, words_in}
-use Rattle.resolving.specs.Bounds.{Bounds, stateIn}
+use Rattle.solving.specs.TableKeys.{bound_of, keys_of}
+use Rattle.copying.specs.Copies.{run_in, words_in}
+use Rattle.resolving.specs.Bounds.{Bounds, state_in}
 use Rattle.answering.specs.declared.Parts.{Parts}
 
 -- ---- a component's bounds
 
 -- the words of one kind
-abbrev pub kindWords : ℕ → ℕ → List ℕ → List ℕ
-kindWords c k keys = words_in (runIn c k keys)
+abbrev pub kind_words : ℕ → ℕ → List ℕ → List ℕ
+kind_words c k keys = words_in (run_in c k keys)
 
 -- of all kinds, one after the other
-abbrev pub stateWords : ℕ → List ℕ → List ℕ
-stateWords c keys =
-    kindWords c Domain keys ++ (kindWords c Fallback keys ++ (kindWords c Upper keys ++ (kindWords c Lower keys ++ kindWords c Exact keys)))
+abbrev pub state_words : ℕ → List ℕ → List ℕ
+state_words c keys =
+    kind_words c Domain keys ++ (kind_words c Fallback keys ++ (kind_words c Upper keys ++ (kind_words c Lower keys ++ kind_words c Exact keys)))
 
 -- the ends of five lists in a row
 abbrev pub ends : ℕ → ℕ → ℕ → ℕ → ℕ → Parts
@@ -32,7 +32,7 @@ ends d f u l e = record { domain = d; fallback = d + f; upper = d + f + u; lower
 
 abbrev pub parts_of : ℕ → List ℕ → Parts
 parts_of c keys =
-    ends (length (runIn c Domain keys)) (length (runIn c Fallback keys)) (length (runIn c Upper keys)) (length (runIn c Lower keys)) (length (runIn c Exact keys))
+    ends (length (run_in c Domain keys)) (length (run_in c Fallback keys)) (length (run_in c Upper keys)) (length (run_in c Lower keys)) (length (run_in c Exact keys))
 
 -- ---- parts of a slice
 
@@ -52,20 +52,20 @@ pub record PartsLegal (t : Tables) (p : Parts) (l : List ℕ) : Type 0 where
   pub fallback : Bounds t (part p.domain p.fallback l)
 
 -- the state that they stand for
-abbrev pub partsState : Parts → List ℕ → TypeState
-partsState p l =
-    stateIn (part p.lower p.exact l) (part p.upper p.lower l) (part p.fallback p.upper l) (part 0 p.domain l) (part p.domain p.fallback l)
+abbrev pub parts_state : Parts → List ℕ → TypeState
+parts_state p l =
+    state_in (part p.lower p.exact l) (part p.upper p.lower l) (part p.fallback p.upper l) (part 0 p.domain l) (part p.domain p.fallback l)
 
 -- ---- the final table
 
 -- the table whose keys these are
-abbrev pub tableIn : List ℕ → Table
-tableIn keys = map boundOf keys
+abbrev pub table_in : List ℕ → Table
+table_in keys = map bound_of keys
 
 -- KEYS OF A TIDY TABLE
 pub record Final (names : ℕ) (keys : List ℕ) : Type 0 where
-  pub tidy : Tidy names 512 (tableIn keys) []
-  pub keyed : keys_of (tableIn keys) ≡ keys
+  pub tidy : Tidy names 512 (table_in keys) []
+  pub keyed : keys_of (table_in keys) ≡ keys
 
 -- ---- answers as numbers, all ones where there is none
 
@@ -73,18 +73,18 @@ abbrev pub number_in : MaybeType → ℕ
 number_in (Is t) = t.word
 number_in Nothing = 2 ^ 64 - 1
 
-abbrev pub answerWord : Option ArgType → ℕ
-answerWord none = 2 ^ 64 - 1
-answerWord (some t) = word_of t
+abbrev pub answer_word : Option ArgType → ℕ
+answer_word none = 2 ^ 64 - 1
+answer_word (some t) = word_of t
 
-abbrev pub answerWords : World → Table → List ℕ → List ℕ
-answerWords w table variables = map answerWord (answers w table variables)
+abbrev pub answer_words : World → Table → List ℕ → List ℕ
+answer_words w table variables = map answer_word (answers w table variables)
 
 -- ---- one component
 
 -- its answer
 abbrev pub answer_of : World → Table → ℕ → ℕ
-answer_of w table c = answerWord (resolveState w (state_of table c))
+answer_of w table c = answer_word (resolve_state w (state_of table c))
 
 -- an answer that stands before the place p in the slice, where p is not 0
 abbrev pub Stands : World → Table → List ℕ → ℕ → ℕ → Type 0

@@ -4,12 +4,12 @@ use Rattle.std.proofs.Common.{sym, ap, ◌∙◌, subst, arith}
 use Rattle.std.proofs.Math.Seq.{paste, take-length}
 use Rattle.sorted.specs.declared.Span.{Span}
 use Rattle.sorted.specs.Sorted.{Sorted, run_of}
-use Rattle.sorted.specs.Parts.{part-sorted, part_length}
+use Rattle.sorted.specs.Parts.{part-sorted, part-length}
 use Rattle.solving.specs.Solving.{Domain, Fallback, Upper, Lower, Exact}
-use Rattle.copying.specs.Copies.{runIn, words_in}
-use Rattle.copying.specs.Own.{ownIn, own-within, own_is, own-run}
+use Rattle.copying.specs.Copies.{run_in, words_in}
+use Rattle.copying.specs.Own.{own_in, own-within, own-is, own-run}
 use Rattle.answering.specs.declared.Parts.{Parts}
-use Rattle.answering.specs.Answering.{part, ends, stateWords, parts_of}
+use Rattle.answering.specs.Answering.{part, ends, state_words, parts_of}
 
 module _ (c : ℕ) (keys : List ℕ) (o : Sorted keys) (r : Span) (e : r ≡ run_of (2 ^ 55) c (take (length keys) keys)) where
   front : Sorted (take (length keys) keys)
@@ -21,19 +21,19 @@ module _ (c : ℕ) (keys : List ℕ) (o : Sorted keys) (r : Span) (e : r ≡ run
   pub cut-within : (r.first ≤ r.past) × (r.past ≤ length keys)
   cut-within = own-within c (length keys) keys front (omega arith) r e
 
-  pub cut_sorted : Sorted own
-  cut_sorted = part-sorted r.first r.past keys o
+  pub cut-sorted : Sorted own
+  cut-sorted = part-sorted r.first r.past keys o
 
-  pub cut_short : length own ≤ length keys
-  cut_short = let w = cut-within.1 in let l = part_length r.first r.past keys w in omega arith
+  pub cut-short : length own ≤ length keys
+  cut-short = let w = cut-within.1 in let l = part-length r.first r.past keys w in omega arith
 
-  run-own : (k : ℕ) → k < 8 → runIn c k own ≡ runIn c k keys
+  run-own : (k : ℕ) → k < 8 → run_in c k own ≡ run_in c k keys
   run-own k small =
-      ap (runIn c k) (own_is c (length keys) keys front (omega arith) r e ∙ ap (ownIn c) (take-length keys)) ∙ own-run c keys o k small
+      ap (run_in c k) (own-is c (length keys) keys front (omega arith) r e ∙ ap (own_in c) (take-length keys)) ∙ own-run c keys o k small
 
   -- THE ENDS ARE THE SAME
-  pub cut_parts : (p : Parts) → p ≡ parts_of c own → p ≡ parts_of c keys
-  cut_parts p f =
+  pub cut-parts : (p : Parts) → p ≡ parts_of c own → p ≡ parts_of c keys
+  cut-parts p f =
       let d = run-own Domain (omega arith) in
       let b = run-own Fallback (omega arith) in
       let u = run-own Upper (omega arith) in
@@ -41,7 +41,7 @@ module _ (c : ℕ) (keys : List ℕ) (o : Sorted keys) (r : Span) (e : r ≡ run
       let x = run-own Exact (omega arith) in
       f ∙ (λ i. ends (length (d i)) (length (b i)) (length (u i)) (length (l i)) (length (x i)))
 
-  words-own : stateWords c own ≡ stateWords c keys
+  words-own : state_words c own ≡ state_words c keys
   words-own =
       let d = run-own Domain (omega arith) in
       let b = run-own Fallback (omega arith) in
@@ -51,5 +51,5 @@ module _ (c : ℕ) (keys : List ℕ) (o : Sorted keys) (r : Span) (e : r ≡ run
       λ i. words_in (d i) ++ (words_in (b i) ++ (words_in (u i) ++ (words_in (l i) ++ words_in (x i))))
 
   -- AND SO ARE THE WORDS
-  pub cut-words : (d₀ d : List ℕ) → d ≡ paste d₀ 0 (stateWords c own) (length (stateWords c own)) → d ≡ paste d₀ 0 (stateWords c keys) (length (stateWords c keys))
+  pub cut-words : (d₀ d : List ℕ) → d ≡ paste d₀ 0 (state_words c own) (length (state_words c own)) → d ≡ paste d₀ 0 (state_words c keys) (length (state_words c keys))
   cut-words d₀ d f = f ∙ ap (λ (ws : List ℕ). paste d₀ 0 ws (length ws)) words-own

@@ -9,35 +9,35 @@ use Rattle.std.proofs.lemmas.List.{length-map}
 use Rattle.std.proofs.Math.Seq.{paste, take-append_seam}
 use Rattle.sorted.specs.Sorted.{Sorted}
 use Rattle.ty.specs.Types.{ArgType}
-use Rattle.ty.specs.Answers.{maybeWord}
+use Rattle.ty.specs.Answers.{maybe_word}
 use Rattle.tables.specs.declared.Tables.{Tables}
 use Rattle.lattice.specs.Lattice.{World}
 use Rattle.joins.specs.Joins.{Fits, AllLegal}
 use Rattle.solving.specs.Solving.{Domain, Fallback, Upper, Lower, Exact, Table, state_of, answers}
 use Rattle.solving.specs.Tidy.{Tidy}
 use Rattle.solving.specs.TableKeys.{keys_of, keys-sorted, tidy-keyed, table-back}
-use Rattle.copying.specs.Copies.{runIn, words_in, word_in}
-use Rattle.copying.specs.Steps.{paste-front, paste_more}
-use Rattle.resolving.specs.Bounds.{Bounds, stateIn}
+use Rattle.copying.specs.Copies.{run_in, words_in, word_in}
+use Rattle.copying.specs.Steps.{paste-front, paste-more}
+use Rattle.resolving.specs.Bounds.{Bounds, state_in}
 use Rattle.resolvinglaws.specs.FromTable.{copy-bounds, copy-state}
 use Rattle.resolvinglaws.specs.Parts.{five-short, part-is}
 use Rattle.answering.specs.declared.Parts.{Parts}
-use Rattle.answering.specs.Answering.{kindWords, stateWords, parts_of, part, InOrder, PartsLegal, partsState, tableIn, Final, number_in, answerWord, answerWords, answer_of}
+use Rattle.answering.specs.Answering.{kind_words, state_words, parts_of, part, InOrder, PartsLegal, parts_state, table_in, Final, number_in, answer_word, answer_words, answer_of}
 
 -- ---- the parts of the copy
 
-module _ (c : ℕ) (keys d₀ d : List ℕ) (f : d ≡ paste d₀ 0 (stateWords c keys) (length (stateWords c keys))) where
+module _ (c : ℕ) (keys d₀ d : List ℕ) (f : d ≡ paste d₀ 0 (state_words c keys) (length (state_words c keys))) where
   abbrev w : ℕ → List ℕ
-  w k = kindWords c k keys
+  w k = kind_words c k keys
 
   abbrev p : Parts
   p = parts_of c keys
 
   abbrev all : List ℕ
-  all = stateWords c keys
+  all = state_words c keys
 
-  long : (k : ℕ) → length (w k) ≡ length (runIn c k keys)
-  long k = length-map (runIn c k keys) word_in
+  long : (k : ℕ) → length (w k) ≡ length (run_in c k keys)
+  long k = length-map (run_in c k keys) word_in
 
   front : take (length all) d ≡ all
   front = ap (take (length all)) (f ∙ paste-front d₀ all) ∙ take-append_seam all (drop (length all) d₀)
@@ -77,8 +77,8 @@ module _ (c : ℕ) (keys d₀ d : List ℕ) (f : d ≡ paste d₀ 0 (stateWords 
   exact-part : part p.lower p.exact d ≡ w 4
   exact-part = part-is d (length all) (((w 0 ++ w 1) ++ w 2) ++ w 3) (w 4) [] p.lower p.exact from-four (sym four) (omega (arith, four, long 4))
 
-  copied-state : partsState p d ≡ stateIn (w Exact) (w Lower) (w Upper) (w Domain) (w Fallback)
-  copied-state = λ i. stateIn (exact-part i) (lower-part i) (upper-part i) (domain-part i) (fallback-part i)
+  copied-state : parts_state p d ≡ state_in (w Exact) (w Lower) (w Upper) (w Domain) (w Fallback)
+  copied-state = λ i. state_in (exact-part i) (lower-part i) (upper-part i) (domain-part i) (fallback-part i)
 
   copied-order : Sorted keys → length keys ≤ length d → InOrder p d
   copied-order o h = (omega arith, omega arith, omega arith, omega arith, omega (arith, h, five-short c keys o))
@@ -87,18 +87,18 @@ module _ (c : ℕ) (keys d₀ d : List ℕ) (f : d ≡ paste d₀ 0 (stateWords 
 
 module _ (t : Tables) (fits : Fits t) (keys : List ℕ) (y : Final t.names keys) where
   pub final-sorted : Sorted keys
-  final-sorted = subst Sorted y.keyed (keys-sorted (tableIn keys) (tidy-keyed t.names 512 (tableIn keys) [] fits.0 y.tidy) y.tidy.ascends)
+  final-sorted = subst Sorted y.keyed (keys-sorted (table_in keys) (tidy-keyed t.names 512 (table_in keys) [] fits.0 y.tidy) y.tidy.ascends)
 
   module _ (c : ℕ) where
-    kind-bounds : (k : ℕ) → k < 8 → Bounds t (kindWords c k keys)
-    kind-bounds k small = subst (λ (l : List ℕ). Bounds t (words_in (runIn c k l))) y.keyed (copy-bounds t fits 512 (tableIn keys) [] y.tidy c k small)
+    kind-bounds : (k : ℕ) → k < 8 → Bounds t (kind_words c k keys)
+    kind-bounds k small = subst (λ (l : List ℕ). Bounds t (words_in (run_in c k l))) y.keyed (copy-bounds t fits 512 (table_in keys) [] y.tidy c k small)
 
-    kind-state : stateIn (kindWords c Exact keys) (kindWords c Lower keys) (kindWords c Upper keys) (kindWords c Domain keys) (kindWords c Fallback keys) ≡ state_of (tableIn keys) c
+    kind-state : state_in (kind_words c Exact keys) (kind_words c Lower keys) (kind_words c Upper keys) (kind_words c Domain keys) (kind_words c Fallback keys) ≡ state_of (table_in keys) c
     kind-state =
-        ap (λ (l : List ℕ). stateIn (kindWords c Exact l) (kindWords c Lower l) (kindWords c Upper l) (kindWords c Domain l) (kindWords c Fallback l)) (sym y.keyed)
-        ∙ copy-state t fits 512 (tableIn keys) [] y.tidy c
+        ap (λ (l : List ℕ). state_in (kind_words c Exact l) (kind_words c Lower l) (kind_words c Upper l) (kind_words c Domain l) (kind_words c Fallback l)) (sym y.keyed)
+        ∙ copy-state t fits 512 (table_in keys) [] y.tidy c
 
-    module _ (d₀ d : List ℕ) (f : d ≡ paste d₀ 0 (stateWords c keys) (length (stateWords c keys))) (p : Parts) (e : p ≡ parts_of c keys) where
+    module _ (d₀ d : List ℕ) (f : d ≡ paste d₀ 0 (state_words c keys) (length (state_words c keys))) (p : Parts) (e : p ≡ parts_of c keys) where
       pub parts-order : length keys ≤ length d → InOrder p d
       parts-order h = subst (λ (q : Parts). InOrder q d) (sym e) (copied-order c keys d₀ d f final-sorted h)
 
@@ -113,33 +113,33 @@ module _ (t : Tables) (fits : Fits t) (keys : List ℕ) (y : Final t.names keys)
       })
 
       -- AND STAND FOR THE STATE
-      pub parts-state : partsState p d ≡ state_of (tableIn keys) c
-      parts-state = ap (λ (q : Parts). partsState q d) e ∙ copied-state c keys d₀ d f ∙ kind-state
+      pub parts-state : parts_state p d ≡ state_of (table_in keys) c
+      parts-state = ap (λ (q : Parts). parts_state q d) e ∙ copied-state c keys d₀ d f ∙ kind-state
 
 -- ---- answers as numbers
 
-pub number_word : (o : Option ArgType) → number_in (maybeWord o) ≡ answerWord o
-number_word none = refl
-number_word (some t) = refl
+pub number-word : (o : Option ArgType) → number_in (maybe_word o) ≡ answer_word o
+number-word none = refl
+number-word (some t) = refl
 
 module _ (v : World) (table : Table) where
-  pub answers-map : (variables : List ℕ) → answerWords v table variables ≡ map (answer_of v table) variables
+  pub answers-map : (variables : List ℕ) → answer_words v table variables ≡ map (answer_of v table) variables
   unfolding answers
   answers-map [] = refl
   answers-map (c ∷ cs) = ap (λ (l : List ℕ). answer_of v table c ∷ l) (answers-map cs)
 
   -- one answer more
   pub answer-more : (variables d : List ℕ) (i x : ℕ) → x ≡ answer_of v table (get_or variables i 0) → i < length variables → length variables ≤ length d
-      → set (paste d 0 (answerWords v table variables) i) i x ≡ paste d 0 (answerWords v table variables) (i + 1)
+      → set (paste d 0 (answer_words v table variables) i) i x ≡ paste d 0 (answer_words v table variables) (i + 1)
   answer-more variables d i x e h l =
       ap₂ (λ (ws : List ℕ) (k : ℕ). set (paste d 0 ws i) k x) (answers-map variables) (sym (zero-add i))
-      ∙ paste_more (answer_of v table) d 0 variables i x e h (omega arith)
+      ∙ paste-more (answer_of v table) d 0 variables i x e h (omega arith)
       ∙ ap (λ (ws : List ℕ). paste d 0 ws (i + 1)) (sym (answers-map variables))
 
 -- ---- EVERY TIDY TABLE'S KEYS ARE SUCH, and the table comes back from them
 
 module _ (names n : ℕ) (t : Table) (q : List ℕ) (few : names ≤ 1024) (small : n ≤ 512) (y : Tidy names n t q) where
-  pub final-back : tableIn (keys_of t) ≡ t
+  pub final-back : table_in (keys_of t) ≡ t
   final-back = table-back t (tidy-keyed names n t q few y)
 
   pub tidy-final : Final names (keys_of t)
@@ -159,5 +159,5 @@ module _ (names n : ℕ) (t : Table) (q : List ℕ) (few : names ≤ 1024) (smal
     pub keys-final : Final names keys
     keys-final = subst (Final names) (sym e) tidy-final
 
-    pub keys-answers : (v : World) (variables : List ℕ) → answerWords v (tableIn keys) variables ≡ answerWords v t variables
-    keys-answers v variables = ap (λ (u : Table). answerWords v u variables) (ap tableIn e ∙ final-back)
+    pub keys-answers : (v : World) (variables : List ℕ) → answer_words v (table_in keys) variables ≡ answer_words v t variables
+    keys-answers v variables = ap (λ (u : Table). answer_words v u variables) (ap table_in e ∙ final-back)

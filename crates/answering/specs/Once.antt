@@ -8,7 +8,7 @@ use Rattle.std.proofs.Math.Seq.{paste}
 use Rattle.std.proofs.lemmas.List.Edits.{length-paste, take-paste}
 use Rattle.lattice.specs.Lattice.{World}
 use Rattle.solving.specs.Solving.{Table}
-use Rattle.answering.specs.Answering.{answerWords, answer_of, Stands}
+use Rattle.answering.specs.Answering.{answer_words, answer_of, Stands}
 use Rattle.answering.specs.FromFinal.{answers-map}
 
 pub record Places (variables places : List ℕ) (i : ℕ) : Type 0 where
@@ -20,10 +20,10 @@ all-zero zero c = refl
 all-zero (suc n) zero = refl
 all-zero (suc n) (suc c) = all-zero n c
 
-map_at : (f : ℕ → ℕ) (l : List ℕ) (j : ℕ) → j < length l → get_or (map f l) j 0 ≡ f (get_or l j 0)
-map_at f [] j h = absurd (omega arith)
-map_at f (x ∷ l) zero h = refl
-map_at f (x ∷ l) (suc j) h = map_at f l j (omega arith)
+map-at : (f : ℕ → ℕ) (l : List ℕ) (j : ℕ) → j < length l → get_or (map f l) j 0 ≡ f (get_or l j 0)
+map-at f [] j h = absurd (omega arith)
+map-at f (x ∷ l) zero h = refl
+map-at f (x ∷ l) (suc j) h = map-at f l j (omega arith)
 
 less : (p i : ℕ) → (p ≡ 0 → ⊥) → p ≤ i → p - 1 < i
 less zero i h k = absurd (h refl)
@@ -54,9 +54,9 @@ module _ (variables places : List ℕ) (i c : ℕ) (y : Places variables places 
 
 -- WHAT IS TOLD OF A COMPONENT IS ITS ANSWER
 module _ (v : World) (table : Table) (variables places d into : List ℕ) (i : ℕ) (y : Places variables places i) (h : i ≤ length variables) (l : length variables ≤ length d)
-    (f : into ≡ paste d 0 (answerWords v table variables) i) where
+    (f : into ≡ paste d 0 (answer_words v table variables) i) where
   abbrev words : List ℕ
-  words = answerWords v table variables
+  words = answer_words v table variables
 
   long : length words ≡ length variables
   long = ap length (answers-map v table variables) ∙ length-map variables (answer_of v table)
@@ -66,7 +66,7 @@ module _ (v : World) (table : Table) (variables places d into : List ℕ) (i : �
       let n = long in
       sym (get_or-take (0 + i) into j 0 (omega arith))
       ∙ ap (λ (x : List ℕ). get_or x j 0) (ap (take (0 + i)) f ∙ take-paste d 0 words i (omega arith) (omega arith))
-      ∙ get_or-take i words j 0 k ∙ ap (λ (x : List ℕ). get_or x j 0) (answers-map v table variables) ∙ map_at (answer_of v table) variables j (omega arith)
+      ∙ get_or-take i words j 0 k ∙ ap (λ (x : List ℕ). get_or x j 0) (answers-map v table variables) ∙ map-at (answer_of v table) variables j (omega arith)
 
   pub stands : (c : ℕ) → Stands v table into c (get_or places c 0)
   stands c p =

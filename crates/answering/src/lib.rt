@@ -3,12 +3,12 @@
 ghost use Rattle.std.specs.Prelude.{◌≡◌, ◌≤◌, ◌<◌, length, replicate};
 ghost use Rattle.std.proofs.Math.Seq.{paste};
 ghost use Rattle.sorted.specs.Sorted.{Sorted};
-ghost use Rattle.ty.specs.Answers.{maybeWord};
-ghost use Rattle.lattice.specs.World.{worldOf};
+ghost use Rattle.ty.specs.Answers.{maybe_word};
+ghost use Rattle.lattice.specs.World.{world_of};
 ghost use Rattle.solving.specs.Queue.{Below};
-ghost use Rattle.solving.specs.Solving.{state_of, resolveState};
+ghost use Rattle.solving.specs.Solving.{state_of, resolve_state};
 ghost use Rattle.resolving.specs.Bounds.{Classed};
-ghost use Rattle.answering.specs.Answering.{parts_of, stateWords, InOrder, PartsLegal, partsState, tableIn, Final, number_in, answerWords, answer_of, Stands};
+ghost use Rattle.answering.specs.Answering.{parts_of, state_words, InOrder, PartsLegal, parts_state, table_in, Final, number_in, answer_words, answer_of, Stands};
 
 use copying::copy_words;
 use keys::COMPONENT;
@@ -29,7 +29,7 @@ pub struct Parts {
 // A component's bounds as words, kind by kind from the front on.
 pub fn copy_state(keys: &[u64], component: u64, out: &mut [u64]) -> Parts
     requires { Sorted keys.now × (component < 512) × (length keys.now ≤ length out.old) }
-    ensures { (result ≡ parts_of component keys.now) × (out.new ≡ paste out.old 0 (stateWords component keys.now) (length (stateWords component keys.now))) }
+    ensures { (result ≡ parts_of component keys.now) × (out.new ≡ paste out.old 0 (state_words component keys.now) (length (state_words component keys.now))) }
 {
     let domain = copy_words(keys, component, 0, out, 0);
     let fallback = copy_words(keys, component, 1, out, domain);
@@ -48,7 +48,7 @@ pub fn copy_state(keys: &[u64], component: u64, out: &mut [u64]) -> Parts
 // The answer from the words of each kind.
 fn answer_from(pairs: &[u64], marks: &[u64], t: Tables, out: &[u64], p: Parts) -> MaybeType
     requires { Classed pairs.now marks.now t × InOrder p out.now × PartsLegal t p out.now }
-    ensures { result ≡ maybeWord (resolveState (worldOf pairs.now marks.now t) (partsState p out.now)) }
+    ensures { result ≡ maybe_word (resolve_state (world_of pairs.now marks.now t) (parts_state p out.now)) }
 {
     let domain = p.domain;
     let fallback = p.fallback;
@@ -77,7 +77,7 @@ pub fn answer(
     out: &mut [u64],
 ) -> MaybeType
     requires { Classed pairs.now marks.now t × Final t.names keys.now × (component < 512) × (length keys.now ≤ length out.old) }
-    ensures { result ≡ maybeWord (resolveState (worldOf pairs.now marks.now t) (state_of (tableIn keys.now) component)) }
+    ensures { result ≡ maybe_word (resolve_state (world_of pairs.now marks.now t) (state_of (table_in keys.now) component)) }
 {
     let of = sorted::run(keys, keys.len(), COMPONENT, component);
     let first = of.first;
@@ -107,8 +107,8 @@ fn word_of(
     into: &[u64],
     seen: u64,
 ) -> u64
-    requires { Classed pairs.now marks.now t × Final t.names keys.now × (component < 512) × (length keys.now ≤ length out.old) × Stands (worldOf pairs.now marks.now t) (tableIn keys.now) into.now component seen }
-    ensures { result ≡ answer_of (worldOf pairs.now marks.now t) (tableIn keys.now) component }
+    requires { Classed pairs.now marks.now t × Final t.names keys.now × (component < 512) × (length keys.now ≤ length out.old) × Stands (world_of pairs.now marks.now t) (table_in keys.now) into.now component seen }
+    ensures { result ≡ answer_of (world_of pairs.now marks.now t) (table_in keys.now) component }
 {
     if seen != 0 {
         return into[(seen - 1) as usize];
@@ -129,7 +129,7 @@ fn answers_once(
     places: &mut [u64],
 )
     requires { Classed pairs.now marks.now t × Final t.names keys.now × Below 512 variables.now × (length keys.now ≤ length out.old) × (length variables.now ≤ length into.old) × (places.old ≡ replicate 512 0) }
-    ensures { into.new ≡ paste into.old 0 (answerWords (worldOf pairs.now marks.now t) (tableIn keys.now) variables.now) (length variables.now) }
+    ensures { into.new ≡ paste into.old 0 (answer_words (world_of pairs.now marks.now t) (table_in keys.now) variables.now) (length variables.now) }
 {
     let mut i: usize = 0;
     while i < variables.len() {
@@ -154,7 +154,7 @@ pub fn answers(
     into: &mut [u64],
 )
     requires { Classed pairs.now marks.now t × Final t.names keys.now × Below 512 variables.now × (length keys.now ≤ length out.old) × (length variables.now ≤ length into.old) }
-    ensures { into.new ≡ paste into.old 0 (answerWords (worldOf pairs.now marks.now t) (tableIn keys.now) variables.now) (length variables.now) }
+    ensures { into.new ≡ paste into.old 0 (answer_words (world_of pairs.now marks.now t) (table_in keys.now) variables.now) (length variables.now) }
 {
     let mut places = [0u64; 512];
     answers_once(pairs, marks, t, keys, variables, out, into, &mut places);

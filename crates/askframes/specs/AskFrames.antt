@@ -6,22 +6,22 @@ use Rattle.std.proofs.Common.{ap, ◌∙◌, arith}
 use Rattle.std.proofs.Math.Bool.{true, false, cond}
 use Rattle.std.proofs.Math.Dec.{eqb, ltb}
 use borrow.Author.Tests.{eq-eqb, ne_eqb, lt-ltb, le-ltb, ltb-true, eqb-false}
-use Rattle.checks.specs.Checks.{firstRefusal}
+use Rattle.checks.specs.Checks.{first_refusal}
 use Rattle.tables.specs.declared.Tables.{Tables}
 use Rattle.rows.specs.Rows.{all_below}
-use Rattle.frames.specs.Frames.{askChecks}
+use Rattle.frames.specs.Frames.{ask_checks}
 use Rattle.framestate.specs.declared.Numbers.{Numbers}
 use Rattle.framestate.specs.declared.Framed.{Framed}
 use Rattle.framestate.specs.declared.Said.{Said}
 use Rattle.framestate.specs.declared.Said.TheVariants.{Refused}
-use Rattle.framestate.specs.FrameState.{framed, askNumbers}
+use Rattle.framestate.specs.FrameState.{framed, ask_numbers}
 
-abbrev pub askRefusal : Tables → ℕ → ℕ → ℕ
-askRefusal t a b = firstRefusal (askChecks t (a ∷ b ∷ []))
+abbrev pub ask_refusal : Tables → ℕ → ℕ → ℕ
+ask_refusal t a b = first_refusal (ask_checks t (a ∷ b ∷ []))
 
 -- what is said, or the refusal and the numbers as they were
 abbrev pub asked : ℕ → Said → Numbers → Framed
-asked refusal said n = cond (eqb refusal 0) (framed said (askNumbers n)) (framed (Refused refusal) n)
+asked refusal said n = cond (eqb refusal 0) (framed said (ask_numbers n)) (framed (Refused refusal) n)
 
 -- ---- laws
 
@@ -30,28 +30,28 @@ chain : Bool → Bool → Bool → ℕ
 chain x y z = cond (not (x && (y && true))) 6 (cond z 9 0)
 
 module _ (t : Tables) (a b : ℕ) where
-  chain-is : (x y z : Bool) → ltb a t.names ≡ x → ltb b t.names ≡ y → eqb t.object (2 ^ 64 - 1) ≡ z → askRefusal t a b ≡ chain x y z
-  unfolding askChecks firstRefusal all_below chain
+  chain-is : (x y z : Bool) → ltb a t.names ≡ x → ltb b t.names ≡ y → eqb t.object (2 ^ 64 - 1) ≡ z → ask_refusal t a b ≡ chain x y z
+  unfolding ask_checks first_refusal all_below chain
   chain-is x y z e f g = λ i. cond (not (e i && (f i && true))) 6 (cond (g i) 9 0)
 
-  pub ask-first : t.names ≤ a → 6 ≡ askRefusal t a b
+  pub ask-first : t.names ≤ a → 6 ≡ ask_refusal t a b
   unfolding chain
   ask-first h = sym (chain-is false (ltb b t.names) (eqb t.object (2 ^ 64 - 1)) (le-ltb a t.names h) refl refl)
 
-  pub ask-second : a < t.names → t.names ≤ b → 6 ≡ askRefusal t a b
+  pub ask-second : a < t.names → t.names ≤ b → 6 ≡ ask_refusal t a b
   unfolding chain
   ask-second h k = sym (chain-is true false (eqb t.object (2 ^ 64 - 1)) (lt-ltb a t.names h) (le-ltb b t.names k) refl)
 
-  pub ask-object : a < t.names → b < t.names → t.object ≡ 2 ^ 64 - 1 → 9 ≡ askRefusal t a b
+  pub ask-object : a < t.names → b < t.names → t.object ≡ 2 ^ 64 - 1 → 9 ≡ ask_refusal t a b
   unfolding chain
   ask-object h k o = sym (chain-is true true true (lt-ltb a t.names h) (lt-ltb b t.names k) (eq-eqb t.object (2 ^ 64 - 1) o))
 
-  pub ask-none : a < t.names → b < t.names → (t.object ≡ 2 ^ 64 - 1 → ⊥) → 0 ≡ askRefusal t a b
+  pub ask-none : a < t.names → b < t.names → (t.object ≡ 2 ^ 64 - 1 → ⊥) → 0 ≡ ask_refusal t a b
   unfolding chain
   ask-none h k o = sym (chain-is true true false (lt-ltb a t.names h) (lt-ltb b t.names k) (ne_eqb t.object (2 ^ 64 - 1) o))
 
   -- what no check refused says
-  pub ask-passed : askRefusal t a b ≡ 0 → (a < t.names) × (b < t.names) × (t.object ≡ 2 ^ 64 - 1 → ⊥)
+  pub ask-passed : ask_refusal t a b ≡ 0 → (a < t.names) × (b < t.names) × (t.object ≡ 2 ^ 64 - 1 → ⊥)
   unfolding chain
   ask-passed h = go (ltb a t.names) refl (ltb b t.names) refl (eqb t.object (2 ^ 64 - 1)) refl
     where
@@ -63,11 +63,11 @@ module _ (t : Tables) (a b : ℕ) where
 
 module _ (k refusal : ℕ) (n : Numbers) (r : Framed) (e : k ≡ refusal) where
   pub asked-none : (said : Said) → r ≡ framed (Refused k) n → (k ≡ 0 → ⊥) → r ≡ asked refusal said n
-  asked-none said q h = q ∙ sym (ap (λ (b : Bool). cond b (framed said (askNumbers n)) (framed (Refused k) n)) (ne_eqb k 0 h)) ∙ ap (λ (x : ℕ). asked x said n) e
+  asked-none said q h = q ∙ sym (ap (λ (b : Bool). cond b (framed said (ask_numbers n)) (framed (Refused k) n)) (ne_eqb k 0 h)) ∙ ap (λ (x : ℕ). asked x said n) e
 
-  pub asked-some : (s said : Said) → r ≡ framed s (askNumbers n) → k ≡ 0 → s ≡ said → r ≡ asked refusal said n
-  asked-some s said q h p = q ∙ ap (λ (x : Said). framed x (askNumbers n)) p ∙ sym (ap (λ (b : Bool). cond b (framed said (askNumbers n)) (framed (Refused k) n)) (eq-eqb k 0 h)) ∙ ap (λ (x : ℕ). asked x said n) e
+  pub asked-some : (s said : Said) → r ≡ framed s (ask_numbers n) → k ≡ 0 → s ≡ said → r ≡ asked refusal said n
+  asked-some s said q h p = q ∙ ap (λ (x : Said). framed x (ask_numbers n)) p ∙ sym (ap (λ (b : Bool). cond b (framed said (ask_numbers n)) (framed (Refused k) n)) (eq-eqb k 0 h)) ∙ ap (λ (x : ℕ). asked x said n) e
 
 -- of the numbers that the code read
-pub same-refusal : (t : Tables) (a a' b b' : ℕ) → a ≡ a' → b ≡ b' → askRefusal t a b ≡ askRefusal t a' b'
-same-refusal t a a' b b' x y = λ i. askRefusal t (x i) (y i)
+pub same-refusal : (t : Tables) (a a' b b' : ℕ) → a ≡ a' → b ≡ b' → ask_refusal t a b ≡ ask_refusal t a' b'
+same-refusal t a a' b b' x y = λ i. ask_refusal t (x i) (y i)

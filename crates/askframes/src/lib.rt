@@ -1,12 +1,12 @@
 // The frames of questions about two classes, 0b to 0d: the numbers of a body, 6 and 9, the answer over the class tables.
 ghost use Rattle.std.specs.Prelude.{◌≡◌, cond, ◌-◌, ◌^◌, ◌≤◌, ◌<◌, length};
-ghost use Rattle.view.specs.View.{relation, relationNumber, supertype, number_of, cast};
-ghost use Rattle.tables.specs.Table.{namesRoom, marksRoom, view_of};
-ghost use Rattle.layers.specs.Layers.{layersRoom};
+ghost use Rattle.view.specs.View.{relation, relation_number, supertype, number_of, cast};
+ghost use Rattle.tables.specs.Table.{names_room, marks_room, view_of};
+ghost use Rattle.layers.specs.Layers.{layers_room};
 ghost use Rattle.hexline.specs.Hex.{number_at};
 ghost use Rattle.framestate.specs.declared.Said.TheVariants.{Related, Supertyped, Castable};
-ghost use Rattle.framestate.specs.FrameState.{framed, askNumbers};
-ghost use Rattle.askframes.specs.AskFrames.{askRefusal, asked};
+ghost use Rattle.framestate.specs.FrameState.{framed, ask_numbers};
+ghost use Rattle.askframes.specs.AskFrames.{ask_refusal, asked};
 
 use framestate::{Framed, Numbers, Said, refuse};
 use hexline::number_at;
@@ -15,7 +15,7 @@ use view::Relation;
 
 // A number that is no class, or no java/lang/Object among the names.
 fn check_ask(t: Tables, a: u64, b: u64) -> u64
-    ensures { result ≡ askRefusal t a b }
+    ensures { result ≡ ask_refusal t a b }
 {
     if t.names <= a {
         return 6;
@@ -31,7 +31,7 @@ fn check_ask(t: Tables, a: u64, b: u64) -> u64
 
 // What is said, with the numbers after a question.
 fn say(n: Numbers, said: Said) -> Framed
-    ensures { result ≡ framed said (askNumbers n) }
+    ensures { result ≡ framed said (ask_numbers n) }
 {
     let m = n.asked();
     Framed {
@@ -41,7 +41,7 @@ fn say(n: Numbers, said: Said) -> Framed
 }
 
 fn relation_number(r: Relation) -> u64
-    ensures { result ≡ relationNumber r }
+    ensures { result ≡ relation_number r }
 {
     match r {
         Relation::Yes => 0,
@@ -61,8 +61,8 @@ fn flag(b: bool) -> u64
 
 // 0b: the relation of a value to what is expected.
 pub fn relation_frame(body: &[u8], pairs: &[u64], marks: &[u64], n: Numbers) -> Framed
-    requires { (length body.now ≡ 4) × (length marks.now ≡ marksRoom) }
-    ensures { result ≡ asked (askRefusal n.stack.tables (number_at 0 body.now) (number_at 2 body.now)) (Related (relationNumber (relation (view_of pairs.now marks.now n.stack.tables) (number_at 0 body.now) (number_at 2 body.now)))) n }
+    requires { (length body.now ≡ 4) × (length marks.now ≡ marks_room) }
+    ensures { result ≡ asked (ask_refusal n.stack.tables (number_at 0 body.now) (number_at 2 body.now)) (Related (relation_number (relation (view_of pairs.now marks.now n.stack.tables) (number_at 0 body.now) (number_at 2 body.now)))) n }
 {
     let a = number_at(body, 0);
     let b = number_at(body, 2);
@@ -78,8 +78,8 @@ pub fn relation_frame(body: &[u8], pairs: &[u64], marks: &[u64], n: Numbers) -> 
 
 // 0c: the least common supertype.
 pub fn supertype_frame(body: &[u8], pairs: &[u64], marks: &[u64], n: Numbers) -> Framed
-    requires { (length body.now ≡ 4) × (n.stack.tables.names ≤ namesRoom) × ((n.stack.tables.object ≡ 2 ^ 64 - 1 → ⊥) → n.stack.tables.object < n.stack.tables.names) × (length marks.now ≡ marksRoom) × (length pairs.now ≡ layersRoom) }
-    ensures { result ≡ asked (askRefusal n.stack.tables (number_at 0 body.now) (number_at 2 body.now)) (Supertyped (number_of (supertype (view_of pairs.now marks.now n.stack.tables) (number_at 0 body.now) (number_at 2 body.now)))) n }
+    requires { (length body.now ≡ 4) × (n.stack.tables.names ≤ names_room) × ((n.stack.tables.object ≡ 2 ^ 64 - 1 → ⊥) → n.stack.tables.object < n.stack.tables.names) × (length marks.now ≡ marks_room) × (length pairs.now ≡ layers_room) }
+    ensures { result ≡ asked (ask_refusal n.stack.tables (number_at 0 body.now) (number_at 2 body.now)) (Supertyped (number_of (supertype (view_of pairs.now marks.now n.stack.tables) (number_at 0 body.now) (number_at 2 body.now)))) n }
 {
     let a = number_at(body, 0);
     let b = number_at(body, 2);
@@ -95,8 +95,8 @@ pub fn supertype_frame(body: &[u8], pairs: &[u64], marks: &[u64], n: Numbers) ->
 
 // 0d: the cast test.
 pub fn cast_frame(body: &[u8], pairs: &[u64], marks: &[u64], n: Numbers) -> Framed
-    requires { (length body.now ≡ 4) × (length marks.now ≡ marksRoom) }
-    ensures { result ≡ asked (askRefusal n.stack.tables (number_at 0 body.now) (number_at 2 body.now)) (Castable (cond (cast (view_of pairs.now marks.now n.stack.tables) (number_at 0 body.now) (number_at 2 body.now)) 1 0)) n }
+    requires { (length body.now ≡ 4) × (length marks.now ≡ marks_room) }
+    ensures { result ≡ asked (ask_refusal n.stack.tables (number_at 0 body.now) (number_at 2 body.now)) (Castable (cond (cast (view_of pairs.now marks.now n.stack.tables) (number_at 0 body.now) (number_at 2 body.now)) 1 0)) n }
 {
     let a = number_at(body, 0);
     let b = number_at(body, 2);

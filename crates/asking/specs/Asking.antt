@@ -15,12 +15,12 @@ touches root [] = false
 touches root (p ∷ ps) = (eqb p.0 root || eqb p.1 root) || touches root ps
 
 -- a flow, or an array constraint on either side, takes on what is produced
-abbrev pub asksProduced : List ℕ → List ℕ → List ℕ → ℕ → Bool
-asksProduced flows reads writes root = begins root (map pair_of flows) || (touches root (map pair_of reads) || touches root (map pair_of writes))
+abbrev pub asks_produced : List ℕ → List ℕ → List ℕ → ℕ → Bool
+asks_produced flows reads writes root = begins root (map pair_of flows) || (touches root (map pair_of reads) || touches root (map pair_of writes))
 
 -- the component is an array that is read or written
-abbrev pub asksElement : List ℕ → List ℕ → ℕ → Bool
-asksElement reads writes root = begins root (map pair_of reads) || begins root (map pair_of writes)
+abbrev pub asks_element : List ℕ → List ℕ → ℕ → Bool
+asks_element reads writes root = begins root (map pair_of reads) || begins root (map pair_of writes)
 
 abbrev pub asked_of : List ℕ → List ℕ → List ℕ → ℕ → Asked
-asked_of flows reads writes root = record { produced = asksProduced flows reads writes root; element = asksElement reads writes root }
+asked_of flows reads writes root = record { produced = asks_produced flows reads writes root; element = asks_element reads writes root }

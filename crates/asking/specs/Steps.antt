@@ -6,7 +6,7 @@ use Rattle.std.proofs.Math.Seq.{drop-cons}
 use Rattle.sorted.specs.declared.Span.{Span}
 use Rattle.sorted.specs.Sorted.{Sorted, run_of}
 use Rattle.passing.specs.Passes.{second}
-use Rattle.passing.specs.Steps.{run_inside, run-partners}
+use Rattle.passing.specs.Steps.{run-inside, run-partners}
 use Rattle.solving.specs.LinkKeys.{pair_of}
 use Rattle.solving.specs.Solving.{Pair, partners}
 use Rattle.asking.specs.Asking.{begins, touches}
@@ -46,7 +46,7 @@ begins-partner root (p ∷ ps) = go (eqb p.0 root) (begins-partner root ps)
 module _ (root : ℕ) (links : List ℕ) (o : Sorted links) (r : Span) (e : r ≡ run_of 512 root (take (length links) links)) where
   many : length (partners root (map pair_of links)) ≡ r.past - r.first
   many =
-      let w = run_inside root links o r e in
+      let w = run-inside root links o r e in
       let d = length-drop r.first links in
       let t = length-take (r.past - r.first) (drop r.first links) in
       ap length (sym (run-partners root links o r e)) ∙ length-map (take (r.past - r.first) (drop r.first links)) second ∙ (let z : length (take (r.past - r.first) (drop r.first links)) ≡ r.past - r.first = omega arith in z)

@@ -3,7 +3,7 @@
 ghost use Rattle.std.specs.Prelude.{◌≡◌, ◌||◌, map, ◌/◌, ◌%◌, eqb};
 ghost use Rattle.sorted.specs.Sorted.{Sorted};
 ghost use Rattle.solving.specs.LinkKeys.{pair_of};
-ghost use Rattle.asking.specs.Asking.{begins, touches, asksProduced, asksElement, asked_of};
+ghost use Rattle.asking.specs.Asking.{begins, touches, asks_produced, asks_element, asked_of};
 
 // Whether what is produced is asked for, and whether the element is.
 #[derive(Drop)]
@@ -64,7 +64,7 @@ fn is_touched(links: &[u64], root: u64) -> bool
 
 fn asks_produced(flows: &[u64], reads: &[u64], writes: &[u64], root: u64) -> bool
     requires { Sorted flows.now }
-    ensures { result ≡ asksProduced flows.now reads.now writes.now root }
+    ensures { result ≡ asks_produced flows.now reads.now writes.now root }
 {
     if has_target(flows, root) {
         return true;
@@ -76,7 +76,7 @@ fn asks_produced(flows: &[u64], reads: &[u64], writes: &[u64], root: u64) -> boo
 }
 
 fn asks_element(reads: &[u64], writes: &[u64], root: u64) -> bool
-    ensures { result ≡ asksElement reads.now writes.now root }
+    ensures { result ≡ asks_element reads.now writes.now root }
 {
     if is_array(reads, root) {
         return true;

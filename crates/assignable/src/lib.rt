@@ -1,12 +1,12 @@
 // Assignability of lattice.rs on type words: what an Unknown accepts, primitives, classes and arrays. The class tables are those of
 // the crate hierarchy; every word is legal for at most 1,024 names.
 ghost use Rattle.std.specs.Prelude.{◌≡◌, true, false, ◌&&◌, [], ◌^◌, ◌≤◌, ◌<◌};
-ghost use Rattle.tables.specs.Table.{namesRoom};
+ghost use Rattle.tables.specs.Table.{names_room};
 ghost use Rattle.prepared.specs.Prepared.{Prepared};
-ghost use Rattle.ty.specs.Types.{Object, categories, isKnown, isArray};
+ghost use Rattle.ty.specs.Types.{Object, categories, is_known, is_array};
 ghost use Rattle.ty.specs.Words.{Legal, type_of};
-ghost use Rattle.lattice.specs.Lattice.{notNo, unknownAccepts, primitiveAssignable, arrayParent, assignableApart, isAssignable};
-ghost use Rattle.lattice.specs.World.{worldOf};
+ghost use Rattle.lattice.specs.Lattice.{not_no, unknown_accepts, primitive_assignable, array_parent, assignable_apart, is_assignable};
+ghost use Rattle.lattice.specs.World.{world_of};
 
 use tables::Tables;
 use ty::{DIMENSION, TypeWord};
@@ -15,7 +15,7 @@ use view::Relation;
 // Whether the categories of `listed` (an Unknown's list) accept the type: its set is the union of both.
 pub fn unknown_accepts(listed: TypeWord, t: TypeWord) -> bool
     requires { Legal listed.word × Legal t.word }
-    ensures { result ≡ unknownAccepts (categories (type_of listed.word)) (type_of t.word) }
+    ensures { result ≡ unknown_accepts (categories (type_of listed.word)) (type_of t.word) }
 {
     let list = listed.categories();
     let given = t.categories();
@@ -24,7 +24,7 @@ pub fn unknown_accepts(listed: TypeWord, t: TypeWord) -> bool
 
 // Byte, Short, Char, Int, Long, Float, Double are 2 to 8: to a later one that is not Char.
 pub fn primitive_assignable(value: u64, expected: u64) -> bool
-    ensures { result ≡ primitiveAssignable value expected }
+    ensures { result ≡ primitive_assignable value expected }
 {
     if expected == 4 {
         return false;
@@ -40,8 +40,8 @@ pub fn primitive_assignable(value: u64, expected: u64) -> bool
 
 // Whether every array is assignable to the class: Object, Cloneable, Serializable.
 fn array_parent(t: Tables, class: u64) -> bool
-    requires { class < namesRoom }
-    ensures { result ≡ arrayParent (worldOf [] [] t) class }
+    requires { class < names_room }
+    ensures { result ≡ array_parent (world_of [] [] t) class }
 {
     if class == t.object {
         return true;
@@ -54,7 +54,7 @@ fn array_parent(t: Tables, class: u64) -> bool
 
 // What is not known of the classes counts as assignable.
 pub fn not_no(r: Relation) -> bool
-    ensures { result ≡ notNo r }
+    ensures { result ≡ not_no r }
 {
     match r {
         Relation::Yes => true,
@@ -65,8 +65,8 @@ pub fn not_no(r: Relation) -> bool
 
 // A known type to a class.
 fn to_class(pairs: &[u64], marks: &[u64], t: Tables, value: TypeWord, class: u64) -> bool
-    requires { Prepared pairs.now marks.now t × (isKnown (type_of value.word) ≡ true) × (class < namesRoom) }
-    ensures { result ≡ assignableApart (worldOf pairs.now marks.now t) (type_of value.word) (Object class) }
+    requires { Prepared pairs.now marks.now t × (is_known (type_of value.word) ≡ true) × (class < names_room) }
+    ensures { result ≡ assignable_apart (world_of pairs.now marks.now t) (type_of value.word) (Object class) }
 {
     if value.is_array() {
         return array_parent(t, class);
@@ -86,8 +86,8 @@ fn known_assignable(
     value: TypeWord,
     expected: TypeWord,
 ) -> bool
-    requires { Prepared pairs.now marks.now t × Legal expected.word × (isKnown (type_of value.word) ≡ true) × (isKnown (type_of expected.word) ≡ true) × ((isArray (type_of value.word) && isArray (type_of expected.word)) ≡ false) }
-    ensures { result ≡ assignableApart (worldOf pairs.now marks.now t) (type_of value.word) (type_of expected.word) }
+    requires { Prepared pairs.now marks.now t × Legal expected.word × (is_known (type_of value.word) ≡ true) × (is_known (type_of expected.word) ≡ true) × ((is_array (type_of value.word) && is_array (type_of expected.word)) ≡ false) }
+    ensures { result ≡ assignable_apart (world_of pairs.now marks.now t) (type_of value.word) (type_of expected.word) }
 {
     if expected.is_object() {
         return to_class(pairs, marks, t, value, expected.load());
@@ -109,8 +109,8 @@ fn bases_assignable(
     value: TypeWord,
     expected: TypeWord,
 ) -> bool
-    requires { Prepared pairs.now marks.now t × Legal value.word × Legal expected.word × ((isArray (type_of value.word) && isArray (type_of expected.word)) ≡ false) }
-    ensures { result ≡ assignableApart (worldOf pairs.now marks.now t) (type_of value.word) (type_of expected.word) }
+    requires { Prepared pairs.now marks.now t × Legal value.word × Legal expected.word × ((is_array (type_of value.word) && is_array (type_of expected.word)) ≡ false) }
+    ensures { result ≡ assignable_apart (world_of pairs.now marks.now t) (type_of value.word) (type_of expected.word) }
 {
     if expected.is_known() {
         if value.is_known() {
@@ -122,7 +122,7 @@ fn bases_assignable(
 }
 
 fn are_arrays(left: TypeWord, right: TypeWord) -> bool
-    ensures { result ≡ (isArray (type_of left.word) && isArray (type_of right.word)) }
+    ensures { result ≡ (is_array (type_of left.word) && is_array (type_of right.word)) }
 {
     if left.is_array() {
         return right.is_array();
@@ -140,7 +140,7 @@ pub fn is_assignable(
     expected: TypeWord,
 ) -> bool
     requires { Prepared pairs.now marks.now t × Legal value.word × Legal expected.word }
-    ensures { result ≡ isAssignable (worldOf pairs.now marks.now t) (type_of value.word) (type_of expected.word) }
+    ensures { result ≡ is_assignable (world_of pairs.now marks.now t) (type_of value.word) (type_of expected.word) }
 {
     if value.word == expected.word {
         return true;
@@ -155,7 +155,7 @@ pub fn is_assignable(
 #[cycle(array_rule_is_assignable)]
 fn array_rule(pairs: &[u64], marks: &[u64], t: Tables, value: TypeWord, expected: TypeWord) -> bool
     requires { Prepared pairs.now marks.now t × Legal value.word × Legal expected.word × (2 ^ 56 ≤ value.word) × (2 ^ 56 ≤ expected.word) }
-    ensures { result ≡ assignableApart (worldOf pairs.now marks.now t) (type_of value.word) (type_of expected.word) }
+    ensures { result ≡ assignable_apart (world_of pairs.now marks.now t) (type_of value.word) (type_of expected.word) }
 {
     let v = value.word - DIMENSION;
     let e = expected.word - DIMENSION;

@@ -3,29 +3,29 @@ use Rattle.std.specs.Prelude.{◌≡◌, cond, List, ℕ, length}
 use Rattle.ty.specs.Words.{type_of, word_of}
 use Rattle.names.specs.declared.LookedUp.{LookedUp}
 use Rattle.writer.specs.declared.Written.{Written}
-use Rattle.writer.specs.Print.{printWord, printMethodWords, typeRefusal, methodRefusal, answer, output}
+use Rattle.writer.specs.Print.{print_word, print_method_words, type_refusal, method_refusal, answer, output}
 use Rattle.descriptor.specs.declared.Base.{Base}
 use Rattle.descriptor.specs.declared.Base.TheVariants.{Simple, Class}
 use Rattle.descriptor.specs.declared.Read.{Read}
 use Rattle.descriptor.specs.declared.Read.TheVariants.{Found, Refused}
 use Rattle.methods.specs.declared.MethodRead.{MethodRead}
 use Rattle.methods.specs.Method.{Method}
-use Rattle.methods.specs.Answers.{methodAnswer}
-use Rattle.view.specs.View.{relation, relationNumber, distance, number_of, ancestors, supertype, cast}
-use Rattle.lattice.specs.Lattice.{join, isAssignable}
-use Rattle.columns.specs.Given.{Given, givenBy}
-use Rattle.tableview.specs.TableRows.{rowsView, rowsWorld}
-use Rattle.stackview.specs.LayerRows.{shownIn}
+use Rattle.methods.specs.Answers.{method_answer}
+use Rattle.view.specs.View.{relation, relation_number, distance, number_of, ancestors, supertype, cast}
+use Rattle.lattice.specs.Lattice.{join, is_assignable}
+use Rattle.columns.specs.Given.{Given, given_by}
+use Rattle.tableview.specs.TableRows.{rows_view, rows_world}
+use Rattle.stackview.specs.LayerRows.{shown_in}
 use Rattle.questions.specs.declared.Question.TheVariants.{Relation, Distance, Supertype, Cast, Join, Assignable}
 use Rattle.questions.specs.declared.Answer.{Answer}
 use Rattle.questions.specs.declared.Ancestors.{Ancestors}
-use Rattle.questions.specs.Questions.{questionRefusal, ancestorsRefusal, answered, gathered}
+use Rattle.questions.specs.Questions.{question_refusal, ancestors_refusal, answered, gathered}
 use Rattle.tablecheck.specs.declared.TableCheck.{TableCheck}
-use Rattle.tablecheck.specs.TableCheck.{tableCheck}
+use Rattle.tablecheck.specs.TableCheck.{table_check}
 use Rattle.solving.specs.declared.Counts.{Counts}
 use Rattle.problems.specs.Problems.{Columns}
-use Rattle.solves.specs.SolveResult.{Lent, countsOf, lent_by, leftBy}
-use Rattle.solvedoor.specs.SolveDoor.{solveIn, Leaves}
+use Rattle.solves.specs.SolveResult.{Lent, counts_of, lent_by, left_by}
+use Rattle.solvedoor.specs.SolveDoor.{solve_in, Leaves}
 use Rattle.bracepuffin.specs.declared.BpType.{BpType}
 use Rattle.bracepuffin.specs.declared.BpMethod.{BpMethod}
 use Rattle.bracepuffin.specs.declared.BpWritten.{BpWritten}
@@ -36,110 +36,110 @@ use Rattle.bracepuffin.specs.declared.BpSet.{BpSet}
 use Rattle.bracepuffin.specs.declared.BpTable.{BpTable}
 use Rattle.bracepuffin.specs.declared.BpSolved.{BpSolved}
 use Rattle.lending.specs.Lending.{Slice}
-use Rattle.problemcolumns.specs.ProblemColumns.{columnsBy}
+use Rattle.problemcolumns.specs.ProblemColumns.{columns_by}
 
 -- tag 0 a primitive by its category, tag 1 a class by the place of its name
-abbrev pub typeFound : ℕ → Base → BpType
-typeFound d (Simple k) = record { refusal = 0; offset = 0; byte = 0; dims = d; tag = 0; category = k; name_at = 0; name_len = 0 }
-typeFound d (Class at n) = record { refusal = 0; offset = 0; byte = 0; dims = d; tag = 1; category = 0; name_at = at; name_len = n }
+abbrev pub type_found : ℕ → Base → BpType
+type_found d (Simple k) = record { refusal = 0; offset = 0; byte = 0; dims = d; tag = 0; category = k; name_at = 0; name_len = 0 }
+type_found d (Class at n) = record { refusal = 0; offset = 0; byte = 0; dims = d; tag = 1; category = 0; name_at = at; name_len = n }
 
-abbrev pub typeAnswer : Read → BpType
-typeAnswer (Found d base next) = typeFound d base
-typeAnswer (Refused code at b) = record { refusal = code; offset = at; byte = b; dims = 0; tag = 0; category = 0; name_at = 0; name_len = 0 }
+abbrev pub type_answer : Read → BpType
+type_answer (Found d base next) = type_found d base
+type_answer (Refused code at b) = record { refusal = code; offset = at; byte = b; dims = 0; tag = 0; category = 0; name_at = 0; name_len = 0 }
 
-abbrev pub bpMethodOf : MethodRead → Base → BpMethod
-bpMethodOf m (Simple k) =
+abbrev pub bp_method_of : MethodRead → Base → BpMethod
+bp_method_of m (Simple k) =
     record { refusal = m.refusal; offset = m.offset; byte = m.byte; count = m.count; return_at = m.return_at; dims = m.dims; tag = 0; category = k; name_at = 0; name_len = 0 }
-bpMethodOf m (Class at n) =
+bp_method_of m (Class at n) =
     record { refusal = m.refusal; offset = m.offset; byte = m.byte; count = m.count; return_at = m.return_at; dims = m.dims; tag = 1; category = 0; name_at = at; name_len = n }
 
-abbrev pub bpMethod : MethodRead → BpMethod
-bpMethod m = bpMethodOf m m.base
+abbrev pub bp_method : MethodRead → BpMethod
+bp_method m = bp_method_of m m.base
 
-abbrev pub methodResult : Method → BpMethod
-methodResult m = bpMethod (methodAnswer m)
+abbrev pub method_result : Method → BpMethod
+method_result m = bp_method (method_answer m)
 
 -- ---- what is written, and what is looked up
 
-abbrev pub writtenAnswer : Written → BpWritten
-writtenAnswer w = record { refusal = w.refusal; «length» = w.«length» }
+abbrev pub written_answer : Written → BpWritten
+written_answer w = record { refusal = w.refusal; «length» = w.«length» }
 
 -- what a writer promises of its result and of the output at its end
 pub record Wrote (refusal : ℕ) (printed out out' : List ℕ) (r : BpWritten) : Type 0 where
-  pub result : r ≡ writtenAnswer (answer refusal printed)
+  pub result : r ≡ written_answer (answer refusal printed)
   pub memory : out' ≡ output refusal printed out
 
 -- of a word, and of the words of a method, over a table of names
 abbrev pub WroteType : List ℕ → List ℕ → List ℕ → ℕ → List ℕ → List ℕ → BpWritten → Type 0
-WroteType names at len word out out' r = Wrote (typeRefusal names at len word (length out)) (printWord names at len word) out out' r
+WroteType names at len word out out' r = Wrote (type_refusal names at len word (length out)) (print_word names at len word) out out' r
 
 abbrev pub WroteMethod : List ℕ → List ℕ → List ℕ → List ℕ → ℕ → List ℕ → List ℕ → BpWritten → Type 0
 WroteMethod names at len params result out out' r =
-    Wrote (methodRefusal names at len params result (length out)) (printMethodWords names at len params result) out out' r
+    Wrote (method_refusal names at len params result (length out)) (print_method_words names at len params result) out out' r
 
-abbrev pub foundAnswer : LookedUp → BpFound
-foundAnswer f = record { refusal = f.refusal; class_no = f.class_no }
+abbrev pub found_answer : LookedUp → BpFound
+found_answer f = record { refusal = f.refusal; class_no = f.class_no }
 
 -- ---- where a table is refused, and with what
 
-abbrev pub checkAnswer : TableCheck → BpTable
-checkAnswer c = record { refusal = c.refusal; part = c.part; row = c.row }
+abbrev pub check_answer : TableCheck → BpTable
+check_answer c = record { refusal = c.refusal; part = c.part; row = c.row }
 
-abbrev pub checkTold : Given → BpTable
-checkTold g = checkAnswer (tableCheck g)
+abbrev pub check_told : Given → BpTable
+check_told g = check_answer (table_check g)
 
 -- ---- what is asked, of the rows that the columns' layers show; the last number is the length of the work
 
-abbrev pub relationAnswer : Answer → BpRelation
-relationAnswer a = record { refusal = a.refusal; relation = a.value }
+abbrev pub relation_answer : Answer → BpRelation
+relation_answer a = record { refusal = a.refusal; relation = a.value }
 
-abbrev pub numberAnswer : Answer → BpAnswer
-numberAnswer a = record { refusal = a.refusal; value = a.value }
+abbrev pub number_answer : Answer → BpAnswer
+number_answer a = record { refusal = a.refusal; value = a.value }
 
-abbrev pub setAnswer : Ancestors → BpSet
-setAnswer a = record { refusal = a.refusal; count = a.count; lowest = a.lowest; words = a.set.words }
+abbrev pub set_answer : Ancestors → BpSet
+set_answer a = record { refusal = a.refusal; count = a.count; lowest = a.lowest; words = a.set.words }
 
-unfoldable pub relationTold : Given → ℕ → ℕ → ℕ → BpRelation
-relationTold g value expected room =
-    relationAnswer (answered (questionRefusal g Relation value expected room) (relationNumber (relation (rowsView (shownIn g)) value expected)))
+unfoldable pub relation_told : Given → ℕ → ℕ → ℕ → BpRelation
+relation_told g value expected room =
+    relation_answer (answered (question_refusal g Relation value expected room) (relation_number (relation (rows_view (shown_in g)) value expected)))
 
-unfoldable pub distanceTold : Given → ℕ → ℕ → ℕ → BpAnswer
-distanceTold g value expected room =
-    numberAnswer (answered (questionRefusal g Distance value expected room) (number_of (distance (rowsView (shownIn g)) value expected)))
+unfoldable pub distance_told : Given → ℕ → ℕ → ℕ → BpAnswer
+distance_told g value expected room =
+    number_answer (answered (question_refusal g Distance value expected room) (number_of (distance (rows_view (shown_in g)) value expected)))
 
-unfoldable pub ancestorsTold : Given → ℕ → ℕ → BpSet
-ancestorsTold g class room = setAnswer (gathered (ancestorsRefusal g class room) (ancestors (rowsView (shownIn g)) class))
+unfoldable pub ancestors_told : Given → ℕ → ℕ → BpSet
+ancestors_told g class room = set_answer (gathered (ancestors_refusal g class room) (ancestors (rows_view (shown_in g)) class))
 
-unfoldable pub supertypeTold : Given → ℕ → ℕ → ℕ → BpAnswer
-supertypeTold g left right room =
-    numberAnswer (answered (questionRefusal g Supertype left right room) (number_of (supertype (rowsView (shownIn g)) left right)))
+unfoldable pub supertype_told : Given → ℕ → ℕ → ℕ → BpAnswer
+supertype_told g left right room =
+    number_answer (answered (question_refusal g Supertype left right room) (number_of (supertype (rows_view (shown_in g)) left right)))
 
-unfoldable pub castTold : Given → ℕ → ℕ → ℕ → BpAnswer
-castTold g source target room =
-    numberAnswer (answered (questionRefusal g Cast source target room) (cond (cast (rowsView (shownIn g)) source target) 1 0))
+unfoldable pub cast_told : Given → ℕ → ℕ → ℕ → BpAnswer
+cast_told g source target room =
+    number_answer (answered (question_refusal g Cast source target room) (cond (cast (rows_view (shown_in g)) source target) 1 0))
 
-unfoldable pub joinTold : Given → ℕ → ℕ → ℕ → BpAnswer
-joinTold g left right room =
-    numberAnswer (answered (questionRefusal g Join left right room) (word_of (join (rowsWorld (shownIn g)) (type_of left) (type_of right))))
+unfoldable pub join_told : Given → ℕ → ℕ → ℕ → BpAnswer
+join_told g left right room =
+    number_answer (answered (question_refusal g Join left right room) (word_of (join (rows_world (shown_in g)) (type_of left) (type_of right))))
 
-unfoldable pub assignableTold : Given → ℕ → ℕ → ℕ → BpAnswer
-assignableTold g value expected room =
-    numberAnswer (answered (questionRefusal g Assignable value expected room) (cond (isAssignable (rowsWorld (shownIn g)) (type_of value) (type_of expected)) 1 0))
+unfoldable pub assignable_told : Given → ℕ → ℕ → ℕ → BpAnswer
+assignable_told g value expected room =
+    number_answer (answered (question_refusal g Assignable value expected room) (cond (is_assignable (rows_world (shown_in g)) (type_of value) (type_of expected)) 1 0))
 
 -- ---- a solve, over the rows that the columns' layers show
 
-abbrev pub solvedAnswer : Counts → BpSolved
-solvedAnswer c = record { refusal = c.refusal; bounds = c.bounds; turns = c.turns }
+abbrev pub solved_answer : Counts → BpSolved
+solved_answer c = record { refusal = c.refusal; bounds = c.bounds; turns = c.turns }
 
-unfoldable pub solvedTold : Given → Columns → Lent → BpSolved
-solvedTold g c lent = solvedAnswer (countsOf (solveIn g c lent))
+unfoldable pub solved_told : Given → Columns → Lent → BpSolved
+solved_told g c lent = solved_answer (counts_of (solve_in g c lent))
 
 -- of what the call is lent, in the order of its parameters: the result, and what stands in the slices afterwards
-abbrev pub bpSolved : (names nameAt nameLen flags class at len parents : Slice) → ℕ → (vc bc bk bt fs fd us ud ra rr wa wv answers oc ok ot work : Slice) → BpSolved
-bpSolved names nameAt nameLen flags class at len parents n vc bc bk bt fs fd us ud ra rr wa wv answers oc ok ot work =
-    solvedTold (givenBy names nameAt nameLen flags class at len parents) (columnsBy n vc bc bk bt fs fd us ud ra rr wa wv) (lent_by answers oc ok ot work)
+abbrev pub bp_solved : (names name_at name_len flags class at len parents : Slice) → ℕ → (vc bc bk bt fs fd us ud ra rr wa wv answers oc ok ot work : Slice) → BpSolved
+bp_solved names name_at name_len flags class at len parents n vc bc bk bt fs fd us ud ra rr wa wv answers oc ok ot work =
+    solved_told (given_by names name_at name_len flags class at len parents) (columns_by n vc bc bk bt fs fd us ud ra rr wa wv) (lent_by answers oc ok ot work)
 
-abbrev pub SolveLeaves : (names nameAt nameLen flags class at len parents : Slice) → ℕ → (vc bc bk bt fs fd us ud ra rr wa wv answers oc ok ot work : Slice) → Type 0
-SolveLeaves names nameAt nameLen flags class at len parents n vc bc bk bt fs fd us ud ra rr wa wv answers oc ok ot work =
-    Leaves (givenBy names nameAt nameLen flags class at len parents) (columnsBy n vc bc bk bt fs fd us ud ra rr wa wv)
-    (lent_by answers oc ok ot work) (leftBy answers oc ok ot work)
+abbrev pub SolveLeaves : (names name_at name_len flags class at len parents : Slice) → ℕ → (vc bc bk bt fs fd us ud ra rr wa wv answers oc ok ot work : Slice) → Type 0
+SolveLeaves names name_at name_len flags class at len parents n vc bc bk bt fs fd us ud ra rr wa wv answers oc ok ot work =
+    Leaves (given_by names name_at name_len flags class at len parents) (columns_by n vc bc bk bt fs fd us ud ra rr wa wv)
+    (lent_by answers oc ok ot work) (left_by answers oc ok ot work)

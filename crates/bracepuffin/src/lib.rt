@@ -1,12 +1,12 @@
 // What C and Rust call: thin functions over the crates below, with no logic of their own. Every call takes arbitrary numbers
 // and bytes. A refused result is its number, offset and byte, and zero in every other field.
 ghost use Rattle.std.specs.Prelude.{◌≡◌, true, false, length};
-ghost use Rattle.descriptor.specs.Read.{readWhole, readStrict};
-ghost use Rattle.methods.specs.Answers.{methodOf, paramsAfter};
-ghost use Rattle.names.specs.Names.{lookUp};
-ghost use Rattle.columns.specs.Given.{givenBy};
-ghost use Rattle.questions.specs.Questions.{workAfter};
-ghost use Rattle.bracepuffin.specs.Boundary.{typeFound, typeAnswer, methodResult, bpMethod, foundAnswer, writtenAnswer, WroteType, WroteMethod, relationAnswer, numberAnswer, setAnswer, checkAnswer, checkTold, relationTold, distanceTold, ancestorsTold, supertypeTold, castTold, joinTold, assignableTold, solvedAnswer, bpSolved, SolveLeaves};
+ghost use Rattle.descriptor.specs.Read.{read_whole, read_strict};
+ghost use Rattle.methods.specs.Answers.{method_of, params_after};
+ghost use Rattle.names.specs.Names.{look_up};
+ghost use Rattle.columns.specs.Given.{given_by};
+ghost use Rattle.questions.specs.Questions.{work_after};
+ghost use Rattle.bracepuffin.specs.Boundary.{type_found, type_answer, method_result, bp_method, found_answer, written_answer, WroteType, WroteMethod, relation_answer, number_answer, set_answer, check_answer, check_told, relation_told, distance_told, ancestors_told, supertype_told, cast_told, join_told, assignable_told, solved_answer, bp_solved, SolveLeaves};
 
 use descriptor::{Base, Read, read_whole};
 use methods::{MethodRead, read_method, read_strict};
@@ -111,7 +111,7 @@ pub extern "C" fn bp_abi_1() -> u64
 // ---- descriptors, read
 
 fn type_found(dims: u64, base: Base) -> BpType
-    ensures { result ≡ typeFound dims base }
+    ensures { result ≡ type_found dims base }
 {
     match base {
         Base::Simple(k) => BpType {
@@ -138,7 +138,7 @@ fn type_found(dims: u64, base: Base) -> BpType
 }
 
 fn type_answer(r: Read) -> BpType
-    ensures { result ≡ typeAnswer r }
+    ensures { result ≡ type_answer r }
 {
     match r {
         Read::Found {
@@ -161,20 +161,20 @@ fn type_answer(r: Read) -> BpType
 
 #[unsafe(no_mangle)]
 pub extern "C" fn bp_read_type(d: &[u8]) -> BpType
-    ensures { result ≡ typeAnswer (readWhole d.now) }
+    ensures { result ≡ type_answer (read_whole d.now) }
 {
     type_answer(read_whole(d))
 }
 
 #[unsafe(no_mangle)]
 pub extern "C" fn bp_read_type_strict(d: &[u8]) -> BpType
-    ensures { result ≡ typeAnswer (readStrict d.now) }
+    ensures { result ≡ type_answer (read_strict d.now) }
 {
     type_answer(read_strict(d))
 }
 
 fn method_answer(m: MethodRead) -> BpMethod
-    ensures { result ≡ bpMethod m }
+    ensures { result ≡ bp_method m }
 {
     let base = m.base;
     match base {
@@ -207,14 +207,14 @@ fn method_answer(m: MethodRead) -> BpMethod
 
 #[unsafe(no_mangle)]
 pub extern "C" fn bp_read_method(d: &[u8], params: &mut [u64]) -> BpMethod
-    ensures { (result ≡ methodResult (methodOf false d.now (length params.old))) × (params.new ≡ paramsAfter params.old (methodOf false d.now (length params.old))) }
+    ensures { (result ≡ method_result (method_of false d.now (length params.old))) × (params.new ≡ params_after params.old (method_of false d.now (length params.old))) }
 {
     method_answer(read_method(d, params, false))
 }
 
 #[unsafe(no_mangle)]
 pub extern "C" fn bp_read_method_strict(d: &[u8], params: &mut [u64]) -> BpMethod
-    ensures { (result ≡ methodResult (methodOf true d.now (length params.old))) × (params.new ≡ paramsAfter params.old (methodOf true d.now (length params.old))) }
+    ensures { (result ≡ method_result (method_of true d.now (length params.old))) × (params.new ≡ params_after params.old (method_of true d.now (length params.old))) }
 {
     method_answer(read_method(d, params, true))
 }
@@ -222,7 +222,7 @@ pub extern "C" fn bp_read_method_strict(d: &[u8], params: &mut [u64]) -> BpMetho
 // ---- descriptors, written
 
 fn written_answer(w: Written) -> BpWritten
-    ensures { result ≡ writtenAnswer w }
+    ensures { result ≡ written_answer w }
 {
     BpWritten {
         refusal: w.refusal,
@@ -260,7 +260,7 @@ pub extern "C" fn bp_write_method(
 // ---- names
 
 fn found_answer(f: LookedUp) -> BpFound
-    ensures { result ≡ foundAnswer f }
+    ensures { result ≡ found_answer f }
 {
     BpFound {
         refusal: f.refusal,
@@ -270,7 +270,7 @@ fn found_answer(f: LookedUp) -> BpFound
 
 #[unsafe(no_mangle)]
 pub extern "C" fn bp_lookup(names: &[u8], name_at: &[u64], name_len: &[u64], key: &[u8]) -> BpFound
-    ensures { result ≡ foundAnswer (lookUp names.now name_at.now name_len.now key.now) }
+    ensures { result ≡ found_answer (look_up names.now name_at.now name_len.now key.now) }
 {
     found_answer(look_up(names, name_at, name_len, key))
 }
@@ -278,7 +278,7 @@ pub extern "C" fn bp_lookup(names: &[u8], name_at: &[u64], name_len: &[u64], key
 // ---- tables
 
 fn check_answer(c: TableCheck) -> BpTable
-    ensures { result ≡ checkAnswer c }
+    ensures { result ≡ check_answer c }
 {
     BpTable {
         refusal: c.refusal,
@@ -298,7 +298,7 @@ pub extern "C" fn bp_check_table(
     rec_len: &[u64],
     parents: &[u64],
 ) -> BpTable
-    ensures { result ≡ checkTold (givenBy names name_at name_len rec_flags rec_class rec_at rec_len parents) }
+    ensures { result ≡ check_told (given_by names name_at name_len rec_flags rec_class rec_at rec_len parents) }
 {
     check_answer(check_table(
         names, name_at, name_len, rec_flags, rec_class, rec_at, rec_len, parents,
@@ -308,7 +308,7 @@ pub extern "C" fn bp_check_table(
 // ---- classes
 
 fn relation_answer(a: Answer) -> BpRelation
-    ensures { result ≡ relationAnswer a }
+    ensures { result ≡ relation_answer a }
 {
     BpRelation {
         refusal: a.refusal,
@@ -317,7 +317,7 @@ fn relation_answer(a: Answer) -> BpRelation
 }
 
 fn number_answer(a: Answer) -> BpAnswer
-    ensures { result ≡ numberAnswer a }
+    ensures { result ≡ number_answer a }
 {
     BpAnswer {
         refusal: a.refusal,
@@ -326,7 +326,7 @@ fn number_answer(a: Answer) -> BpAnswer
 }
 
 fn set_answer(a: Ancestors) -> BpSet
-    ensures { result ≡ setAnswer a }
+    ensures { result ≡ set_answer a }
 {
     let s = a.set;
     let words = s.words;
@@ -352,8 +352,8 @@ pub extern "C" fn bp_relation(
     expected: u64,
     work: &mut [u64],
 ) -> BpRelation
-    ensures value { result ≡ relationTold (givenBy names name_at name_len rec_flags rec_class rec_at rec_len parents) value expected (length work.old) }
-    ensures work_after { work.new ≡ workAfter work.old }
+    ensures value { result ≡ relation_told (given_by names name_at name_len rec_flags rec_class rec_at rec_len parents) value expected (length work.old) }
+    ensures work_after { work.new ≡ work_after work.old }
 {
     let a = ask(
         names,
@@ -386,8 +386,8 @@ pub extern "C" fn bp_distance(
     expected: u64,
     work: &mut [u64],
 ) -> BpAnswer
-    ensures value { result ≡ distanceTold (givenBy names name_at name_len rec_flags rec_class rec_at rec_len parents) value expected (length work.old) }
-    ensures work_after { work.new ≡ workAfter work.old }
+    ensures value { result ≡ distance_told (given_by names name_at name_len rec_flags rec_class rec_at rec_len parents) value expected (length work.old) }
+    ensures work_after { work.new ≡ work_after work.old }
 {
     let a = ask(
         names,
@@ -419,8 +419,8 @@ pub extern "C" fn bp_ancestors(
     class_no: u64,
     work: &mut [u64],
 ) -> BpSet
-    ensures value { result ≡ ancestorsTold (givenBy names name_at name_len rec_flags rec_class rec_at rec_len parents) class_no (length work.old) }
-    ensures work_after { work.new ≡ workAfter work.old }
+    ensures value { result ≡ ancestors_told (given_by names name_at name_len rec_flags rec_class rec_at rec_len parents) class_no (length work.old) }
+    ensures work_after { work.new ≡ work_after work.old }
 {
     let a = ancestors_of(
         names, name_at, name_len, rec_flags, rec_class, rec_at, rec_len, parents, class_no, work,
@@ -442,8 +442,8 @@ pub extern "C" fn bp_supertype(
     right: u64,
     work: &mut [u64],
 ) -> BpAnswer
-    ensures value { result ≡ supertypeTold (givenBy names name_at name_len rec_flags rec_class rec_at rec_len parents) left right (length work.old) }
-    ensures work_after { work.new ≡ workAfter work.old }
+    ensures value { result ≡ supertype_told (given_by names name_at name_len rec_flags rec_class rec_at rec_len parents) left right (length work.old) }
+    ensures work_after { work.new ≡ work_after work.old }
 {
     let a = ask(
         names,
@@ -476,8 +476,8 @@ pub extern "C" fn bp_cast(
     target: u64,
     work: &mut [u64],
 ) -> BpAnswer
-    ensures value { result ≡ castTold (givenBy names name_at name_len rec_flags rec_class rec_at rec_len parents) source target (length work.old) }
-    ensures work_after { work.new ≡ workAfter work.old }
+    ensures value { result ≡ cast_told (given_by names name_at name_len rec_flags rec_class rec_at rec_len parents) source target (length work.old) }
+    ensures work_after { work.new ≡ work_after work.old }
 {
     let a = ask(
         names,
@@ -512,8 +512,8 @@ pub extern "C" fn bp_join(
     right: u64,
     work: &mut [u64],
 ) -> BpAnswer
-    ensures value { result ≡ joinTold (givenBy names name_at name_len rec_flags rec_class rec_at rec_len parents) left right (length work.old) }
-    ensures work_after { work.new ≡ workAfter work.old }
+    ensures value { result ≡ join_told (given_by names name_at name_len rec_flags rec_class rec_at rec_len parents) left right (length work.old) }
+    ensures work_after { work.new ≡ work_after work.old }
 {
     let a = ask(
         names,
@@ -546,8 +546,8 @@ pub extern "C" fn bp_assignable(
     expected: u64,
     work: &mut [u64],
 ) -> BpAnswer
-    ensures value { result ≡ assignableTold (givenBy names name_at name_len rec_flags rec_class rec_at rec_len parents) value expected (length work.old) }
-    ensures work_after { work.new ≡ workAfter work.old }
+    ensures value { result ≡ assignable_told (given_by names name_at name_len rec_flags rec_class rec_at rec_len parents) value expected (length work.old) }
+    ensures work_after { work.new ≡ work_after work.old }
 {
     let a = ask(
         names,
@@ -567,7 +567,7 @@ pub extern "C" fn bp_assignable(
 }
 
 fn solved_answer(c: Counts) -> BpSolved
-    ensures { result ≡ solvedAnswer c }
+    ensures { result ≡ solved_answer c }
 {
     BpSolved {
         refusal: c.refusal,
@@ -605,8 +605,8 @@ pub extern "C" fn bp_solve(
     out_type: &mut [u64],
     work: &mut [u64],
 ) -> BpSolved
-    ensures value { result ≡ bpSolved names name_at name_len rec_flags rec_class rec_at rec_len parents components var_comp bnd_comp bnd_kind bnd_type flow_src flow_dst up_src up_dst read_arr read_res write_arr write_val answers out_comp out_kind out_type work }
-    ensures solve_leaves { SolveLeaves names name_at name_len rec_flags rec_class rec_at rec_len parents components var_comp bnd_comp bnd_kind bnd_type flow_src flow_dst up_src up_dst read_arr read_res write_arr write_val answers out_comp out_kind out_type work }
+    ensures value { result ≡ bp_solved names name_at name_len rec_flags rec_class rec_at rec_len parents components var_comp bnd_comp bnd_kind bnd_type flow_src flow_dst up_src up_dst read_arr read_res write_arr write_val answers out_comp out_kind out_type work }
+    ensures solve-leaves { SolveLeaves names name_at name_len rec_flags rec_class rec_at rec_len parents components var_comp bnd_comp bnd_kind bnd_type flow_src flow_dst up_src up_dst read_arr read_res write_arr write_val answers out_comp out_kind out_type work }
 {
     let c = solve_slices(
         names, name_at, name_len, rec_flags, rec_class, rec_at, rec_len, parents, components,

@@ -5,10 +5,10 @@ use Rattle.std.proofs.Common.{◌∙◌, true≢false, add-one, drop_of_length-l
 use mathlib.Core.List.{List, [], ◌∷◌, map}
 use Rattle.std.proofs.Math.Option.{Option, some, none}
 use native.Mathlib.Omega.{arith}
-use Rattle.ty.specs.Types.{ArgType, Primitive, Object, Array, Unknown, categories, isKnown, isPrimitive, isReference, is_wide, concreteHint}
+use Rattle.ty.specs.Types.{ArgType, Primitive, Object, Array, Unknown, categories, is_known, is_primitive, is_reference, is_wide, concrete_hint}
 use Rattle.ty.specs.Words.{Legal, type_of}
-use Rattle.lattice.specs.Lattice.{World, sameType, unknownAccepts, isAssignable, producerBoundCompatible, sameRegisterCategory, observedAccepts, anyAccepts, domainAccepts, assignableToAll, lesser, candidate, leastHint}
-use Rattle.lattice.specs.Same.{same_refl, same-words}
+use Rattle.lattice.specs.Lattice.{World, same_type, unknown_accepts, is_assignable, producer_bound_compatible, same_register_category, observed_accepts, any_accepts, domain_accepts, assignable_to_all, lesser, candidate, least_hint}
+use Rattle.lattice.specs.Same.{same-refl, same-words}
 
 never : {P : Type 0} → true ≡ false → P
 never q = absurd (true≢false q)
@@ -16,18 +16,18 @@ never q = absurd (true≢false q)
 -- ---- producer_bound_compatible
 
 module _ (w : World) (t u : ArgType) where
-  pub compatible-references : (isReference t && isReference u) ≡ true → true ≡ producerBoundCompatible w t u
-  unfolding producerBoundCompatible
-  compatible-references h = sym (ap (λ (b : Bool). b || isAssignable w t u) h)
+  pub compatible-references : (is_reference t && is_reference u) ≡ true → true ≡ producer_bound_compatible w t u
+  unfolding producer_bound_compatible
+  compatible-references h = sym (ap (λ (b : Bool). b || is_assignable w t u) h)
 
-  pub compatible-other : (isReference t && isReference u) ≡ false → isAssignable w t u ≡ producerBoundCompatible w t u
-  unfolding producerBoundCompatible
-  compatible-other h = sym (ap (λ (b : Bool). b || isAssignable w t u) h)
+  pub compatible-other : (is_reference t && is_reference u) ≡ false → is_assignable w t u ≡ producer_bound_compatible w t u
+  unfolding producer_bound_compatible
+  compatible-other h = sym (ap (λ (b : Bool). b || is_assignable w t u) h)
 
 -- ---- same_register_category
 
-pub registers-references : (t u : ArgType) → (isReference t && isReference u) ≡ true → true ≡ sameRegisterCategory t u
-unfolding isPrimitive isReference sameRegisterCategory
+pub registers-references : (t u : ArgType) → (is_reference t && is_reference u) ≡ true → true ≡ same_register_category t u
+unfolding is_primitive is_reference same_register_category
 registers-references (Primitive k) u h = never (sym h)
 registers-references (Object c) (Primitive l) h = never (sym h)
 registers-references (Object c) (Object d) h = refl
@@ -39,8 +39,8 @@ registers-references (Array t) (Array u) h = refl
 registers-references (Array t) (Unknown cs) h = never (sym h)
 registers-references (Unknown cs) u h = never (sym h)
 
-registers-primitives : (t u : ArgType) → isPrimitive t ≡ true → isPrimitive u ≡ true → sameRegisterCategory t u ≡ cond (is_wide t) (is_wide u) (not (is_wide u))
-unfolding isPrimitive is_wide sameRegisterCategory
+registers-primitives : (t u : ArgType) → is_primitive t ≡ true → is_primitive u ≡ true → same_register_category t u ≡ cond (is_wide t) (is_wide u) (not (is_wide u))
+unfolding is_primitive is_wide same_register_category
 registers-primitives (Primitive k) (Primitive l) g h = refl
 registers-primitives (Primitive k) (Object d) g h = never (sym h)
 registers-primitives (Primitive k) (Array u) g h = never (sym h)
@@ -49,15 +49,15 @@ registers-primitives (Object c) u g h = never (sym g)
 registers-primitives (Array t) u g h = never (sym g)
 registers-primitives (Unknown cs) u g h = never (sym g)
 
-module _ (t u : ArgType) (g : isPrimitive t ≡ true) (h : isPrimitive u ≡ true) where
-  pub registers-wide : is_wide t ≡ true → is_wide u ≡ sameRegisterCategory t u
+module _ (t u : ArgType) (g : is_primitive t ≡ true) (h : is_primitive u ≡ true) where
+  pub registers-wide : is_wide t ≡ true → is_wide u ≡ same_register_category t u
   registers-wide e = sym (registers-primitives t u g h ∙ ap (λ (b : Bool). cond b (is_wide u) (not (is_wide u))) e)
 
-  pub registers-narrow : is_wide t ≡ false → not (is_wide u) ≡ sameRegisterCategory t u
+  pub registers-narrow : is_wide t ≡ false → not (is_wide u) ≡ same_register_category t u
   registers-narrow e = sym (registers-primitives t u g h ∙ ap (λ (b : Bool). cond b (is_wide u) (not (is_wide u))) e)
 
-pub registers-left : (t u : ArgType) → isPrimitive t ≡ true → isPrimitive u ≡ false → false ≡ sameRegisterCategory t u
-unfolding isPrimitive isReference sameRegisterCategory
+pub registers-left : (t u : ArgType) → is_primitive t ≡ true → is_primitive u ≡ false → false ≡ same_register_category t u
+unfolding is_primitive is_reference same_register_category
 registers-left (Primitive k) (Primitive l) g h = never h
 registers-left (Primitive k) (Object d) g h = refl
 registers-left (Primitive k) (Array u) g h = refl
@@ -66,8 +66,8 @@ registers-left (Object c) u g h = never (sym g)
 registers-left (Array t) u g h = never (sym g)
 registers-left (Unknown cs) u g h = never (sym g)
 
-pub registers-other : (t u : ArgType) → isPrimitive t ≡ false → (isReference t && isReference u) ≡ false → false ≡ sameRegisterCategory t u
-unfolding isPrimitive isReference sameRegisterCategory
+pub registers-other : (t u : ArgType) → is_primitive t ≡ false → (is_reference t && is_reference u) ≡ false → false ≡ same_register_category t u
+unfolding is_primitive is_reference same_register_category
 registers-other (Primitive k) u g h = never g
 registers-other (Object c) (Primitive l) g h = refl
 registers-other (Object c) (Object d) g h = never h
@@ -81,102 +81,102 @@ registers-other (Unknown cs) u g h = refl
 
 -- ---- domain_accepts
 
-observed-known : (t u : ArgType) → isKnown t ≡ true → observedAccepts t u ≡ (sameType t u || sameRegisterCategory t u)
-unfolding isKnown observedAccepts
+observed-known : (t u : ArgType) → is_known t ≡ true → observed_accepts t u ≡ (same_type t u || same_register_category t u)
+unfolding is_known observed_accepts
 observed-known (Primitive k) u h = refl
 observed-known (Object c) u h = refl
 observed-known (Array t) u h = refl
 observed-known (Unknown cs) u h = never (sym h)
 
-module _ (v e : ℕ) (g : isKnown (type_of v) ≡ true) where
-  pub observed-equal : v ≡ e → true ≡ observedAccepts (type_of v) (type_of e)
+module _ (v e : ℕ) (g : is_known (type_of v) ≡ true) where
+  pub observed-equal : v ≡ e → true ≡ observed_accepts (type_of v) (type_of e)
   observed-equal q =
       sym (observed-known (type_of v) (type_of e) g
-      ∙ ap (λ (b : Bool). b || sameRegisterCategory (type_of v) (type_of e)) (ap (λ (x : ℕ). sameType (type_of v) (type_of x)) (sym q) ∙ same_refl (type_of v)))
+      ∙ ap (λ (b : Bool). b || same_register_category (type_of v) (type_of e)) (ap (λ (x : ℕ). same_type (type_of v) (type_of x)) (sym q) ∙ same-refl (type_of v)))
 
-  pub observed-other : Legal v → Legal e → (v ≡ e → ⊥) → sameRegisterCategory (type_of v) (type_of e) ≡ observedAccepts (type_of v) (type_of e)
+  pub observed-other : Legal v → Legal e → (v ≡ e → ⊥) → same_register_category (type_of v) (type_of e) ≡ observed_accepts (type_of v) (type_of e)
   observed-other k l q =
       sym (observed-known (type_of v) (type_of e) g
-      ∙ ap (λ (b : Bool). b || sameRegisterCategory (type_of v) (type_of e)) (sym (same-words 1024 v e k l) ∙ ne_eqb v e q))
+      ∙ ap (λ (b : Bool). b || same_register_category (type_of v) (type_of e)) (sym (same-words 1024 v e k l) ∙ ne_eqb v e q))
 
-pub observed-unknown : (t u : ArgType) → isKnown t ≡ false → unknownAccepts (categories t) u ≡ observedAccepts t u
-unfolding isKnown categories observedAccepts
+pub observed-unknown : (t u : ArgType) → is_known t ≡ false → unknown_accepts (categories t) u ≡ observed_accepts t u
+unfolding is_known categories observed_accepts
 observed-unknown (Primitive k) u h = never h
 observed-unknown (Object c) u h = never h
 observed-unknown (Array t) u h = never h
 observed-unknown (Unknown cs) u h = refl
 
-pub domain-none : (ws : List ℕ) (u : ArgType) → length ws ≡ 0 → true ≡ domainAccepts (map type_of ws) u
-unfolding domainAccepts
+pub domain-none : (ws : List ℕ) (u : ArgType) → length ws ≡ 0 → true ≡ domain_accepts (map type_of ws) u
+unfolding domain_accepts
 domain-none [] u h = refl
 domain-none (x ∷ ws) u h = absurd (omega arith)
 
-pub domain-some : (ws : List ℕ) (u : ArgType) → (length ws ≡ 0 → ⊥) → anyAccepts (map type_of ws) u ≡ domainAccepts (map type_of ws) u
-unfolding domainAccepts
+pub domain-some : (ws : List ℕ) (u : ArgType) → (length ws ≡ 0 → ⊥) → any_accepts (map type_of ws) u ≡ domain_accepts (map type_of ws) u
+unfolding domain_accepts
 domain-some [] u h = absurd (h refl)
 domain-some (x ∷ ws) u h = refl
 
 -- ---- a list of words from a place on
 
 -- the types of the words from the place i on
-abbrev pub typesFrom : ℕ → List ℕ → List ArgType
-typesFrom i ws = map type_of (drop i ws)
+abbrev pub types_from : ℕ → List ℕ → List ArgType
+types_from i ws = map type_of (drop i ws)
 
 module _ (ws : List ℕ) (i : ℕ) where
-  types-step : i < length ws → typesFrom i ws ≡ type_of (get_or ws i 0) ∷ typesFrom (i + 1) ws
+  types-step : i < length ws → types_from i ws ≡ type_of (get_or ws i 0) ∷ types_from (i + 1) ws
   types-step h =
       ap (map type_of) (drop-cons ws i 0 h) ∙ ap (λ (k : ℕ). type_of (get_or ws i 0) ∷ map type_of (drop k ws)) (sym (add-one i))
 
-  pub types-end : length ws ≤ i → typesFrom i ws ≡ []
+  pub types-end : length ws ≤ i → types_from i ws ≡ []
   types-end h = ap (map type_of) (drop_of_length-le ws h)
 
   -- the types from the place before on
-  pub types-before : 0 < i → i ≤ length ws → typesFrom (i - 1) ws ≡ type_of (get_or ws (i - 1) 0) ∷ typesFrom i ws
+  pub types-before : 0 < i → i ≤ length ws → types_from (i - 1) ws ≡ type_of (get_or ws (i - 1) 0) ∷ types_from i ws
   types-before g h =
       ap (map type_of) (drop-cons ws (i - 1) 0 (omega arith))
       ∙ ap (λ (k : ℕ). type_of (get_or ws (i - 1) 0) ∷ map type_of (drop k ws)) (let q : suc (i - 1) ≡ i = omega arith in q)
 
-  pub any_here : (u : ArgType) → i < length ws → observedAccepts (type_of (get_or ws i 0)) u ≡ true → anyAccepts (typesFrom i ws) u ≡ true
-  unfolding anyAccepts
-  any_here u h e = ap (λ (ts : List ArgType). anyAccepts ts u) (types-step h) ∙ ap (λ (b : Bool). b || anyAccepts (typesFrom (i + 1) ws) u) e
+  pub any-here : (u : ArgType) → i < length ws → observed_accepts (type_of (get_or ws i 0)) u ≡ true → any_accepts (types_from i ws) u ≡ true
+  unfolding any_accepts
+  any-here u h e = ap (λ (ts : List ArgType). any_accepts ts u) (types-step h) ∙ ap (λ (b : Bool). b || any_accepts (types_from (i + 1) ws) u) e
 
-  pub any-later : (u : ArgType) → i < length ws → observedAccepts (type_of (get_or ws i 0)) u ≡ false → anyAccepts (typesFrom i ws) u ≡ anyAccepts (typesFrom (i + 1) ws) u
-  unfolding anyAccepts
-  any-later u h e = ap (λ (ts : List ArgType). anyAccepts ts u) (types-step h) ∙ ap (λ (b : Bool). b || anyAccepts (typesFrom (i + 1) ws) u) e
+  pub any-later : (u : ArgType) → i < length ws → observed_accepts (type_of (get_or ws i 0)) u ≡ false → any_accepts (types_from i ws) u ≡ any_accepts (types_from (i + 1) ws) u
+  unfolding any_accepts
+  any-later u h e = ap (λ (ts : List ArgType). any_accepts ts u) (types-step h) ∙ ap (λ (b : Bool). b || any_accepts (types_from (i + 1) ws) u) e
 
-  pub any-end : (u : ArgType) → length ws ≤ i → anyAccepts (typesFrom i ws) u ≡ false
-  unfolding anyAccepts
-  any-end u h = ap (λ (ts : List ArgType). anyAccepts ts u) (types-end h)
+  pub any-end : (u : ArgType) → length ws ≤ i → any_accepts (types_from i ws) u ≡ false
+  unfolding any_accepts
+  any-end u h = ap (λ (ts : List ArgType). any_accepts ts u) (types-end h)
 
-  pub all-later : (w : World) (t : ArgType) → i < length ws → isAssignable w t (type_of (get_or ws i 0)) ≡ true → assignableToAll w t (typesFrom i ws) ≡ assignableToAll w t (typesFrom (i + 1) ws)
-  unfolding assignableToAll
-  all-later w t h e = ap (assignableToAll w t) (types-step h) ∙ ap (λ (b : Bool). b && assignableToAll w t (typesFrom (i + 1) ws)) e
+  pub all-later : (w : World) (t : ArgType) → i < length ws → is_assignable w t (type_of (get_or ws i 0)) ≡ true → assignable_to_all w t (types_from i ws) ≡ assignable_to_all w t (types_from (i + 1) ws)
+  unfolding assignable_to_all
+  all-later w t h e = ap (assignable_to_all w t) (types-step h) ∙ ap (λ (b : Bool). b && assignable_to_all w t (types_from (i + 1) ws)) e
 
-  pub all-not : (w : World) (t : ArgType) → i < length ws → isAssignable w t (type_of (get_or ws i 0)) ≡ false → assignableToAll w t (typesFrom i ws) ≡ false
-  unfolding assignableToAll
-  all-not w t h e = ap (assignableToAll w t) (types-step h) ∙ ap (λ (b : Bool). b && assignableToAll w t (typesFrom (i + 1) ws)) e
+  pub all-not : (w : World) (t : ArgType) → i < length ws → is_assignable w t (type_of (get_or ws i 0)) ≡ false → assignable_to_all w t (types_from i ws) ≡ false
+  unfolding assignable_to_all
+  all-not w t h e = ap (assignable_to_all w t) (types-step h) ∙ ap (λ (b : Bool). b && assignable_to_all w t (types_from (i + 1) ws)) e
 
-  pub all_end : (w : World) (t : ArgType) → length ws ≤ i → assignableToAll w t (typesFrom i ws) ≡ true
-  unfolding assignableToAll
-  all_end w t h = ap (assignableToAll w t) (types-end h)
+  pub all-end : (w : World) (t : ArgType) → length ws ≤ i → assignable_to_all w t (types_from i ws) ≡ true
+  unfolding assignable_to_all
+  all-end w t h = ap (assignable_to_all w t) (types-end h)
 
 -- ---- most_specific_upper
 
 module _ (w : World) (upper : List ArgType) (ws : List ℕ) (i : ℕ) where
-  pub least-end : length ws ≤ i → leastHint w upper (typesFrom i ws) ≡ none
-  unfolding leastHint
-  least-end h = ap (leastHint w upper) (types-end ws i h)
+  pub least-end : length ws ≤ i → least_hint w upper (types_from i ws) ≡ none
+  unfolding least_hint
+  least-end h = ap (least_hint w upper) (types-end ws i h)
 
   -- the bound before the place i
-  pub least_step : 0 < i → i ≤ length ws
-      → leastHint w upper (typesFrom (i - 1) ws) ≡ candidate w upper (concreteHint w.object (type_of (get_or ws (i - 1) 0))) (leastHint w upper (typesFrom i ws))
-  unfolding leastHint
-  least_step g h =
-      ap (leastHint w upper) (types-step ws (i - 1) (omega arith))
-      ∙ ap (λ (k : ℕ). candidate w upper (concreteHint w.object (type_of (get_or ws (i - 1) 0))) (leastHint w upper (typesFrom k ws))) (let q : i - 1 + 1 ≡ i = omega arith in q)
+  pub least-step : 0 < i → i ≤ length ws
+      → least_hint w upper (types_from (i - 1) ws) ≡ candidate w upper (concrete_hint w.object (type_of (get_or ws (i - 1) 0))) (least_hint w upper (types_from i ws))
+  unfolding least_hint
+  least-step g h =
+      ap (least_hint w upper) (types-step ws (i - 1) (omega arith))
+      ∙ ap (λ (k : ℕ). candidate w upper (concrete_hint w.object (type_of (get_or ws (i - 1) 0))) (least_hint w upper (types_from k ws))) (let q : i - 1 + 1 ≡ i = omega arith in q)
 
-pub candidate-yes : (w : World) (upper : List ArgType) (t : ArgType) (rest : Option ArgType) → assignableToAll w t upper ≡ true → candidate w upper (some t) rest ≡ lesser t rest
+pub candidate-yes : (w : World) (upper : List ArgType) (t : ArgType) (rest : Option ArgType) → assignable_to_all w t upper ≡ true → candidate w upper (some t) rest ≡ lesser t rest
 candidate-yes w upper t rest e = ap (λ (b : Bool). cond b (lesser t rest) rest) e
 
-pub candidate-no : (w : World) (upper : List ArgType) (t : ArgType) (rest : Option ArgType) → assignableToAll w t upper ≡ false → candidate w upper (some t) rest ≡ rest
+pub candidate-no : (w : World) (upper : List ArgType) (t : ArgType) (rest : Option ArgType) → assignable_to_all w t upper ≡ false → candidate w upper (some t) rest ≡ rest
 candidate-no w upper t rest e = ap (λ (b : Bool). cond b (lesser t rest) rest) e

@@ -2,14 +2,14 @@
 // was observed accepts it, whether it is assignable to every upper bound, and which upper bound is the most specific.
 ghost use Rattle.std.specs.Prelude.{◌≡◌, true, false, cond, ◌&&◌, map, ◌<◌};
 ghost use Rattle.std.proofs.Math.Option.{some};
-ghost use Rattle.tables.specs.Table.{namesRoom};
+ghost use Rattle.tables.specs.Table.{names_room};
 ghost use Rattle.prepared.specs.Prepared.{Prepared};
-ghost use Rattle.ty.specs.Types.{isReference, concreteHint};
+ghost use Rattle.ty.specs.Types.{is_reference, concrete_hint};
 ghost use Rattle.ty.specs.Words.{Legal, tag_of, type_of};
-ghost use Rattle.ty.specs.Answers.{maybeWord};
-ghost use Rattle.lattice.specs.Lattice.{producerBoundCompatible, sameRegisterCategory, observedAccepts, anyAccepts, domainAccepts, assignableToAll, lesser, candidate, mostSpecificUpper};
-ghost use Rattle.lattice.specs.World.{worldOf};
-ghost use Rattle.candidates.specs.Maybe.{AllLegal, LegalMaybe, maybeType};
+ghost use Rattle.ty.specs.Answers.{maybe_word};
+ghost use Rattle.lattice.specs.Lattice.{producer_bound_compatible, same_register_category, observed_accepts, any_accepts, domain_accepts, assignable_to_all, lesser, candidate, most_specific_upper};
+ghost use Rattle.lattice.specs.World.{world_of};
+ghost use Rattle.candidates.specs.Maybe.{AllLegal, LegalMaybe, maybe_type};
 ghost use Rattle.candidates.specs.Groups.{head_of, ClassAt, Stands, Grouped, Adds, Takes, BestIs};
 
 use assignable::{is_assignable, not_no, unknown_accepts};
@@ -22,7 +22,7 @@ use ty::{MaybeType, TAG, TypeWord};
 const MANY: usize = 4;
 
 fn are_references(left: TypeWord, right: TypeWord) -> bool
-    ensures { result ≡ (isReference (type_of left.word) && isReference (type_of right.word)) }
+    ensures { result ≡ (is_reference (type_of left.word) && is_reference (type_of right.word)) }
 {
     if left.is_reference() {
         return right.is_reference();
@@ -39,7 +39,7 @@ pub fn producer_bound_compatible(
     expected: TypeWord,
 ) -> bool
     requires { Prepared pairs.now marks.now t × Legal produced.word × Legal expected.word }
-    ensures { result ≡ producerBoundCompatible (worldOf pairs.now marks.now t) (type_of produced.word) (type_of expected.word) }
+    ensures { result ≡ producer_bound_compatible (world_of pairs.now marks.now t) (type_of produced.word) (type_of expected.word) }
 {
     if are_references(produced, expected) {
         return true;
@@ -49,7 +49,7 @@ pub fn producer_bound_compatible(
 
 // Whether two known types take the same kind of register: two references, or two primitives that are both wide or both not.
 fn same_register_category(left: TypeWord, right: TypeWord) -> bool
-    ensures { result ≡ sameRegisterCategory (type_of left.word) (type_of right.word) }
+    ensures { result ≡ same_register_category (type_of left.word) (type_of right.word) }
 {
     if are_references(left, right) {
         return true;
@@ -69,7 +69,7 @@ fn same_register_category(left: TypeWord, right: TypeWord) -> bool
 // Whether a type that was observed accepts a candidate.
 fn observed_accepts(observed: TypeWord, candidate: TypeWord) -> bool
     requires { Legal observed.word × Legal candidate.word }
-    ensures { result ≡ observedAccepts (type_of observed.word) (type_of candidate.word) }
+    ensures { result ≡ observed_accepts (type_of observed.word) (type_of candidate.word) }
 {
     if observed.is_known() {
         if observed.word == candidate.word {
@@ -83,7 +83,7 @@ fn observed_accepts(observed: TypeWord, candidate: TypeWord) -> bool
 // Whether one of the observed types accepts it.
 fn any_accepts(domain: &[u64], candidate: TypeWord) -> bool
     requires { AllLegal domain.now × Legal candidate.word }
-    ensures { result ≡ anyAccepts (map type_of domain.now) (type_of candidate.word) }
+    ensures { result ≡ any_accepts (map type_of domain.now) (type_of candidate.word) }
 {
     let mut i: usize = 0;
     while i < domain.len() {
@@ -99,7 +99,7 @@ fn any_accepts(domain: &[u64], candidate: TypeWord) -> bool
 // Whether the observed types accept a candidate: one of them does, or there is none.
 pub fn domain_accepts(domain: &[u64], candidate: TypeWord) -> bool
     requires { AllLegal domain.now × Legal candidate.word }
-    ensures { result ≡ domainAccepts (map type_of domain.now) (type_of candidate.word) }
+    ensures { result ≡ domain_accepts (map type_of domain.now) (type_of candidate.word) }
 {
     if domain.len() == 0 {
         return true;
@@ -116,7 +116,7 @@ fn is_assignable_to_each(
     upper: &[u64],
 ) -> bool
     requires { Prepared pairs.now marks.now t × Legal candidate.word × AllLegal upper.now }
-    ensures { result ≡ assignableToAll (worldOf pairs.now marks.now t) (type_of candidate.word) (map type_of upper.now) }
+    ensures { result ≡ assignable_to_all (world_of pairs.now marks.now t) (type_of candidate.word) (map type_of upper.now) }
 {
     let mut i = upper.len();
     while 0 < i {
@@ -135,7 +135,7 @@ fn is_assignable_to_each(
 // the answer about that one is the answer about all.
 fn stands_for_all(pairs: &[u64], marks: &[u64], t: Tables, class: u64, s: Set) -> bool
     requires { Prepared pairs.now marks.now t }
-    ensures { Stands (worldOf pairs.now marks.now t) class s.words result }
+    ensures { Stands (world_of pairs.now marks.now t) class s.words result }
 {
     let others = s.without(class);
     let left = others.without(t.object);
@@ -169,7 +169,7 @@ fn with_other(
     other: TypeWord,
 ) -> Group
     requires { Prepared pairs.now marks.now t × ClassAt g.head candidate.word × Legal other.word }
-    ensures { (result.head ≡ g.head) × Adds (worldOf pairs.now marks.now t) g.head g.classes.words other.word result.rest result.classes.words }
+    ensures { (result.head ≡ g.head) × Adds (world_of pairs.now marks.now t) g.head g.classes.words other.word result.rest result.classes.words }
 {
     let head = g.head;
     let classes = g.classes;
@@ -191,7 +191,7 @@ fn with_other(
 // The group of a candidate's head. Where one of the others refuses it, the rest is not looked at.
 fn group_of(pairs: &[u64], marks: &[u64], t: Tables, candidate: TypeWord, upper: &[u64]) -> Group
     requires { Prepared pairs.now marks.now t × Legal candidate.word × (tag_of candidate.word ≡ 1) × AllLegal upper.now }
-    ensures { (result.head ≡ head_of candidate.word) × Grouped (worldOf pairs.now marks.now t) (map type_of upper.now) result.head result.rest result.classes.words }
+    ensures { (result.head ≡ head_of candidate.word) × Grouped (world_of pairs.now marks.now t) (map type_of upper.now) result.head result.rest result.classes.words }
 {
     let mut g = Group {
         head: candidate.word / TAG,
@@ -215,7 +215,7 @@ fn group_of(pairs: &[u64], marks: &[u64], t: Tables, candidate: TypeWord, upper:
 // Whether the bounds of a group take a class of its head.
 fn takes(pairs: &[u64], marks: &[u64], t: Tables, g: Group, candidate: TypeWord) -> bool
     requires { Prepared pairs.now marks.now t × ClassAt g.head candidate.word }
-    ensures { Takes (worldOf pairs.now marks.now t) g.head g.rest g.classes.words candidate.word result }
+    ensures { Takes (world_of pairs.now marks.now t) g.head g.rest g.classes.words candidate.word result }
 {
     if g.rest {
         return stands_for_all(pairs, marks, t, candidate.load(), g.classes);
@@ -232,7 +232,7 @@ pub fn is_assignable_to_all(
     upper: &[u64],
 ) -> bool
     requires { Prepared pairs.now marks.now t × Legal candidate.word × AllLegal upper.now }
-    ensures { result ≡ assignableToAll (worldOf pairs.now marks.now t) (type_of candidate.word) (map type_of upper.now) }
+    ensures { result ≡ assignable_to_all (world_of pairs.now marks.now t) (type_of candidate.word) (map type_of upper.now) }
 {
     if MANY <= upper.len() {
         if candidate.tag() == 1 {
@@ -247,7 +247,7 @@ pub fn is_assignable_to_all(
 // The lesser of two types in the order of types.
 fn lesser_of(t: TypeWord, u: TypeWord) -> MaybeType
     requires { Legal t.word × Legal u.word }
-    ensures { LegalMaybe result × (maybeType result ≡ lesser (type_of t.word) (some (type_of u.word))) }
+    ensures { LegalMaybe result × (maybe_type result ≡ lesser (type_of t.word) (some (type_of u.word))) }
 {
     match keys::compare_types(t, u) {
         Order::Less => MaybeType::Is(t),
@@ -259,7 +259,7 @@ fn lesser_of(t: TypeWord, u: TypeWord) -> MaybeType
 // The lesser of a type and the best so far, if there is one.
 fn lesser(t: TypeWord, best: MaybeType) -> MaybeType
     requires { Legal t.word × LegalMaybe best }
-    ensures { LegalMaybe result × (maybeType result ≡ lesser (type_of t.word) (maybeType best)) }
+    ensures { LegalMaybe result × (maybe_type result ≡ lesser (type_of t.word) (maybe_type best)) }
 {
     match best {
         MaybeType::Is(u) => lesser_of(t, u),
@@ -270,7 +270,7 @@ fn lesser(t: TypeWord, best: MaybeType) -> MaybeType
 // The lesser of a hint and the best so far, where the hint counts.
 fn lesser_if(taken: bool, hint: TypeWord, best: MaybeType) -> MaybeType
     requires { Legal hint.word × LegalMaybe best }
-    ensures { LegalMaybe result × (maybeType result ≡ cond taken (lesser (type_of hint.word) (maybeType best)) (maybeType best)) }
+    ensures { LegalMaybe result × (maybe_type result ≡ cond taken (lesser (type_of hint.word) (maybe_type best)) (maybe_type best)) }
 {
     if taken {
         return lesser(hint, best);
@@ -288,7 +288,7 @@ fn with_hint(
     best: MaybeType,
 ) -> MaybeType
     requires { Prepared pairs.now marks.now t × AllLegal upper.now × Legal hint.word × LegalMaybe best }
-    ensures { LegalMaybe result × (maybeType result ≡ candidate (worldOf pairs.now marks.now t) (map type_of upper.now) (some (type_of hint.word)) (maybeType best)) }
+    ensures { LegalMaybe result × (maybe_type result ≡ candidate (world_of pairs.now marks.now t) (map type_of upper.now) (some (type_of hint.word)) (maybe_type best)) }
 {
     let taken = is_assignable_to_each(pairs, marks, t, hint, upper);
     lesser_if(taken, hint, best)
@@ -303,8 +303,8 @@ fn with_bound(
     bound: TypeWord,
     best: MaybeType,
 ) -> MaybeType
-    requires { Prepared pairs.now marks.now t × (t.object < namesRoom) × AllLegal upper.now × Legal bound.word × LegalMaybe best }
-    ensures { LegalMaybe result × (maybeType result ≡ candidate (worldOf pairs.now marks.now t) (map type_of upper.now) (concreteHint t.object (type_of bound.word)) (maybeType best)) }
+    requires { Prepared pairs.now marks.now t × (t.object < names_room) × AllLegal upper.now × Legal bound.word × LegalMaybe best }
+    ensures { LegalMaybe result × (maybe_type result ≡ candidate (world_of pairs.now marks.now t) (map type_of upper.now) (concrete_hint t.object (type_of bound.word)) (maybe_type best)) }
 {
     let object = t.object;
     match bound.concrete_hint(object) {
@@ -315,8 +315,8 @@ fn with_bound(
 
 // The least hint of an upper bound that is assignable to all of them, from the last bound to the first: every two are compared.
 fn least_of_few(pairs: &[u64], marks: &[u64], t: Tables, upper: &[u64]) -> MaybeType
-    requires { Prepared pairs.now marks.now t × (t.object < namesRoom) × AllLegal upper.now }
-    ensures { result ≡ maybeWord (mostSpecificUpper (worldOf pairs.now marks.now t) (map type_of upper.now)) }
+    requires { Prepared pairs.now marks.now t × (t.object < names_room) × AllLegal upper.now }
+    ensures { result ≡ maybe_word (most_specific_upper (world_of pairs.now marks.now t) (map type_of upper.now)) }
 {
     let mut best = MaybeType::Nothing;
     let mut i = upper.len();
@@ -344,8 +344,8 @@ fn group_for(
     hint: TypeWord,
     g: Group,
 ) -> Group
-    requires { Prepared pairs.now marks.now t × AllLegal upper.now × Legal hint.word × (tag_of hint.word ≡ 1) × Grouped (worldOf pairs.now marks.now t) (map type_of upper.now) g.head g.rest g.classes.words }
-    ensures { (result.head ≡ head_of hint.word) × Grouped (worldOf pairs.now marks.now t) (map type_of upper.now) result.head result.rest result.classes.words }
+    requires { Prepared pairs.now marks.now t × AllLegal upper.now × Legal hint.word × (tag_of hint.word ≡ 1) × Grouped (world_of pairs.now marks.now t) (map type_of upper.now) g.head g.rest g.classes.words }
+    ensures { (result.head ≡ head_of hint.word) × Grouped (world_of pairs.now marks.now t) (map type_of upper.now) result.head result.rest result.classes.words }
 {
     if hint.word / TAG == g.head {
         return g;
@@ -362,8 +362,8 @@ fn with_class_hint(
     hint: TypeWord,
     b: Best,
 ) -> Best
-    requires { Prepared pairs.now marks.now t × AllLegal upper.now × Legal hint.word × (tag_of hint.word ≡ 1) × BestIs (worldOf pairs.now marks.now t) (map type_of upper.now) b (maybeType b.best) }
-    ensures { BestIs (worldOf pairs.now marks.now t) (map type_of upper.now) result (candidate (worldOf pairs.now marks.now t) (map type_of upper.now) (some (type_of hint.word)) (maybeType b.best)) }
+    requires { Prepared pairs.now marks.now t × AllLegal upper.now × Legal hint.word × (tag_of hint.word ≡ 1) × BestIs (world_of pairs.now marks.now t) (map type_of upper.now) b (maybe_type b.best) }
+    ensures { BestIs (world_of pairs.now marks.now t) (map type_of upper.now) result (candidate (world_of pairs.now marks.now t) (map type_of upper.now) (some (type_of hint.word)) (maybe_type b.best)) }
 {
     let best = b.best;
     let g = group_for(pairs, marks, t, upper, hint, b.group);
@@ -383,8 +383,8 @@ fn with_any_hint(
     hint: TypeWord,
     b: Best,
 ) -> Best
-    requires { Prepared pairs.now marks.now t × AllLegal upper.now × Legal hint.word × BestIs (worldOf pairs.now marks.now t) (map type_of upper.now) b (maybeType b.best) }
-    ensures { BestIs (worldOf pairs.now marks.now t) (map type_of upper.now) result (candidate (worldOf pairs.now marks.now t) (map type_of upper.now) (some (type_of hint.word)) (maybeType b.best)) }
+    requires { Prepared pairs.now marks.now t × AllLegal upper.now × Legal hint.word × BestIs (world_of pairs.now marks.now t) (map type_of upper.now) b (maybe_type b.best) }
+    ensures { BestIs (world_of pairs.now marks.now t) (map type_of upper.now) result (candidate (world_of pairs.now marks.now t) (map type_of upper.now) (some (type_of hint.word)) (maybe_type b.best)) }
 {
     if hint.tag() == 1 {
         return with_class_hint(pairs, marks, t, upper, hint, b);
@@ -406,8 +406,8 @@ fn with_any_bound(
     bound: TypeWord,
     b: Best,
 ) -> Best
-    requires { Prepared pairs.now marks.now t × (t.object < namesRoom) × AllLegal upper.now × Legal bound.word × BestIs (worldOf pairs.now marks.now t) (map type_of upper.now) b (maybeType b.best) }
-    ensures { BestIs (worldOf pairs.now marks.now t) (map type_of upper.now) result (candidate (worldOf pairs.now marks.now t) (map type_of upper.now) (concreteHint t.object (type_of bound.word)) (maybeType b.best)) }
+    requires { Prepared pairs.now marks.now t × (t.object < names_room) × AllLegal upper.now × Legal bound.word × BestIs (world_of pairs.now marks.now t) (map type_of upper.now) b (maybe_type b.best) }
+    ensures { BestIs (world_of pairs.now marks.now t) (map type_of upper.now) result (candidate (world_of pairs.now marks.now t) (map type_of upper.now) (concrete_hint t.object (type_of bound.word)) (maybe_type b.best)) }
 {
     let object = t.object;
     match bound.concrete_hint(object) {
@@ -418,8 +418,8 @@ fn with_any_bound(
 
 // The same as of few; no word has the head 0 and a class.
 fn least_of_many(pairs: &[u64], marks: &[u64], t: Tables, upper: &[u64]) -> MaybeType
-    requires { Prepared pairs.now marks.now t × (t.object < namesRoom) × AllLegal upper.now }
-    ensures { result ≡ maybeWord (mostSpecificUpper (worldOf pairs.now marks.now t) (map type_of upper.now)) }
+    requires { Prepared pairs.now marks.now t × (t.object < names_room) × AllLegal upper.now }
+    ensures { result ≡ maybe_word (most_specific_upper (world_of pairs.now marks.now t) (map type_of upper.now)) }
 {
     let mut b = Best {
         best: MaybeType::Nothing,
@@ -440,8 +440,8 @@ fn least_of_many(pairs: &[u64], marks: &[u64], t: Tables, upper: &[u64]) -> Mayb
 
 // The least hint of an upper bound that is assignable to all of them.
 pub fn most_specific_upper(pairs: &[u64], marks: &[u64], t: Tables, upper: &[u64]) -> MaybeType
-    requires { Prepared pairs.now marks.now t × (t.object < namesRoom) × AllLegal upper.now }
-    ensures { result ≡ maybeWord (mostSpecificUpper (worldOf pairs.now marks.now t) (map type_of upper.now)) }
+    requires { Prepared pairs.now marks.now t × (t.object < names_room) × AllLegal upper.now }
+    ensures { result ≡ maybe_word (most_specific_upper (world_of pairs.now marks.now t) (map type_of upper.now)) }
 {
     if MANY <= upper.len() {
         return least_of_many(pairs, marks, t, upper);

@@ -10,9 +10,9 @@ use Rattle.order.specs.Truth.{both}
 pub data Check : Type 0 where
   check : Bool → ℕ → Check
 
-unfoldable pub firstRefusal : List Check → ℕ
-firstRefusal [] = 0
-firstRefusal (check c k ∷ rest) = cond c k (firstRefusal rest)
+unfoldable pub first_refusal : List Check → ℕ
+first_refusal [] = 0
+first_refusal (check c k ∷ rest) = cond c k (first_refusal rest)
 
 -- of two chains one after the other: the refusal of the first one, or the second's where the first refuses nothing
 abbrev pub or_else : ℕ → ℕ → ℕ
@@ -43,32 +43,32 @@ pub else-zero : (k r : ℕ) → (or_else k r ≡ 0) ↔ ((k ≡ 0) × (r ≡ 0))
 else-zero zero r = (λ h. (refl, h), λ h. h.1)
 else-zero (suc k) r = (λ h. absurd (omega arith), λ h. h.0)
 
-pub first-hit : (c : Bool) (k : ℕ) (rest : List Check) → c ≡ true → firstRefusal (check c k ∷ rest) ≡ k
-unfolding firstRefusal
+pub first-hit : (c : Bool) (k : ℕ) (rest : List Check) → c ≡ true → first_refusal (check c k ∷ rest) ≡ k
+unfolding first_refusal
 first-hit c k rest h = rw h
 
-pub first-miss : (c : Bool) (k : ℕ) (rest : List Check) → c ≡ false → firstRefusal (check c k ∷ rest) ≡ firstRefusal rest
-unfolding firstRefusal
+pub first-miss : (c : Bool) (k : ℕ) (rest : List Check) → c ≡ false → first_refusal (check c k ∷ rest) ≡ first_refusal rest
+unfolding first_refusal
 first-miss c k rest h = rw h
 
 -- checks that do not hold say nothing
-pub first_past : (before rest : List Check) → quiet before ≡ true → firstRefusal (before ++ rest) ≡ firstRefusal rest
-unfolding firstRefusal quiet
-first_past [] rest q = refl
-first_past (check true k ∷ before) rest q = absurd (false≢true q)
-first_past (check false k ∷ before) rest q = first_past before rest q
+pub first-past : (before rest : List Check) → quiet before ≡ true → first_refusal (before ++ rest) ≡ first_refusal rest
+unfolding first_refusal quiet
+first-past [] rest q = refl
+first-past (check true k ∷ before) rest q = absurd (false≢true q)
+first-past (check false k ∷ before) rest q = first-past before rest q
 
 -- what comes back is the number of a check of the list, or 0
-first-free : (n : ℕ) (l : List Check) → (n ≡ 0 → ⊥) → free n l ≡ true → firstRefusal l ≡ n → ⊥
-unfolding firstRefusal free
+first-free : (n : ℕ) (l : List Check) → (n ≡ 0 → ⊥) → free n l ≡ true → first_refusal l ≡ n → ⊥
+unfolding first_refusal free
 first-free n [] z f h = z (sym h)
 first-free n (check true k ∷ l) z f h = eqb-false k n (not-true (eqb k n) (both (not (eqb k n)) (free n l) f).0) h
 first-free n (check false k ∷ l) z f h = first-free n l z (both (not (eqb k n)) (free n l) f).1 h
 
 first-told : (before : List Check) (c : Bool) (k : ℕ) (after : List Check)
     → (k ≡ 0 → ⊥) → free k before ≡ true → free k after ≡ true
-    → firstRefusal (before ++ check c k ∷ after) ≡ k → (c ≡ true) × (quiet before ≡ true)
-unfolding firstRefusal free quiet
+    → first_refusal (before ++ check c k ∷ after) ≡ k → (c ≡ true) × (quiet before ≡ true)
+unfolding first_refusal free quiet
 first-told [] true k after z f g h = (refl, refl)
 first-told [] false k after z f g h = absurd (first-free k after z g h)
 first-told (check true n ∷ before) c k after z f g h =
@@ -79,10 +79,10 @@ first-told (check false n ∷ before) c k after z f g h =
 -- k comes back exactly if its condition holds and none before it does, k being the number of that one check
 pub first-is : (before : List Check) (c : Bool) (k : ℕ) (after : List Check)
     → (k ≡ 0 → ⊥) → free k before ≡ true → free k after ≡ true
-    → (firstRefusal (before ++ check c k ∷ after) ≡ k) ↔ ((c ≡ true) × (quiet before ≡ true))
+    → (first_refusal (before ++ check c k ∷ after) ≡ k) ↔ ((c ≡ true) × (quiet before ≡ true))
 first-is before c k after z f g = (
   first-told before c k after z f g,
-  λ h. first_past before (check c k ∷ after) h.1 ∙ first-hit c k after h.0,
+  λ h. first-past before (check c k ∷ after) h.1 ∙ first-hit c k after h.0,
 )
 
 -- the same where several checks have one number: k comes back exactly if some check of number k holds and none before it does
@@ -90,25 +90,25 @@ pub record FirstOf (l : List Check) (k : ℕ) : Type 0 where
   pub before : List Check
   pub after : List Check
   pub is : l ≡ before ++ check true k ∷ after
-  pub none_before : quiet before ≡ true
+  pub none-before : quiet before ≡ true
 
-first_found : (l : List Check) (k : ℕ) → (k ≡ 0 → ⊥) → firstRefusal l ≡ k → FirstOf l k
-unfolding firstRefusal quiet
-first_found [] k z h = absurd (z (sym h))
-first_found (check true n ∷ l) k z h = record { before = []; after = l; is = ap (λ (m : ℕ). check true m ∷ l) h; none_before = refl }
-first_found (check false n ∷ l) k z h =
-    let r = first_found l k z h in
-    record { before = check false n ∷ r.before; after = r.after; is = ap (λ (m : List Check). check false n ∷ m) r.is; none_before = r.none_before }
+first-found : (l : List Check) (k : ℕ) → (k ≡ 0 → ⊥) → first_refusal l ≡ k → FirstOf l k
+unfolding first_refusal quiet
+first-found [] k z h = absurd (z (sym h))
+first-found (check true n ∷ l) k z h = record { before = []; after = l; is = ap (λ (m : ℕ). check true m ∷ l) h; none-before = refl }
+first-found (check false n ∷ l) k z h =
+    let r = first-found l k z h in
+    record { before = check false n ∷ r.before; after = r.after; is = ap (λ (m : List Check). check false n ∷ m) r.is; none-before = r.none-before }
 
-pub first_of : (l : List Check) (k : ℕ) → (k ≡ 0 → ⊥) → (firstRefusal l ≡ k) ↔ FirstOf l k
-first_of l k z = (
-  first_found l k z,
-  λ r. ap firstRefusal r.is ∙ first_past r.before (check true k ∷ r.after) r.none_before ∙ first-hit true k r.after refl,
+pub first-of : (l : List Check) (k : ℕ) → (k ≡ 0 → ⊥) → (first_refusal l ≡ k) ↔ FirstOf l k
+first-of l k z = (
+  first-found l k z,
+  λ r. ap first_refusal r.is ∙ first-past r.before (check true k ∷ r.after) r.none-before ∙ first-hit true k r.after refl,
 )
 
 -- nothing is refused exactly if no condition holds, 0 being the number of no check
-pub first-none : (l : List Check) → free 0 l ≡ true → (firstRefusal l ≡ 0) ↔ (quiet l ≡ true)
-unfolding firstRefusal free quiet
+pub first-none : (l : List Check) → free 0 l ≡ true → (first_refusal l ≡ 0) ↔ (quiet l ≡ true)
+unfolding first_refusal free quiet
 first-none [] f = (λ h. refl, λ h. refl)
 first-none (check true k ∷ l) f = (
   λ h. absurd (eqb-false k 0 (not-true (eqb k 0) (both (not (eqb k 0)) (free 0 l) f).0) h),
@@ -117,8 +117,8 @@ first-none (check true k ∷ l) f = (
 first-none (check false k ∷ l) f = first-none l (both (not (eqb k 0)) (free 0 l) f).1
 
 -- the chain of one list after another
-pub first-append : (a b : List Check) → free 0 a ≡ true → firstRefusal (a ++ b) ≡ or_else (firstRefusal a) (firstRefusal b)
-unfolding firstRefusal free
+pub first-append : (a b : List Check) → free 0 a ≡ true → first_refusal (a ++ b) ≡ or_else (first_refusal a) (first_refusal b)
+unfolding first_refusal free
 first-append [] b f = refl
-first-append (check true k ∷ a) b f = sym (else-some k (firstRefusal b) (eqb-false k 0 (not-true (eqb k 0) (both (not (eqb k 0)) (free 0 a) f).0)))
+first-append (check true k ∷ a) b f = sym (else-some k (first_refusal b) (eqb-false k 0 (not-true (eqb k 0) (both (not (eqb k 0)) (free 0 a) f).0)))
 first-append (check false k ∷ a) b f = first-append a b (both (not (eqb k 0)) (free 0 a) f).1

@@ -67,8 +67,8 @@ abbrev pub cleared : List ℕ → ℕ → List ℕ
 cleared w i = replicate i 0 ++ drop i w
 
 -- n words more
-pub cleared_more : (w : List ℕ) (i n : ℕ) → take i (cleared w i) ++ (replicate n 0 ++ drop (i + n) (cleared w i)) ≡ cleared w (i + n)
-cleared_more w i n =
+pub cleared-more : (w : List ℕ) (i n : ℕ) → take i (cleared w i) ++ (replicate n 0 ++ drop (i + n) (cleared w i)) ≡ cleared w (i + n)
+cleared-more w i n =
     let b = length-replicate {A = ℕ} i 0 in
     ap₂ (λ (x y : List ℕ). x ++ (replicate n 0 ++ y)) (take_at (replicate i 0) (drop i w) i b)
     (sym (drop-drop n i (cleared w i)) ∙ ap (drop n) (drop_at (replicate i 0) (drop i w) i b) ∙ drop-drop n i w)
@@ -80,6 +80,6 @@ pub cleared-rest : (w : List ℕ) (i n : ℕ) → i ≤ n → n ≡ length w →
 cleared-rest w i n h e =
     let all : i + (n - i) ≡ n = omega arith in
     ap (λ (m : ℕ). take i (cleared w i) ++ (replicate (n - i) 0 ++ drop m (cleared w i))) (sym all)
-    ∙ cleared_more w i (n - i)
+    ∙ cleared-more w i (n - i)
     ∙ ap₂ (λ (k : ℕ) (x : List ℕ). replicate k 0 ++ x) (all ∙ e) (drop_of_length-le w {i = i + (n - i)} (omega arith))
     ∙ append-nil (replicate (length w) 0)

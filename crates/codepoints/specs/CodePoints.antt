@@ -6,9 +6,9 @@ unfoldable pub is_scalar : ℕ → Bool
 is_scalar c = leb c 0xD7FF || leb 0xE000 c && leb c 0x10FFFF
 
 -- whether all of a list are scalar values
-unfoldable pub areScalars : List ℕ → Bool
-areScalars [] = true
-areScalars (c ∷ cs) = is_scalar c && areScalars cs
+unfoldable pub are_scalars : List ℕ → Bool
+are_scalars [] = true
+are_scalars (c ∷ cs) = is_scalar c && are_scalars cs
 
 -- a byte after the first: the mark 80 and the last six bits of n
 unfoldable pub following : ℕ → ℕ
@@ -23,6 +23,6 @@ encode c =
     ((0xF0 + c / 0x40000) ∷ following (c / 0x1000) ∷ following (c / 0x40) ∷ following c ∷ [])))
 
 -- the code points of a list, one after the other
-unfoldable pub encodeAll : List ℕ → List ℕ
-encodeAll [] = []
-encodeAll (c ∷ cs) = encode c ++ encodeAll cs
+unfoldable pub encode_all : List ℕ → List ℕ
+encode_all [] = []
+encode_all (c ∷ cs) = encode c ++ encode_all cs

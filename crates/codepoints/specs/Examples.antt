@@ -1,7 +1,7 @@
 -- Worked examples by computation: the first and the last code point of each length, those beside the surrogates, and bytes that encode nothing.
 use Rattle.std.specs.Prelude.{◌≡◌, refl, true, false, [], ◌∷◌}
-use Rattle.utf8.specs.Utf8.{table, within, matches, firstMatch, sequence, scan, validPrefix, wellFormed}
-use Rattle.codepoints.specs.CodePoints.{is_scalar, following, encode, encodeAll}
+use Rattle.utf8.specs.Utf8.{table, within, matches, first_match, sequence, scan, valid_prefix, well_formed}
+use Rattle.codepoints.specs.CodePoints.{is_scalar, following, encode, encode_all}
 
 pub encoded :
     (encode 0 ≡ 0 ∷ [])
@@ -18,8 +18,8 @@ unfolding encode following
 encoded = (refl, refl, refl, refl, refl, refl, refl, refl, refl, refl)
 
 -- 'a', the euro sign, a face, one after the other
-pub encoded-all : encodeAll (0x61 ∷ 0x20AC ∷ 0x1F600 ∷ []) ≡ 0x61 ∷ 0xE2 ∷ 0x82 ∷ 0xAC ∷ 0xF0 ∷ 0x9F ∷ 0x98 ∷ 0x80 ∷ []
-unfolding encodeAll encode following
+pub encoded-all : encode_all (0x61 ∷ 0x20AC ∷ 0x1F600 ∷ []) ≡ 0x61 ∷ 0xE2 ∷ 0x82 ∷ 0xAC ∷ 0xF0 ∷ 0x9F ∷ 0x98 ∷ 0x80 ∷ []
+unfolding encode_all encode following
 encoded-all = refl
 
 pub scalars :
@@ -35,12 +35,12 @@ scalars = (refl, refl, refl, refl, refl, refl, refl)
 
 -- NUL in two bytes, the first surrogate, 110000, a first byte of no sequence: of the last three, the arithmetic alone would make bytes
 pub malformed :
-    (wellFormed (0xC0 ∷ 0x80 ∷ []) ≡ false)
-    × (wellFormed (encode 0xD800) ≡ false)
-    × (wellFormed (encode 0x110000) ≡ false)
-    × (wellFormed (encode 0x140000) ≡ false)
+    (well_formed (0xC0 ∷ 0x80 ∷ []) ≡ false)
+    × (well_formed (encode 0xD800) ≡ false)
+    × (well_formed (encode 0x110000) ≡ false)
+    × (well_formed (encode 0x140000) ≡ false)
     × (encode 0xD800 ≡ 0xED ∷ 0xA0 ∷ 0x80 ∷ [])
     × (encode 0x110000 ≡ 0xF4 ∷ 0x90 ∷ 0x80 ∷ 0x80 ∷ [])
     × (encode 0x140000 ≡ 0xF5 ∷ 0x80 ∷ 0x80 ∷ 0x80 ∷ [])
-unfolding table within matches firstMatch sequence scan validPrefix wellFormed encode following
+unfolding table within matches first_match sequence scan valid_prefix well_formed encode following
 malformed = (refl, refl, refl, refl, refl, refl, refl)

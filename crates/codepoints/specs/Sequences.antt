@@ -26,8 +26,8 @@ in-first a b d c h = rw (le-leb c a h)
 in-second : (a b d c : ℕ) → b ≤ c → c ≤ d → (leb c a || leb b c && leb c d) ≡ true
 in-second a b d c l h = rw (le-leb b c l, le-leb c d h, or-true (leb c a))
 
-in_either : (a b d c : ℕ) → (leb c a || leb b c && leb c d) ≡ true → (c ≤ a) ⊎ ((b ≤ c) × (c ≤ d))
-in_either a b d c e = go (leb c a) refl e
+in-either : (a b d c : ℕ) → (leb c a || leb b c && leb c d) ≡ true → (c ≤ a) ⊎ ((b ≤ c) × (c ≤ d))
+in-either a b d c e = go (leb c a) refl e
   where
     go : (t : Bool) → leb c a ≡ t → (t || leb b c && leb c d) ≡ true → (c ≤ a) ⊎ ((b ≤ c) × (c ≤ d))
     go true q e = inl (leb-true c a q)
@@ -44,13 +44,13 @@ scalar-high c l h = in-second _ _ _ c (omega arith) (omega arith)
 scalar-last : (c : ℕ) → is_scalar c ≡ true → c ≤ 0x10FFFF
 unfolding is_scalar
 scalar-last c s =
-    let r = in_either _ _ _ c s in
+    let r = in-either _ _ _ c s in
     ⊎_elim (λ h. omega arith) (λ b. omega (arith, b.1)) r
 
 scalar-past : (c : ℕ) → is_scalar c ≡ true → 0xD800 ≤ c → 0xE000 ≤ c
 unfolding is_scalar
 scalar-past c s l =
-    let r = in_either _ _ _ c s in
+    let r = in-either _ _ _ c s in
     ⊎_elim (λ h. omega arith) (λ b. omega (arith, b.0)) r
 
 -- ---- the bytes of a code point, by its length
@@ -71,9 +71,9 @@ choice-three a b d c w x y z k l h = rw (le-ltb c a k, le-ltb c b l, lt-ltb c d 
 choice-four : (a b d c : ℕ) (w x y z : List ℕ) → a ≤ c → b ≤ c → d ≤ c → choice a b d c w x y z ≡ z
 choice-four a b d c w x y z k l m = rw (le-ltb c a k, le-ltb c b l, le-ltb c d m)
 
-encode_one : (c : ℕ) → c < 0x80 → encode c ≡ c ∷ []
+encode-one : (c : ℕ) → c < 0x80 → encode c ≡ c ∷ []
 unfolding encode
-encode_one c h = choice-one _ _ _ c _ _ _ _ (omega arith)
+encode-one c h = choice-one _ _ _ c _ _ _ _ (omega arith)
 
 encode-two : (c : ℕ) → 0x80 ≤ c → c < 0x800 → encode c ≡ (0xC0 + c / 0x40) ∷ (0x80 + c % 0x40) ∷ []
 unfolding encode following
@@ -104,7 +104,7 @@ pub record Stands (xs : List ℕ) : Type 0 where
 -- a sequence of each length, for ranges that hold the bytes
 
 one-stands : (c : ℕ) (r : Range) → Memᴰ (r ∷ []) table → c < 0x80 → r.lo ≤ c → c ≤ r.hi → Stands (encode c)
-one-stands c r m h p₁ p₂ = subst Stands (sym (encode_one c h)) (record { row = _; listed = m; fits = next p₁ p₂ done })
+one-stands c r m h p₁ p₂ = subst Stands (sym (encode-one c h)) (record { row = _; listed = m; fits = next p₁ p₂ done })
 
 two-stands : (c : ℕ) (r q : Range) → Memᴰ (r ∷ q ∷ []) table → 0x80 ≤ c → c < 0x800 → r.lo ≤ 0xC0 + c / 0x40 → 0xC0 + c / 0x40 ≤ r.hi
     → q.lo ≤ 0x80 → 0xBF ≤ q.hi → Stands (encode c)
@@ -149,18 +149,18 @@ encode-stands c s =
 -- ---- bytes that fit a row are those of a scalar value
 
 -- the code points of two, three and four bytes
-abbrev of_two : ℕ → ℕ → ℕ
-of_two a b = (a - 0xC0) * 0x40 + (b - 0x80)
+abbrev of-two : ℕ → ℕ → ℕ
+of-two a b = (a - 0xC0) * 0x40 + (b - 0x80)
 
-abbrev of_three : ℕ → ℕ → ℕ → ℕ
-of_three a b c = (a - 0xE0) * 0x1000 + (b - 0x80) * 0x40 + (c - 0x80)
+abbrev of-three : ℕ → ℕ → ℕ → ℕ
+of-three a b c = (a - 0xE0) * 0x1000 + (b - 0x80) * 0x40 + (c - 0x80)
 
-abbrev of_four : ℕ → ℕ → ℕ → ℕ → ℕ
-of_four a b c d = (a - 0xF0) * 0x40000 + (b - 0x80) * 0x1000 + (c - 0x80) * 0x40 + (d - 0x80)
+abbrev of-four : ℕ → ℕ → ℕ → ℕ → ℕ
+of-four a b c d = (a - 0xF0) * 0x40000 + (b - 0x80) * 0x1000 + (c - 0x80) * 0x40 + (d - 0x80)
 
 -- larger bytes make larger code points
 
-of-three-le : {a b c a' b' c' : ℕ} → a ≤ a' → b ≤ b' → c ≤ c' → of_three a b c ≤ of_three a' b' c'
+of-three-le : {a b c a' b' c' : ℕ} → a ≤ a' → b ≤ b' → c ≤ c' → of-three a b c ≤ of-three a' b' c'
 of-three-le h₁ h₂ h₃ = omega arith
 
 less : (a b k : ℕ) → a ≤ b → a - k ≤ b - k
@@ -169,7 +169,7 @@ less a b k h = omega arith
 sums : {a b c d a' b' c' d' : ℕ} → a ≤ a' → b ≤ b' → c ≤ c' → d ≤ d' → a * 0x40000 + b * 0x1000 + c * 0x40 + d ≤ a' * 0x40000 + b' * 0x1000 + c' * 0x40 + d'
 sums h₁ h₂ h₃ h₄ = omega arith
 
-of-four-le : {a b c d a' b' c' d' : ℕ} → a ≤ a' → b ≤ b' → c ≤ c' → d ≤ d' → of_four a b c d ≤ of_four a' b' c' d'
+of-four-le : {a b c d a' b' c' d' : ℕ} → a ≤ a' → b ≤ b' → c ≤ c' → d ≤ d' → of-four a b c d ≤ of-four a' b' c' d'
 of-four-le {a} {b} {c} {d} {a'} {b'} {c'} {d'} h₁ h₂ h₃ h₄ = sums (less a a' 0xF0 h₁) (less b b' 0x80 h₂) (less c c' 0x80 h₃) (less d d' 0x80 h₄)
 
 -- the bytes are those of a scalar value
@@ -180,26 +180,26 @@ pub record Encoded (xs : List ℕ) : Type 0 where
 
 two-encoded : (a b : ℕ) → 0xC2 ≤ a → a ≤ 0xDF → 0x80 ≤ b → b ≤ 0xBF → Encoded (a ∷ b ∷ [])
 two-encoded a b l₁ h₁ l₂ h₂ =
-    let n = of_two a b in
+    let n = of-two a b in
     let p : a ≡ 0xC0 + n / 0x40 = omega arith in
     let q : b ≡ 0x80 + n % 0x40 = omega arith in
     let e = encode-two n (omega arith) (omega arith) in
     record { code = n; scalar = scalar-low n (omega arith); bytes = cc }
 
-three-encoded : (a b c : ℕ) → 0xE0 ≤ a → a ≤ 0xEF → 0x80 ≤ b → b ≤ 0xBF → 0x80 ≤ c → c ≤ 0xBF → 0x800 ≤ of_three a b c → is_scalar (of_three a b c) ≡ true
+three-encoded : (a b c : ℕ) → 0xE0 ≤ a → a ≤ 0xEF → 0x80 ≤ b → b ≤ 0xBF → 0x80 ≤ c → c ≤ 0xBF → 0x800 ≤ of-three a b c → is_scalar (of-three a b c) ≡ true
     → Encoded (a ∷ b ∷ c ∷ [])
 three-encoded a b c l₁ h₁ l₂ h₂ l₃ h₃ l s =
-    let n = of_three a b c in
+    let n = of-three a b c in
     let p : a ≡ 0xE0 + n / 0x1000 = omega arith in
     let q : b ≡ 0x80 + n / 0x40 % 0x40 = omega arith in
     let r : c ≡ 0x80 + n % 0x40 = omega arith in
     let e = encode-three n l (omega arith) in
     record { code = n; scalar = s; bytes = cc }
 
-four-encoded : (a b c d : ℕ) → 0xF0 ≤ a → 0x80 ≤ b → b ≤ 0xBF → 0x80 ≤ c → c ≤ 0xBF → 0x80 ≤ d → d ≤ 0xBF → 0x10000 ≤ of_four a b c d → of_four a b c d ≤ 0x10FFFF
+four-encoded : (a b c d : ℕ) → 0xF0 ≤ a → 0x80 ≤ b → b ≤ 0xBF → 0x80 ≤ c → c ≤ 0xBF → 0x80 ≤ d → d ≤ 0xBF → 0x10000 ≤ of-four a b c d → of-four a b c d ≤ 0x10FFFF
     → Encoded (a ∷ b ∷ c ∷ d ∷ [])
 four-encoded a b c d l₁ l₂ h₂ l₃ h₃ l₄ h₄ l h =
-    let n = of_four a b c d in
+    let n = of-four a b c d in
     let p : a ≡ 0xF0 + n / 0x40000 = omega arith in
     let q : b ≡ 0x80 + n / 0x1000 % 0x40 = omega arith in
     let r : c ≡ 0x80 + n / 0x40 % 0x40 = omega arith in
@@ -209,30 +209,30 @@ four-encoded a b c d l₁ l₂ h₂ l₃ h₃ l₄ h₄ l h =
 
 -- a row of each length, by the first and the last code point of its bytes
 
-row_one : {xs : List ℕ} (r : Range) → r.hi ≤ 0x7F → Fits (r ∷ []) xs → Encoded xs
-row_one r k (next {b = a} l h done) = record { code = a; scalar = scalar-low a (omega arith); bytes = sym (encode_one a (omega arith)) }
+row-one : {xs : List ℕ} (r : Range) → r.hi ≤ 0x7F → Fits (r ∷ []) xs → Encoded xs
+row-one r k (next {b = a} l h done) = record { code = a; scalar = scalar-low a (omega arith); bytes = sym (encode-one a (omega arith)) }
 
 row-two : {xs : List ℕ} (r q : Range) → 0xC2 ≤ r.lo → r.hi ≤ 0xDF → 0x80 ≤ q.lo → q.hi ≤ 0xBF → Fits (r ∷ q ∷ []) xs → Encoded xs
 row-two r q k₁ k₂ k₃ k₄ (next {b = a} l₁ h₁ (next {b = b} l₂ h₂ done)) = two-encoded a b (omega arith) (omega arith) (omega arith) (omega arith)
 
 -- before the surrogates
-row_low : {xs : List ℕ} (r q p : Range) → 0xE0 ≤ r.lo → r.hi ≤ 0xEF → 0x80 ≤ q.lo → q.hi ≤ 0xBF → 0x80 ≤ p.lo → p.hi ≤ 0xBF
-    → 0x800 ≤ of_three r.lo q.lo p.lo → of_three r.hi q.hi p.hi < 0xD800 → Fits (r ∷ q ∷ p ∷ []) xs → Encoded xs
-row_low r q p k₁ k₂ k₃ k₄ k₅ k₆ k₇ k₈ (next {b = a} l₁ h₁ (next {b = b} l₂ h₂ (next {b = c} l₃ h₃ done))) =
-    let s = scalar-low (of_three a b c) (lt_of_le_of_lt (of-three-le h₁ h₂ h₃) k₈) in
+row-low : {xs : List ℕ} (r q p : Range) → 0xE0 ≤ r.lo → r.hi ≤ 0xEF → 0x80 ≤ q.lo → q.hi ≤ 0xBF → 0x80 ≤ p.lo → p.hi ≤ 0xBF
+    → 0x800 ≤ of-three r.lo q.lo p.lo → of-three r.hi q.hi p.hi < 0xD800 → Fits (r ∷ q ∷ p ∷ []) xs → Encoded xs
+row-low r q p k₁ k₂ k₃ k₄ k₅ k₆ k₇ k₈ (next {b = a} l₁ h₁ (next {b = b} l₂ h₂ (next {b = c} l₃ h₃ done))) =
+    let s = scalar-low (of-three a b c) (lt_of_le_of_lt (of-three-le h₁ h₂ h₃) k₈) in
     three-encoded a b c (le_trans k₁ l₁) (le_trans h₁ k₂) (le_trans k₃ l₂) (le_trans h₂ k₄) (le_trans k₅ l₃) (le_trans h₃ k₆) (le_trans k₇ (of-three-le l₁ l₂ l₃)) s
 
 -- after them
 row-high : {xs : List ℕ} (r q p : Range) → 0xE0 ≤ r.lo → r.hi ≤ 0xEF → 0x80 ≤ q.lo → q.hi ≤ 0xBF → 0x80 ≤ p.lo → p.hi ≤ 0xBF
-    → 0xE000 ≤ of_three r.lo q.lo p.lo → of_three r.hi q.hi p.hi ≤ 0xFFFF → Fits (r ∷ q ∷ p ∷ []) xs → Encoded xs
+    → 0xE000 ≤ of-three r.lo q.lo p.lo → of-three r.hi q.hi p.hi ≤ 0xFFFF → Fits (r ∷ q ∷ p ∷ []) xs → Encoded xs
 row-high r q p k₁ k₂ k₃ k₄ k₅ k₆ k₇ k₈ (next {b = a} l₁ h₁ (next {b = b} l₂ h₂ (next {b = c} l₃ h₃ done))) =
-    let n = of_three a b c in
+    let n = of-three a b c in
     let first : 0xE000 ≤ n = le_trans k₇ (of-three-le l₁ l₂ l₃) in
     let last : n ≤ 0xFFFF = le_trans (of-three-le h₁ h₂ h₃) k₈ in
     three-encoded a b c (le_trans k₁ l₁) (le_trans h₁ k₂) (le_trans k₃ l₂) (le_trans h₂ k₄) (le_trans k₅ l₃) (le_trans h₃ k₆) (omega arith) (scalar-high n first (omega arith))
 
 row-four : {xs : List ℕ} (r q p o : Range) → 0xF0 ≤ r.lo → 0x80 ≤ q.lo → q.hi ≤ 0xBF → 0x80 ≤ p.lo → p.hi ≤ 0xBF → 0x80 ≤ o.lo → o.hi ≤ 0xBF
-    → 0x10000 ≤ of_four r.lo q.lo p.lo o.lo → of_four r.hi q.hi p.hi o.hi ≤ 0x10FFFF → Fits (r ∷ q ∷ p ∷ o ∷ []) xs → Encoded xs
+    → 0x10000 ≤ of-four r.lo q.lo p.lo o.lo → of-four r.hi q.hi p.hi o.hi ≤ 0x10FFFF → Fits (r ∷ q ∷ p ∷ o ∷ []) xs → Encoded xs
 row-four r q p o k₁ k₂ k₃ k₄ k₅ k₆ k₇ k₈ k₉ (next {b = a} l₁ h₁ (next {b = b} l₂ h₂ (next {b = c} l₃ h₃ (next {b = d} l₄ h₄ done)))) =
     four-encoded a b c d (le_trans k₁ l₁) (le_trans k₂ l₂) (le_trans h₂ k₃) (le_trans k₄ l₃) (le_trans h₃ k₅) (le_trans k₆ l₄) (le_trans h₄ k₇) (le_trans k₈ (of-four-le l₁ l₂ l₃ l₄)) (le_trans (of-four-le h₁ h₂ h₃ h₄) k₉)
 
@@ -241,24 +241,24 @@ abbrev Each : (List Range → Type 0) → List (List Range) → Type 0
 Each P [] = Unit {0}
 Each P (row ∷ rows) = P row × Each P rows
 
-each_at : (P : List Range → Type 0) (rows : List (List Range)) {row : List Range} → Each P rows → Memᴰ row rows → P row
-each_at P [] t m = absurd (Memᴰ.not-nil m)
-each_at P (row ∷ rows) t (Memᴰ.head e) = subst P (sym e) t.0
-each_at P (row ∷ rows) t (Memᴰ.tail m) = each_at P rows t.1 m
+each-at : (P : List Range → Type 0) (rows : List (List Range)) {row : List Range} → Each P rows → Memᴰ row rows → P row
+each-at P [] t m = absurd (Memᴰ.not-nil m)
+each-at P (row ∷ rows) t (Memᴰ.head e) = subst P (sym e) t.0
+each-at P (row ∷ rows) t (Memᴰ.tail m) = each-at P rows t.1 m
 
 -- BYTES THAT FIT A ROW OF THE TABLE ARE THOSE OF A SCALAR VALUE
 pub fits-encoded : {row : List Range} {xs : List ℕ} → Memᴰ row table → Fits row xs → Encoded xs
 unfolding table
-fits-encoded {row} {xs} m f = each_at (λ (r : List Range). Fits r xs → Encoded xs) table (
-  row_one _ (omega arith),
+fits-encoded {row} {xs} m f = each-at (λ (r : List Range). Fits r xs → Encoded xs) table (
+  row-one _ (omega arith),
   (
     row-two _ _ (omega arith) (omega arith) (omega arith) (omega arith),
     (
-      row_low _ _ _ (omega arith) (omega arith) (omega arith) (omega arith) (omega arith) (omega arith) (omega arith) (omega arith),
+      row-low _ _ _ (omega arith) (omega arith) (omega arith) (omega arith) (omega arith) (omega arith) (omega arith) (omega arith),
       (
-        row_low _ _ _ (omega arith) (omega arith) (omega arith) (omega arith) (omega arith) (omega arith) (omega arith) (omega arith),
+        row-low _ _ _ (omega arith) (omega arith) (omega arith) (omega arith) (omega arith) (omega arith) (omega arith) (omega arith),
         (
-          row_low _ _ _ (omega arith) (omega arith) (omega arith) (omega arith) (omega arith) (omega arith) (omega arith) (omega arith),
+          row-low _ _ _ (omega arith) (omega arith) (omega arith) (omega arith) (omega arith) (omega arith) (omega arith) (omega arith),
           (
             row-high _ _ _ (omega arith) (omega arith) (omega arith) (omega arith) (omega arith) (omega arith) (omega arith) (omega arith),
             (
@@ -281,44 +281,44 @@ fits-encoded {row} {xs} m f = each_at (λ (r : List Range). Fits r xs → Encode
 -- ---- the first code point, read back
 
 -- the code point at the front of bytes that begin with one
-firstCode : List ℕ → ℕ
-firstCode xs =
+first_code : List ℕ → ℕ
+first_code xs =
     let a = get_or xs 0 0 in
     let b = get_or xs 1 0 in
     let c = get_or xs 2 0 in
-    cond (ltb a 0x80) a (cond (ltb a 0xE0) (of_two a b) (cond (ltb a 0xF0) (of_three a b c) (of_four a b c (get_or xs 3 0))))
+    cond (ltb a 0x80) a (cond (ltb a 0xE0) (of-two a b) (cond (ltb a 0xF0) (of-three a b c) (of-four a b c (get_or xs 3 0))))
 
-one-read : (c : ℕ) (ys : List ℕ) → c < 0x80 → firstCode (encode c ++ ys) ≡ c
-unfolding firstCode
-one-read c ys h = rw (encode_one c h, lt-ltb c 0x80 h)
+one-read : (c : ℕ) (ys : List ℕ) → c < 0x80 → first_code (encode c ++ ys) ≡ c
+unfolding first_code
+one-read c ys h = rw (encode-one c h, lt-ltb c 0x80 h)
 
-two-read : (c : ℕ) (ys : List ℕ) → 0x80 ≤ c → c < 0x800 → firstCode (encode c ++ ys) ≡ c
-unfolding firstCode
+two-read : (c : ℕ) (ys : List ℕ) → 0x80 ≤ c → c < 0x800 → first_code (encode c ++ ys) ≡ c
+unfolding first_code
 two-read c ys l h =
     let a = 0xC0 + c / 0x40 in
     rw (encode-two c l h, le-ltb a 0x80 (omega arith), lt-ltb a 0xE0 (omega arith)) (omega arith)
 
-three-read : (c : ℕ) (ys : List ℕ) → 0x800 ≤ c → c < 0x10000 → firstCode (encode c ++ ys) ≡ c
-unfolding firstCode
+three-read : (c : ℕ) (ys : List ℕ) → 0x800 ≤ c → c < 0x10000 → first_code (encode c ++ ys) ≡ c
+unfolding first_code
 three-read c ys l h =
     let a = 0xE0 + c / 0x1000 in
     rw (encode-three c l h, le-ltb a 0x80 (omega arith), le-ltb a 0xE0 (omega arith), lt-ltb a 0xF0 (omega arith)) (omega arith)
 
 -- the groups of six bits make the number again
-groups : (c : ℕ) → of_four (0xF0 + c / 0x40000) (0x80 + c / 0x1000 % 0x40) (0x80 + c / 0x40 % 0x40) (0x80 + c % 0x40) ≡ c
+groups : (c : ℕ) → of-four (0xF0 + c / 0x40000) (0x80 + c / 0x1000 % 0x40) (0x80 + c / 0x40 % 0x40) (0x80 + c % 0x40) ≡ c
 groups c =
     let p : c / 0x40 / 0x40 ≡ c / 0x1000 = omega arith in
     let q : c / 0x1000 / 0x40 ≡ c / 0x40000 = omega arith in
     omega arith
 
-four-read : (c : ℕ) (ys : List ℕ) → 0x10000 ≤ c → firstCode (encode c ++ ys) ≡ c
-unfolding firstCode
+four-read : (c : ℕ) (ys : List ℕ) → 0x10000 ≤ c → first_code (encode c ++ ys) ≡ c
+unfolding first_code
 four-read c ys l =
     let a = 0xF0 + c / 0x40000 in
     rw (encode-four c l, le-ltb a 0x80 (omega arith), le-ltb a 0xE0 (omega arith), le-ltb a 0xF0 (omega arith)) (groups c)
 
-first_read : (c : ℕ) (ys : List ℕ) → firstCode (encode c ++ ys) ≡ c
-first_read c ys =
+first-read : (c : ℕ) (ys : List ℕ) → first_code (encode c ++ ys) ≡ c
+first-read c ys =
     on-either-side c 0x80 (λ h. one-read c ys h) (λ l.
     on-either-side c 0x800 (λ h. two-read c ys l h) (λ l.
     on-either-side c 0x10000 (λ h. three-read c ys l h) (λ l. four-read c ys l)))
@@ -326,12 +326,12 @@ first_read c ys =
 -- WHAT BEGINS WITH THE BYTES OF A CODE POINT BEGINS WITH THOSE OF NO OTHER
 pub encode-first : (c d : ℕ) (ys zs : List ℕ) → encode c ++ ys ≡ encode d ++ zs → (c ≡ d) × (ys ≡ zs)
 encode-first c d ys zs e =
-    let p : c ≡ d = sym (first_read c ys) ∙ ap firstCode e ∙ first_read d zs in
+    let p : c ≡ d = sym (first-read c ys) ∙ ap first_code e ∙ first-read d zs in
     (p, append_cancel_left (encode d) ys zs (subst (λ (x : ℕ). encode x ++ ys ≡ encode d ++ zs) p e))
 
 -- no code point is without bytes
 pub encode-some : (c : ℕ) (ys : List ℕ) → encode c ++ ys ≡ [] → ⊥
-unfolding firstCode encode
+unfolding first_code encode
 encode-some c ys e =
-    let p : c ≡ 0 = sym (first_read c ys) ∙ ap firstCode e in
+    let p : c ≡ 0 = sym (first-read c ys) ∙ ap first_code e in
     cons≢nil (subst (λ (x : ℕ). encode x ++ ys ≡ []) p e)

@@ -37,8 +37,8 @@ pub gather-row-one : (κs : Lfts 3) (a : Dens κs gather-row-kinds.ps) (r₁ r�
     (x₁ x₂ : AtExit (ended_of 3 gather-row-kinds.ps gather-row-kinds.r) κs) → gather-row.Post κs a r₁ x₁ → gather-row.Post κs a r₂ x₂
     → (r₁ ≡ r₂) × (x₁.1.1.1.1.1.0.now ≡ x₂.1.1.1.1.1.0.now) × (x₁.1.1.1.1.1.1.0.now ≡ x₂.1.1.1.1.1.1.0.now)
 gather-row-one κs a r₁ r₂ x₁ x₂ p q = (
-  p.taken_is ∙ sym q.taken_is,
-  p.bits_are ∙ sym q.bits_are,
+  p.taken-is ∙ sym q.taken-is,
+  p.bits-are ∙ sym q.bits-are,
   p.marks-are ∙ sym q.marks-are,
 )
 
@@ -46,8 +46,8 @@ pub gather-rows-one : (κs : Lfts 7) (a : Dens κs gather-rows-kinds.ps) (r₁ r
     (x₁ x₂ : AtExit (ended_of 7 gather-rows-kinds.ps gather-rows-kinds.r) κs) → gather-rows.Post κs a r₁ x₁ → gather-rows.Post κs a r₂ x₂
     → (r₁ ≡ r₂) × (x₁.1.1.1.1.1.0.now ≡ x₂.1.1.1.1.1.0.now) × (x₁.1.1.1.1.1.1.0.now ≡ x₂.1.1.1.1.1.1.0.now)
 gather-rows-one κs a r₁ r₂ x₁ x₂ p q = (
-  p.rows_are ∙ sym q.rows_are,
-  p.bits_are ∙ sym q.bits_are,
+  p.rows-are ∙ sym q.rows-are,
+  p.bits-are ∙ sym q.bits-are,
   p.marks-are ∙ sym q.marks-are,
 )
 

@@ -3,8 +3,8 @@ use Rattle.std.specs.Prelude.{◌≡◌, Bool, cond, ◌&&◌, List, [], ◌∷�
 use Rattle.names.specs.Names.{name_of}
 use Rattle.tables.specs.declared.Tables.{Tables}
 use Rattle.rows.specs.declared.Outcome.{Outcome}
-use Rattle.tables.specs.Table.{pairsRoom, marksRoom}
-use Rattle.rows.specs.Rows.{noTables, nameRow, State, Ran, recordRan, Fills}
+use Rattle.tables.specs.Table.{pairs_room, marks_room}
+use Rattle.rows.specs.Rows.{no_tables, name_row, State, Ran, record_ran, Fills}
 use Rattle.lending.specs.Lending.{Slice, came, became}
 
 -- len entries from at on lie inside a slice of that size; the difference does not overflow where the sum would
@@ -14,37 +14,37 @@ inside size at len = leb at size && leb len (size - at)
 -- ---- names
 
 -- a row whose place is not inside is refused 3
-unfoldable pub placedName : List ℕ → List ℕ → ℕ → ℕ → Tables → Outcome
-placedName bytes last at len t = cond (inside (length bytes) at len) (nameRow last (name_of bytes at len) t) (record { refusal = 3; tables = t })
+unfoldable pub placed_name : List ℕ → List ℕ → ℕ → ℕ → Tables → Outcome
+placed_name bytes last at len t = cond (inside (length bytes) at len) (name_row last (name_of bytes at len) t) (record { refusal = 3; tables = t })
 
 -- row by row, each after the name before it; the first refusal ends
-unfoldable pub nameRows : List ℕ → List ℕ → List ℕ → List ℕ → Tables → Outcome
-nameRows bytes [] lens last t = record { refusal = 0; tables = t }
-nameRows bytes (at ∷ ats) [] last t = record { refusal = 0; tables = t }
-nameRows bytes (at ∷ ats) (len ∷ lens) last t =
-    cond (eqb (placedName bytes last at len t).refusal 0) (nameRows bytes ats lens (name_of bytes at len) (placedName bytes last at len t).tables)
-    (placedName bytes last at len t)
+unfoldable pub name_rows : List ℕ → List ℕ → List ℕ → List ℕ → Tables → Outcome
+name_rows bytes [] lens last t = record { refusal = 0; tables = t }
+name_rows bytes (at ∷ ats) [] last t = record { refusal = 0; tables = t }
+name_rows bytes (at ∷ ats) (len ∷ lens) last t =
+    cond (eqb (placed_name bytes last at len t).refusal 0) (name_rows bytes ats lens (name_of bytes at len) (placed_name bytes last at len t).tables)
+    (placed_name bytes last at len t)
 
 -- ---- records
 
 -- a record whose place is not inside is refused 3
-unfoldable pub placedRecord : List ℕ → ℕ → ℕ → ℕ → ℕ → State → Ran
-placedRecord parents flags class at len s =
-    cond (inside (length parents) at len) (recordRan s flags class (take len (drop at parents))) (record { refusal = 3; state = s })
+unfoldable pub placed_record : List ℕ → ℕ → ℕ → ℕ → ℕ → State → Ran
+placed_record parents flags class at len s =
+    cond (inside (length parents) at len) (record_ran s flags class (take len (drop at parents))) (record { refusal = 3; state = s })
 
 -- row by row; the first refusal ends
-unfoldable pub recordRows : List ℕ → List ℕ → List ℕ → List ℕ → List ℕ → State → Ran
-recordRows parents [] cs ats ls s = record { refusal = 0; state = s }
-recordRows parents (f ∷ fs) [] ats ls s = record { refusal = 0; state = s }
-recordRows parents (f ∷ fs) (c ∷ cs) [] ls s = record { refusal = 0; state = s }
-recordRows parents (f ∷ fs) (c ∷ cs) (a ∷ ats) [] s = record { refusal = 0; state = s }
-recordRows parents (f ∷ fs) (c ∷ cs) (a ∷ ats) (l ∷ ls) s =
-    cond (eqb (placedRecord parents f c a l s).refusal 0) (recordRows parents fs cs ats ls (placedRecord parents f c a l s).state)
-    (placedRecord parents f c a l s)
+unfoldable pub record_rows : List ℕ → List ℕ → List ℕ → List ℕ → List ℕ → State → Ran
+record_rows parents [] cs ats ls s = record { refusal = 0; state = s }
+record_rows parents (f ∷ fs) [] ats ls s = record { refusal = 0; state = s }
+record_rows parents (f ∷ fs) (c ∷ cs) [] ls s = record { refusal = 0; state = s }
+record_rows parents (f ∷ fs) (c ∷ cs) (a ∷ ats) [] s = record { refusal = 0; state = s }
+record_rows parents (f ∷ fs) (c ∷ cs) (a ∷ ats) (l ∷ ls) s =
+    cond (eqb (placed_record parents f c a l s).refusal 0) (record_rows parents fs cs ats ls (placed_record parents f c a l s).state)
+    (placed_record parents f c a l s)
 
 -- of the records that a function is lent
-abbrev pub recordRowsBy : (parents fs cs ats ls : Slice) → State → Ran
-recordRowsBy parents fs cs ats ls = recordRows (came parents) (came fs) (came cs) (came ats) (came ls)
+abbrev pub record_rows_by : (parents fs cs ats ls : Slice) → State → Ran
+record_rows_by parents fs cs ats ls = record_rows (came parents) (came fs) (came cs) (came ats) (came ls)
 
 -- ---- the table
 
@@ -52,20 +52,20 @@ recordRowsBy parents fs cs ats ls = recordRows (came parents) (came fs) (came cs
 unfoldable pub table_of : Outcome → List ℕ → List ℕ → List ℕ → List ℕ → List ℕ → List ℕ → Ran
 table_of named parents fs cs ats ls marks =
     let s : State = record { tables = named.tables; keys = []; marks = marks } in
-    cond (eqb named.refusal 0) (recordRows parents fs cs ats ls s) (record { refusal = named.refusal; state = s })
+    cond (eqb named.refusal 0) (record_rows parents fs cs ats ls s) (record { refusal = named.refusal; state = s })
 
 -- what the eight columns come to, from marks as they came
 abbrev pub built : List ℕ → List ℕ → List ℕ → List ℕ → List ℕ → List ℕ → List ℕ → List ℕ → List ℕ → Ran
-built names ats lens fs cs starts sizes parents marks = table_of (nameRows names ats lens [] noTables) parents fs cs starts sizes marks
+built names ats lens fs cs starts sizes parents marks = table_of (name_rows names ats lens [] no_tables) parents fs cs starts sizes marks
 
 -- of the columns that a function is lent
-abbrev pub builtBy : (names ats lens fs cs starts sizes parents marks : Slice) → Ran
-builtBy names ats lens fs cs starts sizes parents marks = built (came names) (came ats) (came lens) (came fs) (came cs) (came starts) (came sizes) (came parents) (came marks)
+abbrev pub built_by : (names ats lens fs cs starts sizes parents marks : Slice) → Ran
+built_by names ats lens fs cs starts sizes parents marks = built (came names) (came ats) (came lens) (came fs) (came cs) (came starts) (came sizes) (came parents) (came marks)
 
 -- columns of equal length, and the two slices of a table in full length
 abbrev pub Roomy : List ℕ → List ℕ → List ℕ → List ℕ → List ℕ → List ℕ → List ℕ → List ℕ → Type 0
 Roomy ats lens fs cs starts sizes pairs marks =
-    (length ats ≡ length lens) × (length fs ≡ length cs) × (length fs ≡ length starts) × (length fs ≡ length sizes) × (length pairs ≡ pairsRoom) × (length marks ≡ marksRoom)
+    (length ats ≡ length lens) × (length fs ≡ length cs) × (length fs ≡ length starts) × (length fs ≡ length sizes) × (length pairs ≡ pairs_room) × (length marks ≡ marks_room)
 
 -- what a function leaves in the slices of a table that it is lent
 abbrev pub FillsBy : Ran → (pairs marks : Slice) → Outcome → Type 0

@@ -6,8 +6,8 @@ use Rattle.std.proofs.Math.Bool.{true, false}
 use mathlib.Core.List.{List, [], ◌∷◌, ◌++◌}
 use Rattle.names.specs.Names.{name_of}
 use Rattle.rows.specs.declared.Outcome.{Outcome}
-use Rattle.rows.specs.Rows.{noTables, nameRow, State, recordRefusal, recordRow, Ran, recordRan}
-use Rattle.columns.specs.Columns.{inside, placedName, nameRows, placedRecord, recordRows, table_of}
+use Rattle.rows.specs.Rows.{no_tables, name_row, State, record_refusal, record_row, Ran, record_ran}
+use Rattle.columns.specs.Columns.{inside, placed_name, name_rows, placed_record, record_rows, table_of}
 
 -- a row: not inside its slice, or a name, or flags, class and parents
 pub data Row : Type 0 where
@@ -25,14 +25,14 @@ pub record Reading : Type 0 where
 unfoldable pub step : Row → Reading → Reading
 step misplaced r = record { refusal = 3; last = r.last; state = r.state }
 step (named name) r = record {
-  refusal = (nameRow r.last name r.state.tables).refusal;
-  last = cond (eqb (nameRow r.last name r.state.tables).refusal 0) name r.last;
-  state = record { tables = (nameRow r.last name r.state.tables).tables; keys = r.state.keys; marks = r.state.marks };
+  refusal = (name_row r.last name r.state.tables).refusal;
+  last = cond (eqb (name_row r.last name r.state.tables).refusal 0) name r.last;
+  state = record { tables = (name_row r.last name r.state.tables).tables; keys = r.state.keys; marks = r.state.marks };
 }
 step (recorded flags class parents) r = record {
-  refusal = recordRefusal r.state.tables.names r.state.keys flags class parents;
+  refusal = record_refusal r.state.tables.names r.state.keys flags class parents;
   last = r.last;
-  state = recordRow r.state flags class parents;
+  state = record_row r.state flags class parents;
 }
 
 -- row by row; the first refusal wins
@@ -41,17 +41,17 @@ run [] r = r
 run (x ∷ xs) r = cond (eqb (step x r).refusal 0) (run xs (step x r)) (step x r)
 
 -- the rows that columns hold
-unfoldable pub namesIn : List ℕ → List ℕ → List ℕ → List Row
-namesIn bytes [] lens = []
-namesIn bytes (at ∷ ats) [] = []
-namesIn bytes (at ∷ ats) (len ∷ lens) = cond (inside (length bytes) at len) (named (name_of bytes at len)) misplaced ∷ namesIn bytes ats lens
+unfoldable pub names_in : List ℕ → List ℕ → List ℕ → List Row
+names_in bytes [] lens = []
+names_in bytes (at ∷ ats) [] = []
+names_in bytes (at ∷ ats) (len ∷ lens) = cond (inside (length bytes) at len) (named (name_of bytes at len)) misplaced ∷ names_in bytes ats lens
 
-unfoldable pub recordsIn : List ℕ → List ℕ → List ℕ → List ℕ → List ℕ → List Row
-recordsIn parents [] cs ats ls = []
-recordsIn parents (f ∷ fs) [] ats ls = []
-recordsIn parents (f ∷ fs) (c ∷ cs) [] ls = []
-recordsIn parents (f ∷ fs) (c ∷ cs) (a ∷ ats) [] = []
-recordsIn parents (f ∷ fs) (c ∷ cs) (a ∷ ats) (l ∷ ls) = cond (inside (length parents) a l) (recorded f c (take l (drop a parents))) misplaced ∷ recordsIn parents fs cs ats ls
+unfoldable pub records_in : List ℕ → List ℕ → List ℕ → List ℕ → List ℕ → List Row
+records_in parents [] cs ats ls = []
+records_in parents (f ∷ fs) [] ats ls = []
+records_in parents (f ∷ fs) (c ∷ cs) [] ls = []
+records_in parents (f ∷ fs) (c ∷ cs) (a ∷ ats) [] = []
+records_in parents (f ∷ fs) (c ∷ cs) (a ∷ ats) (l ∷ ls) = cond (inside (length parents) a l) (recorded f c (take l (drop a parents))) misplaced ∷ records_in parents fs cs ats ls
 
 -- what the next function is told of a reading
 abbrev pub ran : Reading → Ran
@@ -86,7 +86,7 @@ module _ (bytes : List ℕ) (at len : ℕ) (r : Reading) where
   row b = cond b (named name) misplaced
 
   out : Bool → Outcome
-  out b = cond b (nameRow r.last name r.state.tables) (record { refusal = 3; tables = r.state.tables })
+  out b = cond b (name_row r.last name r.state.tables) (record { refusal = 3; tables = r.state.tables })
 
   step-name : (b : Bool) → ran (step (row b) r) ≡ over r.state (out b)
   unfolding step row out
@@ -99,8 +99,8 @@ module _ (bytes : List ℕ) (at len : ℕ) (r : Reading) where
   step-last false z = absurd (omega arith)
 
 run-names : (bytes ats lens : List ℕ) (r : Reading) → r.refusal ≡ 0
-    → ran (run (namesIn bytes ats lens) r) ≡ over r.state (nameRows bytes ats lens r.last r.state.tables)
-unfolding run namesIn nameRows placedName name row out
+    → ran (run (names_in bytes ats lens) r) ≡ over r.state (name_rows bytes ats lens r.last r.state.tables)
+unfolding run names_in name_rows placed_name name row out
 run-names bytes [] lens r z = rw z
 run-names bytes (at ∷ ats) [] r z = rw z
 run-names bytes (at ∷ ats) (len ∷ lens) r z = go (eqb o.refusal 0) refl (run-names bytes ats lens y)
@@ -118,33 +118,33 @@ run-names bytes (at ∷ ats) (len ∷ lens) r z = go (eqb o.refusal 0) refl (run
     told = step-name bytes at len r b
 
     go : (t : Bool) → eqb o.refusal 0 ≡ t
-        → (y.refusal ≡ 0 → ran (run (namesIn bytes ats lens) y) ≡ over y.state (nameRows bytes ats lens y.last y.state.tables))
-        → ran (cond (eqb y.refusal 0) (run (namesIn bytes ats lens) y) y)
-        ≡ over r.state (cond (eqb o.refusal 0) (nameRows bytes ats lens (name bytes at len r) o.tables) o)
+        → (y.refusal ≡ 0 → ran (run (names_in bytes ats lens) y) ≡ over y.state (name_rows bytes ats lens y.last y.state.tables))
+        → ran (cond (eqb y.refusal 0) (run (names_in bytes ats lens) y) y)
+        ≡ over r.state (cond (eqb o.refusal 0) (name_rows bytes ats lens (name bytes at len r) o.tables) o)
     go true e ih =
         let same = ap (λ (u : Ran). u.refusal) told in
         let none = eqb-true o.refusal 0 e in
         rw (e, ap (λ (k : ℕ). eqb k 0) same ∙ e)
         (ih (same ∙ none)
-        ∙ ap₂ (λ (l : List ℕ) (u : State). over u (nameRows bytes ats lens l u.tables)) (step-last bytes at len r b none) (ap (λ (u : Ran). u.state) told))
+        ∙ ap₂ (λ (l : List ℕ) (u : State). over u (name_rows bytes ats lens l u.tables)) (step-last bytes at len r b none) (ap (λ (u : Ran). u.state) told))
     go false e ih = rw (e, ap (λ (u : Ran). eqb u.refusal 0) told ∙ e) told
 
 -- ---- the records
 
 step-record : (parents : List ℕ) (f c a l : ℕ) (r : Reading) (b : Bool)
     → ran (step (cond b (recorded f c (take l (drop a parents))) misplaced) r)
-    ≡ cond b (recordRan r.state f c (take l (drop a parents))) (record { refusal = 3; state = r.state })
+    ≡ cond b (record_ran r.state f c (take l (drop a parents))) (record { refusal = 3; state = r.state })
 unfolding step
 step-record parents f c a l r true = refl
 step-record parents f c a l r false = refl
 
 placed-step : (parents : List ℕ) (f c a l : ℕ) (r : Reading)
-    → ran (step (cond (inside (length parents) a l) (recorded f c (take l (drop a parents))) misplaced) r) ≡ placedRecord parents f c a l r.state
-unfolding placedRecord
+    → ran (step (cond (inside (length parents) a l) (recorded f c (take l (drop a parents))) misplaced) r) ≡ placed_record parents f c a l r.state
+unfolding placed_record
 placed-step parents f c a l r = step-record parents f c a l r (inside (length parents) a l)
 
-run-records : (parents fs cs ats ls : List ℕ) (r : Reading) → r.refusal ≡ 0 → ran (run (recordsIn parents fs cs ats ls) r) ≡ recordRows parents fs cs ats ls r.state
-unfolding run recordsIn recordRows
+run-records : (parents fs cs ats ls : List ℕ) (r : Reading) → r.refusal ≡ 0 → ran (run (records_in parents fs cs ats ls) r) ≡ record_rows parents fs cs ats ls r.state
+unfolding run records_in record_rows
 run-records parents [] cs ats ls r z = rw z
 run-records parents (f ∷ fs) [] ats ls r z = rw z
 run-records parents (f ∷ fs) (c ∷ cs) [] ls r z = rw z
@@ -152,7 +152,7 @@ run-records parents (f ∷ fs) (c ∷ cs) (a ∷ ats) [] r z = rw z
 run-records parents (f ∷ fs) (c ∷ cs) (a ∷ ats) (l ∷ ls) r z = go (eqb o.refusal 0) refl (run-records parents fs cs ats ls y)
   where
     o : Ran
-    o = placedRecord parents f c a l r.state
+    o = placed_record parents f c a l r.state
 
     y : Reading
     y = step (cond (inside (length parents) a l) (recorded f c (take l (drop a parents))) misplaced) r
@@ -161,40 +161,40 @@ run-records parents (f ∷ fs) (c ∷ cs) (a ∷ ats) (l ∷ ls) r z = go (eqb o
     told = placed-step parents f c a l r
 
     go : (t : Bool) → eqb o.refusal 0 ≡ t
-        → (y.refusal ≡ 0 → ran (run (recordsIn parents fs cs ats ls) y) ≡ recordRows parents fs cs ats ls y.state)
-        → ran (cond (eqb y.refusal 0) (run (recordsIn parents fs cs ats ls) y) y)
-        ≡ cond (eqb o.refusal 0) (recordRows parents fs cs ats ls o.state) o
+        → (y.refusal ≡ 0 → ran (run (records_in parents fs cs ats ls) y) ≡ record_rows parents fs cs ats ls y.state)
+        → ran (cond (eqb y.refusal 0) (run (records_in parents fs cs ats ls) y) y)
+        ≡ cond (eqb o.refusal 0) (record_rows parents fs cs ats ls o.state) o
     go true e ih =
         let same = ap (λ (u : Ran). u.refusal) told in
-        rw (e, ap (λ (k : ℕ). eqb k 0) same ∙ e) (ih (same ∙ eqb-true o.refusal 0 e) ∙ ap (λ (u : Ran). recordRows parents fs cs ats ls u.state) told)
+        rw (e, ap (λ (k : ℕ). eqb k 0) same ∙ e) (ih (same ∙ eqb-true o.refusal 0 e) ∙ ap (λ (u : Ran). record_rows parents fs cs ats ls u.state) told)
     go false e ih = rw (e, ap (λ (u : Ran). eqb u.refusal 0) told ∙ e) told
 
 -- ---- THE TABLE FROM COLUMNS IS THE FOLD OF THE ROWS: the names in order, then the records, until one is refused
 
 abbrev pub start : List ℕ → Reading
-start marks = record { refusal = 0; last = []; state = record { tables = noTables; keys = []; marks = marks } }
+start marks = record { refusal = 0; last = []; state = record { tables = no_tables; keys = []; marks = marks } }
 
 module _ (bytes ats lens parents fs cs starts sizes marks : List ℕ) where
-  pub table-fold : table_of (nameRows bytes ats lens [] noTables) parents fs cs starts sizes marks
-      ≡ ran (run (namesIn bytes ats lens ++ recordsIn parents fs cs starts sizes) (start marks))
+  pub table-fold : table_of (name_rows bytes ats lens [] no_tables) parents fs cs starts sizes marks
+      ≡ ran (run (names_in bytes ats lens ++ records_in parents fs cs starts sizes) (start marks))
   unfolding table_of
-  table-fold = sym (ap ran (run-append (namesIn bytes ats lens) records (start marks) refl) ∙ go (eqb o.refusal 0) refl)
+  table-fold = sym (ap ran (run-append (names_in bytes ats lens) records (start marks) refl) ∙ go (eqb o.refusal 0) refl)
     where
       records : List Row
-      records = recordsIn parents fs cs starts sizes
+      records = records_in parents fs cs starts sizes
 
       n : Reading
-      n = run (namesIn bytes ats lens) (start marks)
+      n = run (names_in bytes ats lens) (start marks)
 
       o : Outcome
-      o = nameRows bytes ats lens [] noTables
+      o = name_rows bytes ats lens [] no_tables
 
       told : ran n ≡ over (start marks).state o
       told = run-names bytes ats lens (start marks) refl
 
       go : (t : Bool) → eqb o.refusal 0 ≡ t → ran (cond (eqb n.refusal 0) (run records n) n)
-          ≡ cond (eqb o.refusal 0) (recordRows parents fs cs starts sizes (over (start marks).state o).state) (over (start marks).state o)
+          ≡ cond (eqb o.refusal 0) (record_rows parents fs cs starts sizes (over (start marks).state o).state) (over (start marks).state o)
       go true e =
           let same = ap (λ (u : Ran). u.refusal) told in
-          rw (e, ap (λ (k : ℕ). eqb k 0) same ∙ e) (run-records parents fs cs starts sizes n (same ∙ eqb-true o.refusal 0 e) ∙ ap (λ (u : Ran). recordRows parents fs cs starts sizes u.state) told)
+          rw (e, ap (λ (k : ℕ). eqb k 0) same ∙ e) (run-records parents fs cs starts sizes n (same ∙ eqb-true o.refusal 0 e) ∙ ap (λ (u : Ran). record_rows parents fs cs starts sizes u.state) told)
       go false e = rw (e, ap (λ (u : Ran). eqb u.refusal 0) told ∙ e) told

@@ -4,100 +4,100 @@ use Rattle.std.specs.Prelude.{◌≡◌, Bool, true, false, cond, ◌&&◌, List
 use Rattle.std.proofs.Math.Path.{refl}
 use Rattle.std.proofs.Common.{arith, eq-eqb, eqb-true}
 use Rattle.order.specs.Truth.{both}
-use Rattle.order.specs.Compare.{compareLists, isEqual}
-use Rattle.names.specs.Names.{checkName}
+use Rattle.order.specs.Compare.{compare_lists, is_equal}
+use Rattle.names.specs.Names.{check_name}
 use Rattle.tables.specs.declared.Tables.{Tables}
 use Rattle.rows.specs.declared.Outcome.{Outcome}
-use Rattle.rows.specs.Rows.{objectName, noTables, noted, withName, nameRow, State, recordRefusal, withRecord, recordRow, Ran}
+use Rattle.rows.specs.Rows.{object_name, no_tables, noted, with_name, name_row, State, record_refusal, with_record, record_row, Ran}
 use Rattle.rows.specs.Laws.{Sound}
-use Rattle.columns.specs.Columns.{nameRows, placedRecord, recordRows, table_of}
+use Rattle.columns.specs.Columns.{name_rows, placed_record, record_rows, table_of}
 use Rattle.columns.specs.Laws.{names-keep, record-either, table-good}
-use Rattle.columns.specs.Given.{Given, evenLengths, even, noMarks, table, unevenTable, checkedTable}
+use Rattle.columns.specs.Given.{Given, even_lengths, even, no_marks, table, uneven_table, checked_table}
 
 -- ---- even columns
 
-pub even_is : (a l f c s z : ℕ) → evenLengths a l f c s z ≡ true → (a ≡ l) × (f ≡ c) × (f ≡ s) × (f ≡ z)
-unfolding evenLengths
-even_is a l f c s z h =
+pub even-is : (a l f c s z : ℕ) → even_lengths a l f c s z ≡ true → (a ≡ l) × (f ≡ c) × (f ≡ s) × (f ≡ z)
+unfolding even_lengths
+even-is a l f c s z h =
     let p = both (eqb a l) (eqb f c && (eqb f s && eqb f z)) h in
     let q = both (eqb f c) (eqb f s && eqb f z) p.1 in
     let r = both (eqb f s) (eqb f z) q.1 in
     (eqb-true a l p.0, eqb-true f c q.0, eqb-true f s r.0, eqb-true f z r.1)
 
 -- where the others are equal, the last two decide
-pub even-last : (a l f c s z : ℕ) → a ≡ l → f ≡ c → f ≡ s → eqb f z ≡ evenLengths a l f c s z
-unfolding evenLengths
+pub even-last : (a l f c s z : ℕ) → a ≡ l → f ≡ c → f ≡ s → eqb f z ≡ even_lengths a l f c s z
+unfolding even_lengths
 even-last a l f c s z p q r = simp (eq-eqb a l p, eq-eqb f c q, eq-eqb f s r)
 
 module _ (g : Given) where
-  pub checked-even : even g ≡ true → checkedTable g ≡ table g
-  unfolding checkedTable
+  pub checked-even : even g ≡ true → checked_table g ≡ table g
+  unfolding checked_table
   checked-even e = rw e
 
-  pub checked-uneven : even g ≡ false → checkedTable g ≡ unevenTable
-  unfolding checkedTable
+  pub checked-uneven : even g ≡ false → checked_table g ≡ uneven_table
+  unfolding checked_table
   checked-uneven e = rw e
 
   -- WHAT ROWS COME TO IS SOUND, refused or not
   pub good-in : Sound (table g).state
   unfolding table
-  good-in = table-good g.names g.name_at g.name_len g.parents g.rec_flags g.rec_class g.rec_at g.rec_len noMarks refl
+  good-in = table-good g.names g.name_at g.name_len g.parents g.rec_flags g.rec_class g.rec_at g.rec_len no_marks refl
 
 -- ---- Object is a class, or absent
 
 Known : Tables → Type 0
 Known t = (t.object ≡ 2 ^ 64 - 1 → ⊥) → t.object < t.names
 
-name-known : (last name : List ℕ) (t : Tables) → Known t → Known (nameRow last name t).tables
-unfolding Known nameRow withName noted
-name-known last name t k = go (eqb (checkName last name t.names t.bytes) 0) (isEqual (compareLists name objectName))
+name-known : (last name : List ℕ) (t : Tables) → Known t → Known (name_row last name t).tables
+unfolding Known name_row with_name noted
+name-known last name t k = go (eqb (check_name last name t.names t.bytes) 0) (is_equal (compare_lists name object_name))
   where
-    go : (b d : Bool) → ((cond b (record { names = t.names + 1; bytes = t.bytes + length name; object = cond d t.names t.object; cloneable = (withName name t).cloneable; serializable = (withName name t).serializable; pairs = t.pairs }) t).object ≡ 2 ^ 64 - 1 → ⊥)
-        → (cond b (record { names = t.names + 1; bytes = t.bytes + length name; object = cond d t.names t.object; cloneable = (withName name t).cloneable; serializable = (withName name t).serializable; pairs = t.pairs }) t).object
-        < (cond b (record { names = t.names + 1; bytes = t.bytes + length name; object = cond d t.names t.object; cloneable = (withName name t).cloneable; serializable = (withName name t).serializable; pairs = t.pairs }) t).names
+    go : (b d : Bool) → ((cond b (record { names = t.names + 1; bytes = t.bytes + length name; object = cond d t.names t.object; cloneable = (with_name name t).cloneable; serializable = (with_name name t).serializable; pairs = t.pairs }) t).object ≡ 2 ^ 64 - 1 → ⊥)
+        → (cond b (record { names = t.names + 1; bytes = t.bytes + length name; object = cond d t.names t.object; cloneable = (with_name name t).cloneable; serializable = (with_name name t).serializable; pairs = t.pairs }) t).object
+        < (cond b (record { names = t.names + 1; bytes = t.bytes + length name; object = cond d t.names t.object; cloneable = (with_name name t).cloneable; serializable = (with_name name t).serializable; pairs = t.pairs }) t).names
     go true true n = omega arith
     go true false n = let l = k n in omega arith
     go false d n = k n
 
-record-known : (s : State) (flags class : ℕ) (parents : List ℕ) → Known s.tables → Known (recordRow s flags class parents).tables
-unfolding recordRow withRecord Known
-record-known s flags class parents k = go (eqb (recordRefusal s.tables.names s.keys flags class parents) 0)
+record-known : (s : State) (flags class : ℕ) (parents : List ℕ) → Known s.tables → Known (record_row s flags class parents).tables
+unfolding record_row with_record Known
+record-known s flags class parents k = go (eqb (record_refusal s.tables.names s.keys flags class parents) 0)
   where
-    go : (b : Bool) → Known (cond b (withRecord s flags class parents) s).tables
+    go : (b : Bool) → Known (cond b (with_record s flags class parents) s).tables
     go true = k
     go false = k
 
-records-known : (parents fs cs ats ls : List ℕ) (s : State) → Known s.tables → Known (recordRows parents fs cs ats ls s).state.tables
-unfolding recordRows
+records-known : (parents fs cs ats ls : List ℕ) (s : State) → Known s.tables → Known (record_rows parents fs cs ats ls s).state.tables
+unfolding record_rows
 records-known parents [] cs ats ls s k = k
 records-known parents (f ∷ fs) [] ats ls s k = k
 records-known parents (f ∷ fs) (c ∷ cs) [] ls s k = k
 records-known parents (f ∷ fs) (c ∷ cs) (a ∷ ats) [] s k = k
 records-known parents (f ∷ fs) (c ∷ cs) (a ∷ ats) (l ∷ ls) s k =
     let one = record-either parents f c a l s (λ (u : State). Known u.tables) k (record-known s f c (take l (drop a parents)) k) in
-    go (eqb (placedRecord parents f c a l s).refusal 0) one (records-known parents fs cs ats ls (placedRecord parents f c a l s).state one)
+    go (eqb (placed_record parents f c a l s).refusal 0) one (records-known parents fs cs ats ls (placed_record parents f c a l s).state one)
   where
     rest : Ran
-    rest = recordRows parents fs cs ats ls (placedRecord parents f c a l s).state
+    rest = record_rows parents fs cs ats ls (placed_record parents f c a l s).state
 
-    go : (b : Bool) → Known (placedRecord parents f c a l s).state.tables → Known rest.state.tables → Known (cond b rest (placedRecord parents f c a l s)).state.tables
+    go : (b : Bool) → Known (placed_record parents f c a l s).state.tables → Known rest.state.tables → Known (cond b rest (placed_record parents f c a l s)).state.tables
     go true one all = all
     go false one all = one
 
 -- WHERE OBJECT'S NUMBER IS NOT ALL ONES IT IS A CLASS
 pub object-known : (g : Given) → ((table g).state.tables.object ≡ 2 ^ 64 - 1 → ⊥) → (table g).state.tables.object < (table g).state.tables.names
-unfolding table table_of Known noTables
+unfolding table table_of Known no_tables
 object-known g = go (eqb named.refusal 0)
   where
     named : Outcome
-    named = nameRows g.names g.name_at g.name_len [] noTables
+    named = name_rows g.names g.name_at g.name_len [] no_tables
 
     s : State
-    s = record { tables = named.tables; keys = []; marks = noMarks }
+    s = record { tables = named.tables; keys = []; marks = no_marks }
 
     start : Known named.tables
-    start = names-keep Known name-known g.names g.name_at g.name_len [] noTables (λ n. absurd (n refl))
+    start = names-keep Known name-known g.names g.name_at g.name_len [] no_tables (λ n. absurd (n refl))
 
-    go : (b : Bool) → Known (cond {A = Ran} b (recordRows g.parents g.rec_flags g.rec_class g.rec_at g.rec_len s) (record { refusal = named.refusal; state = s })).state.tables
+    go : (b : Bool) → Known (cond {A = Ran} b (record_rows g.parents g.rec_flags g.rec_class g.rec_at g.rec_len s) (record { refusal = named.refusal; state = s })).state.tables
     go true = records-known g.parents g.rec_flags g.rec_class g.rec_at g.rec_len s start
     go false = start

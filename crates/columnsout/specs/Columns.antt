@@ -2,9 +2,9 @@
 use Rattle.std.specs.Prelude.{◌≡◌, List, map, ℕ, ◌+◌, ◌≤◌, ◌<◌, length, get_or, set}
 use Rattle.std.proofs.Common.{sym, ap, ◌∙◌, zero-add, arith}
 use Rattle.std.proofs.Math.Seq.{paste}
-use Rattle.keys.specs.Rank.{keyComponent, keyKind}
+use Rattle.keys.specs.Rank.{key_component, key_kind}
 use Rattle.copying.specs.Copies.{word_in}
-use Rattle.copying.specs.Steps.{paste_more}
+use Rattle.copying.specs.Steps.{paste-more}
 use Rattle.lending.specs.Lending.{Slice, came, became}
 
 -- the first n of some keys' parts, in front of a slice; what stands past them stays
@@ -13,9 +13,9 @@ front f keys out n = paste out 0 (map f keys) n
 
 -- EACH KEY'S COMPONENT, KIND AND TYPE WORD
 pub record Written (keys components kinds types components' kinds' types' : List ℕ) : Type 0 where
-  pub components-are : components' ≡ front keyComponent keys components (length keys)
-  pub kinds-are : kinds' ≡ front keyKind keys kinds (length keys)
-  pub types_are : types' ≡ front word_in keys types (length keys)
+  pub components-are : components' ≡ front key_component keys components (length keys)
+  pub kinds-are : kinds' ≡ front key_kind keys kinds (length keys)
+  pub types-are : types' ≡ front word_in keys types (length keys)
 
 -- of the slices that a function is lent
 abbrev pub WrittenBy : (keys components kinds types : Slice) → Type 0
@@ -25,4 +25,4 @@ WrittenBy keys components kinds types = Written (came keys) (came components) (c
 pub front-more : (f : ℕ → ℕ) (keys out : List ℕ) (i v : ℕ) → v ≡ f (get_or keys i 0) → i < length keys → length keys ≤ length out
     → set (front f keys out i) i v ≡ front f keys out (i + 1)
 front-more f keys out i v e h l =
-    ap (λ (k : ℕ). set (front f keys out i) k v) (sym (zero-add i)) ∙ paste_more f out 0 keys i v e h (omega arith)
+    ap (λ (k : ℕ). set (front f keys out i) k v) (sym (zero-add i)) ∙ paste-more f out 0 keys i v e h (omega arith)

@@ -3,7 +3,7 @@ use Rattle.std.specs.Prelude.{List, [], ◌∷◌, ◌++◌, map, ℕ, ◌-◌, 
 use Rattle.sorted.specs.declared.Span.{Span}
 use Rattle.sorted.specs.Sorted.{run_of}
 use Rattle.ty.specs.Words.{word_of}
-use Rattle.keys.specs.Rank.{keyType}
+use Rattle.keys.specs.Rank.{key_type}
 use Rattle.solving.specs.Solving.{Upper, Lower, Exact}
 use Rattle.solving.specs.TableKeys.{prefix}
 
@@ -12,30 +12,30 @@ abbrev pub between : Span → List ℕ → List ℕ
 between r keys = take (r.past - r.first) (drop r.first keys)
 
 -- the keys of a component's bounds of one kind
-unfoldable pub runIn : ℕ → ℕ → List ℕ → List ℕ
-runIn c k keys = between (run_of (2 ^ 52) (prefix c k) keys) keys
+unfoldable pub run_in : ℕ → ℕ → List ℕ → List ℕ
+run_in c k keys = between (run_of (2 ^ 52) (prefix c k) keys) keys
 
 -- the rank in a key, and the word of its type
-abbrev pub rankIn : ℕ → ℕ
-rankIn x = x % 2 ^ 52
+abbrev pub rank_in : ℕ → ℕ
+rank_in x = x % 2 ^ 52
 
 abbrev pub word_in : ℕ → ℕ
-word_in x = word_of (keyType x)
+word_in x = word_of (key_type x)
 
-abbrev pub ranksIn : List ℕ → List ℕ
-ranksIn keys = map rankIn keys
+abbrev pub ranks_in : List ℕ → List ℕ
+ranks_in keys = map rank_in keys
 
 abbrev pub words_in : List ℕ → List ℕ
 words_in keys = map word_in keys
 
 -- the keys of what says what is produced: exact, or lower where none is exact
-abbrev pub orLower : List ℕ → List ℕ → List ℕ
-orLower [] lower = lower
-orLower (x ∷ xs) lower = x ∷ xs
+abbrev pub or_lower : List ℕ → List ℕ → List ℕ
+or_lower [] lower = lower
+or_lower (x ∷ xs) lower = x ∷ xs
 
-abbrev pub evidenceIn : ℕ → List ℕ → List ℕ
-evidenceIn c keys = orLower (runIn c Exact keys) (runIn c Lower keys)
+abbrev pub evidence_in : ℕ → List ℕ → List ℕ
+evidence_in c keys = or_lower (run_in c Exact keys) (run_in c Lower keys)
 
 -- the keys of what goes to the sources
-abbrev pub uppersIn : ℕ → List ℕ → List ℕ
-uppersIn c keys = runIn c Upper keys ++ runIn c Exact keys
+abbrev pub uppers_in : ℕ → List ℕ → List ℕ
+uppers_in c keys = run_in c Upper keys ++ run_in c Exact keys

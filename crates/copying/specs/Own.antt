@@ -6,26 +6,26 @@ use Rattle.sorted.specs.declared.Span.{Span}
 use Rattle.sorted.specs.Sorted.{Sorted, run_of}
 use Rattle.sorted.specs.Places.{run-within}
 use Rattle.sorted.specs.Parts.{part, part-sorted, part-front, entries, run-in-run}
-use Rattle.keys.specs.Rank.{keyType}
+use Rattle.keys.specs.Rank.{key_type}
 use Rattle.solving.specs.Tidy.{Tidy, part-tidy}
 use Rattle.solving.specs.TableKeys.{key_of, keys_of, tidy-keyed, prefix, types-run}
 use Rattle.solving.specs.Solving.{Domain, Fallback, Upper, Lower, Exact, Table, types_of, state_of}
-use Rattle.copying.specs.Copies.{runIn, uppersIn}
+use Rattle.copying.specs.Copies.{run_in, uppers_in}
 
 -- the keys of a component's bounds, of every kind
-abbrev pub ownIn : ℕ → List ℕ → List ℕ
-ownIn c keys = entries (2 ^ 55) c keys
+abbrev pub own_in : ℕ → List ℕ → List ℕ
+own_in c keys = entries (2 ^ 55) c keys
 
 module _ (c : ℕ) (keys : List ℕ) (o : Sorted keys) where
-  pub own-sorted : Sorted (ownIn c keys)
+  pub own-sorted : Sorted (own_in c keys)
   own-sorted = part-sorted (run_of (2 ^ 55) c keys).first (run_of (2 ^ 55) c keys).past keys o
 
   -- ITS BOUNDS OF A KIND
-  pub own-run : (k : ℕ) → k < 8 → runIn c k (ownIn c keys) ≡ runIn c k keys
-  unfolding runIn
+  pub own-run : (k : ℕ) → k < 8 → run_in c k (own_in c keys) ≡ run_in c k keys
+  unfolding run_in
   own-run k small = run-in-run (2 ^ 55) c (2 ^ 52) (prefix c k) keys o (omega arith) (omega arith)
 
-  pub own-uppers : uppersIn c (ownIn c keys) ≡ uppersIn c keys
+  pub own-uppers : uppers_in c (own_in c keys) ≡ uppers_in c keys
   own-uppers = ap₂ (λ (x y : List ℕ). x ++ y) (own-run Upper (omega arith)) (own-run Exact (omega arith))
 
 -- as code meets it: of the first n of a slice
@@ -36,8 +36,8 @@ module _ (c n : ℕ) (a : List ℕ) (o : Sorted (take n a)) (h : n ≤ length a)
       let w = run-within (2 ^ 55) c (take n a) o (omega arith) in
       subst (λ (s : Span). (s.first ≤ s.past) × (s.past ≤ n)) (sym e) (w.0, let z = w.1 in omega arith)
 
-  pub own_is : part r.first r.past a ≡ ownIn c (take n a)
-  own_is =
+  pub own-is : part r.first r.past a ≡ own_in c (take n a)
+  own-is =
       let w = own-within in
       sym (part-front r.first r.past n a w.0 w.1 h) ∙ ap (λ (s : Span). part s.first s.past (take n a)) e
 
@@ -60,24 +60,24 @@ module _ (names n : ℕ) (t : Table) (q : List ℕ) (few : names ≤ 1024) (y : 
   abbrev past : ℕ
   past = (run_of (2 ^ 55) c (keys_of t)).past
 
-  abbrev pub ownTable : Table
-  ownTable = take (past - first) (drop first t)
+  abbrev pub own_table : Table
+  own_table = take (past - first) (drop first t)
 
-  pub own_keys : ownIn c (keys_of t) ≡ keys_of ownTable
-  own_keys = ap (take (past - first)) (map-drop key_of first t) ∙ map-take key_of (past - first) (drop first t)
+  pub own-keys : own_in c (keys_of t) ≡ keys_of own_table
+  own-keys = ap (take (past - first)) (map-drop key_of first t) ∙ map-take key_of (past - first) (drop first t)
 
   -- THE PART IS THAT OF A TIDY TABLE
-  pub own-tidy : Tidy names n ownTable q
+  pub own-tidy : Tidy names n own_table q
   own-tidy = part-tidy names n t q first (past - first) y
 
-  own-types : (k : ℕ) → k < 8 → types_of c k ownTable ≡ types_of c k t
+  own-types : (k : ℕ) → k < 8 → types_of c k own_table ≡ types_of c k t
   own-types k small =
-      types-run c k small ownTable (tidy-keyed names n ownTable q few own-tidy) own-tidy.ascends
-      ∙ ap (map keyType) (ap (entries (2 ^ 52) (prefix c k)) (sym own_keys) ∙ run-in-run (2 ^ 55) c (2 ^ 52) (prefix c k) (keys_of t) o (omega arith) (omega arith))
+      types-run c k small own_table (tidy-keyed names n own_table q few own-tidy) own-tidy.ascends
+      ∙ ap (map key_type) (ap (entries (2 ^ 52) (prefix c k)) (sym own-keys) ∙ run-in-run (2 ^ 55) c (2 ^ 52) (prefix c k) (keys_of t) o (omega arith) (omega arith))
       ∙ sym (types-run c k small t (tidy-keyed names n t q few y) y.ascends)
 
   -- AND ITS STATE IS THE SAME
-  pub own-state : state_of ownTable c ≡ state_of t c
+  pub own-state : state_of own_table c ≡ state_of t c
   unfolding state_of
   own-state =
       let e = own-types Exact (omega arith) in

@@ -9,29 +9,29 @@ use Rattle.bracepuffin.proofs.bp_ancestors.Kinds as bp-ancestors-kinds
 -- ---- of a question with two numbers; those of the six questions are of the same kinds
 
 -- the eight columns
-abbrev pub columnsAsked : (κs : Lfts 9) → Dens κs bp-relation-kinds.ps → Given
-columnsAsked κs a =
+abbrev pub columns_asked : (κs : Lfts 9) → Dens κs bp-relation-kinds.ps → Given
+columns_asked κs a =
     given a.0.now a.1.0.now a.1.1.0.now a.1.1.1.0.now a.1.1.1.1.0.now a.1.1.1.1.1.0.now a.1.1.1.1.1.1.0.now a.1.1.1.1.1.1.1.0.now
 
 -- the two numbers
-abbrev pub firstAsked : (κs : Lfts 9) → Dens κs bp-relation-kinds.ps → ℕ
-firstAsked κs a = a.1.1.1.1.1.1.1.1.0
+abbrev pub first_asked : (κs : Lfts 9) → Dens κs bp-relation-kinds.ps → ℕ
+first_asked κs a = a.1.1.1.1.1.1.1.1.0
 
-abbrev pub secondAsked : (κs : Lfts 9) → Dens κs bp-relation-kinds.ps → ℕ
-secondAsked κs a = a.1.1.1.1.1.1.1.1.1.0
+abbrev pub second_asked : (κs : Lfts 9) → Dens κs bp-relation-kinds.ps → ℕ
+second_asked κs a = a.1.1.1.1.1.1.1.1.1.0
 
 -- the length of the work
-abbrev pub roomAsked : (κs : Lfts 9) → Dens κs bp-relation-kinds.ps → ℕ
-roomAsked κs a = length a.1.1.1.1.1.1.1.1.1.1.0.now
+abbrev pub room_asked : (κs : Lfts 9) → Dens κs bp-relation-kinds.ps → ℕ
+room_asked κs a = length a.1.1.1.1.1.1.1.1.1.1.0.now
 
 -- ---- of the ancestors
 
-abbrev pub columnsOfOne : (κs : Lfts 9) → Dens κs bp-ancestors-kinds.ps → Given
-columnsOfOne κs a =
+abbrev pub columns_of_one : (κs : Lfts 9) → Dens κs bp-ancestors-kinds.ps → Given
+columns_of_one κs a =
     given a.0.now a.1.0.now a.1.1.0.now a.1.1.1.0.now a.1.1.1.1.0.now a.1.1.1.1.1.0.now a.1.1.1.1.1.1.0.now a.1.1.1.1.1.1.1.0.now
 
-abbrev pub classOfOne : (κs : Lfts 9) → Dens κs bp-ancestors-kinds.ps → ℕ
-classOfOne κs a = a.1.1.1.1.1.1.1.1.0
+abbrev pub class_of_one : (κs : Lfts 9) → Dens κs bp-ancestors-kinds.ps → ℕ
+class_of_one κs a = a.1.1.1.1.1.1.1.1.0
 
-abbrev pub roomOfOne : (κs : Lfts 9) → Dens κs bp-ancestors-kinds.ps → ℕ
-roomOfOne κs a = length a.1.1.1.1.1.1.1.1.1.0.now
+abbrev pub room_of_one : (κs : Lfts 9) → Dens κs bp-ancestors-kinds.ps → ℕ
+room_of_one κs a = length a.1.1.1.1.1.1.1.1.1.0.now

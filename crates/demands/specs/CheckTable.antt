@@ -10,14 +10,14 @@ use denote.Triple.Clauses.{AtExit}
 use contract.Lifetimes.{Lfts}
 use Rattle.rows.specs.Rows.{all_below}
 use Rattle.columns.specs.Given.{Given, given}
-use Rattle.tableview.specs.TableRows.{rowsView, rowsIn}
-use Rattle.stackview.specs.LayerRows.{shownIn}
+use Rattle.tableview.specs.TableRows.{rows_view, rows_in}
+use Rattle.stackview.specs.LayerRows.{shown_in}
 use Rattle.tableview.specs.Domain.{Aligned, Placed, even-exactly}
 use Rattle.stackview.specs.Domain.{LayersInDomain, stack-exactly, shown-object}
 use Rattle.stackview.specs.Shown.{stack-refused}
 use Rattle.questions.specs.declared.Question.TheVariants.{Relation, Distance, Supertype, Cast, Join, Assignable}
-use Rattle.questions.specs.Questions.{goodNumbers}
-use Rattle.tablecheck.specs.TableCheck.{told, tableCheck}
+use Rattle.questions.specs.Questions.{good_numbers}
+use Rattle.tablecheck.specs.TableCheck.{told, table_check}
 use Rattle.questionlaws.specs.Accepted.{NumbersIn}
 use Rattle.questionlaws.specs.FirstRow.{Finds, check-finds}
 use Rattle.questionlaws.specs.Checked.{question-alike, ancestors-alike, zero-exactly}
@@ -41,23 +41,23 @@ use Rattle.bracepuffin.specs.declared.BpTable.{BpTable}
 use Rattle.bracepuffin.specs.declared.BpRelation.{BpRelation}
 use Rattle.bracepuffin.specs.declared.BpAnswer.{BpAnswer}
 use Rattle.bracepuffin.specs.declared.BpSet.{BpSet}
-use Rattle.bracepuffin.specs.Boundary.{relationTold, distanceTold, ancestorsTold, supertypeTold, castTold, joinTold, assignableTold}
-use Rattle.demands.specs.Asked.{columnsAsked, firstAsked, secondAsked, roomAsked, columnsOfOne, classOfOne, roomOfOne}
+use Rattle.bracepuffin.specs.Boundary.{relation_told, distance_told, ancestors_told, supertype_told, cast_told, join_told, assignable_told}
+use Rattle.demands.specs.Asked.{columns_asked, first_asked, second_asked, room_asked, columns_of_one, class_of_one, room_of_one}
 use Rattle.demands.specs.Classes.{answer-refusal, gathered-refusal}
 use Rattle.demands.specs.NotRefused.{numbers-good}
 
 -- the eight columns
-abbrev pub columnsChecked : (κs : Lfts 8) → Dens κs bp-check-table-kinds.ps → Given
-columnsChecked κs a =
+abbrev pub columns_checked : (κs : Lfts 8) → Dens κs bp-check-table-kinds.ps → Given
+columns_checked κs a =
     given a.0.now a.1.0.now a.1.1.0.now a.1.1.1.0.now a.1.1.1.1.0.now a.1.1.1.1.1.0.now a.1.1.1.1.1.1.0.now a.1.1.1.1.1.1.1.0.now
 
 -- columns of equal length, every row inside its slice, the rows in the domain
 pub record Tabled (g : Given) : Type 0 where
   pub aligned : Aligned g
   pub placed : Placed g
-  pub rows : LayersInDomain (rowsIn g)
+  pub rows : LayersInDomain (rows_in g)
 
-tabled-exactly : (g : Given) → ((tableCheck g).refusal ≡ 0) ↔ Tabled g
+tabled-exactly : (g : Given) → ((table_check g).refusal ≡ 0) ↔ Tabled g
 tabled-exactly g = (
   λ z. let w = (zero-exactly g).0 z in
       let al = (even-exactly g).0 w.0 in
@@ -72,78 +72,78 @@ tabled-exactly g = (
 
 module _ (κs : Lfts 8) (a : Dens κs bp-check-table-kinds.ps) (r : (res_t bp-check-table-kinds.r κs).Denot) (x : AtExit (ended_of 8 bp-check-table-kinds.ps bp-check-table-kinds.r) κs)
     (p : bp-check-table-reads.Post κs a r x) where
-  refusal-told : r.refusal ≡ (tableCheck (columnsChecked κs a)).refusal
+  refusal-told : r.refusal ≡ (table_check (columns_checked κs a)).refusal
   refusal-told = ap (λ (q : BpTable). q.refusal) p
 
   -- A TABLE IS NOT REFUSED EXACTLY IN THE DOMAIN
-  pub bp-check-table-taken : (r.refusal ≡ 0) ↔ Tabled (columnsChecked κs a)
-  bp-check-table-taken = (λ z. (tabled-exactly (columnsChecked κs a)).0 (sym refusal-told ∙ z), λ w. refusal-told ∙ (tabled-exactly (columnsChecked κs a)).1 w)
+  pub bp-check-table-taken : (r.refusal ≡ 0) ↔ Tabled (columns_checked κs a)
+  bp-check-table-taken = (λ z. (tabled-exactly (columns_checked κs a)).0 (sym refusal-told ∙ z), λ w. refusal-told ∙ (tabled-exactly (columns_checked κs a)).1 w)
 
   -- WHAT IS TOLD IS THE FIRST THAT IS REFUSED: columns, the first name, the first record, the lack of Object; or nothing, and zeros
-  pub bp-check-table-finds : Finds (columnsChecked κs a) (told r.refusal r.part r.row)
-  bp-check-table-finds = subst (λ (q : BpTable). Finds (columnsChecked κs a) (told q.refusal q.part q.row)) (sym p) (check-finds (columnsChecked κs a))
+  pub bp-check-table-finds : Finds (columns_checked κs a) (told r.refusal r.part r.row)
+  bp-check-table-finds = subst (λ (q : BpTable). Finds (columns_checked κs a) (told q.refusal q.part q.row)) (sym p) (check-finds (columns_checked κs a))
 
   -- ---- EVERY QUESTION OVER THE SAME COLUMNS, with a work of 8,192 words and numbers of classes, or types, IS REFUSED WITH THE SAME NUMBER
 
   pub bp-relation-alike : (λs : Lfts 9) (b : Dens λs bp-relation-kinds.ps) (q : (res_t bp-relation-kinds.r λs).Denot) (y : AtExit (ended_of 9 bp-relation-kinds.ps bp-relation-kinds.r) λs)
-      → bp-relation-reads.Post λs b q y → columnsAsked λs b ≡ columnsChecked κs a → 8192 ≤ roomAsked λs b
-      → NumbersIn false (length (shownIn (columnsAsked λs b)).names) (firstAsked λs b) (secondAsked λs b) → q.refusal ≡ r.refusal
-  unfolding relationTold rowsView
+      → bp-relation-reads.Post λs b q y → columns_asked λs b ≡ columns_checked κs a → 8192 ≤ room_asked λs b
+      → NumbersIn false (length (shown_in (columns_asked λs b)).names) (first_asked λs b) (second_asked λs b) → q.refusal ≡ r.refusal
+  unfolding relation_told rows_view
   bp-relation-alike λs b q y o e h w =
       ap (λ (z : BpRelation). z.refusal) o.0 ∙ answer-refusal _ _
-      ∙ question-alike (columnsAsked λs b) Relation (firstAsked λs b) (secondAsked λs b) (roomAsked λs b) h ((numbers-good false (length (shownIn (columnsAsked λs b)).names) (firstAsked λs b) (secondAsked λs b)).1 w)
-      ∙ ap (λ (g : Given). (tableCheck g).refusal) e ∙ sym refusal-told
+      ∙ question-alike (columns_asked λs b) Relation (first_asked λs b) (second_asked λs b) (room_asked λs b) h ((numbers-good false (length (shown_in (columns_asked λs b)).names) (first_asked λs b) (second_asked λs b)).1 w)
+      ∙ ap (λ (g : Given). (table_check g).refusal) e ∙ sym refusal-told
 
   pub bp-distance-alike : (λs : Lfts 9) (b : Dens λs bp-distance-kinds.ps) (q : (res_t bp-distance-kinds.r λs).Denot) (y : AtExit (ended_of 9 bp-distance-kinds.ps bp-distance-kinds.r) λs)
-      → bp-distance-reads.Post λs b q y → columnsAsked λs b ≡ columnsChecked κs a → 8192 ≤ roomAsked λs b
-      → NumbersIn false (length (shownIn (columnsAsked λs b)).names) (firstAsked λs b) (secondAsked λs b) → q.refusal ≡ r.refusal
-  unfolding distanceTold rowsView
+      → bp-distance-reads.Post λs b q y → columns_asked λs b ≡ columns_checked κs a → 8192 ≤ room_asked λs b
+      → NumbersIn false (length (shown_in (columns_asked λs b)).names) (first_asked λs b) (second_asked λs b) → q.refusal ≡ r.refusal
+  unfolding distance_told rows_view
   bp-distance-alike λs b q y o e h w =
       ap (λ (z : BpAnswer). z.refusal) o.0 ∙ answer-refusal _ _
-      ∙ question-alike (columnsAsked λs b) Distance (firstAsked λs b) (secondAsked λs b) (roomAsked λs b) h ((numbers-good false (length (shownIn (columnsAsked λs b)).names) (firstAsked λs b) (secondAsked λs b)).1 w)
-      ∙ ap (λ (g : Given). (tableCheck g).refusal) e ∙ sym refusal-told
+      ∙ question-alike (columns_asked λs b) Distance (first_asked λs b) (second_asked λs b) (room_asked λs b) h ((numbers-good false (length (shown_in (columns_asked λs b)).names) (first_asked λs b) (second_asked λs b)).1 w)
+      ∙ ap (λ (g : Given). (table_check g).refusal) e ∙ sym refusal-told
 
   pub bp-supertype-alike : (λs : Lfts 9) (b : Dens λs bp-supertype-kinds.ps) (q : (res_t bp-supertype-kinds.r λs).Denot) (y : AtExit (ended_of 9 bp-supertype-kinds.ps bp-supertype-kinds.r) λs)
-      → bp-supertype-reads.Post λs b q y → columnsAsked λs b ≡ columnsChecked κs a → 8192 ≤ roomAsked λs b
-      → NumbersIn false (length (shownIn (columnsAsked λs b)).names) (firstAsked λs b) (secondAsked λs b) → q.refusal ≡ r.refusal
-  unfolding supertypeTold rowsView
+      → bp-supertype-reads.Post λs b q y → columns_asked λs b ≡ columns_checked κs a → 8192 ≤ room_asked λs b
+      → NumbersIn false (length (shown_in (columns_asked λs b)).names) (first_asked λs b) (second_asked λs b) → q.refusal ≡ r.refusal
+  unfolding supertype_told rows_view
   bp-supertype-alike λs b q y o e h w =
       ap (λ (z : BpAnswer). z.refusal) o.0 ∙ answer-refusal _ _
-      ∙ question-alike (columnsAsked λs b) Supertype (firstAsked λs b) (secondAsked λs b) (roomAsked λs b) h ((numbers-good false (length (shownIn (columnsAsked λs b)).names) (firstAsked λs b) (secondAsked λs b)).1 w)
-      ∙ ap (λ (g : Given). (tableCheck g).refusal) e ∙ sym refusal-told
+      ∙ question-alike (columns_asked λs b) Supertype (first_asked λs b) (second_asked λs b) (room_asked λs b) h ((numbers-good false (length (shown_in (columns_asked λs b)).names) (first_asked λs b) (second_asked λs b)).1 w)
+      ∙ ap (λ (g : Given). (table_check g).refusal) e ∙ sym refusal-told
 
   pub bp-cast-alike : (λs : Lfts 9) (b : Dens λs bp-cast-kinds.ps) (q : (res_t bp-cast-kinds.r λs).Denot) (y : AtExit (ended_of 9 bp-cast-kinds.ps bp-cast-kinds.r) λs)
-      → bp-cast-reads.Post λs b q y → columnsAsked λs b ≡ columnsChecked κs a → 8192 ≤ roomAsked λs b
-      → NumbersIn false (length (shownIn (columnsAsked λs b)).names) (firstAsked λs b) (secondAsked λs b) → q.refusal ≡ r.refusal
-  unfolding castTold rowsView
+      → bp-cast-reads.Post λs b q y → columns_asked λs b ≡ columns_checked κs a → 8192 ≤ room_asked λs b
+      → NumbersIn false (length (shown_in (columns_asked λs b)).names) (first_asked λs b) (second_asked λs b) → q.refusal ≡ r.refusal
+  unfolding cast_told rows_view
   bp-cast-alike λs b q y o e h w =
       ap (λ (z : BpAnswer). z.refusal) o.0 ∙ answer-refusal _ _
-      ∙ question-alike (columnsAsked λs b) Cast (firstAsked λs b) (secondAsked λs b) (roomAsked λs b) h ((numbers-good false (length (shownIn (columnsAsked λs b)).names) (firstAsked λs b) (secondAsked λs b)).1 w)
-      ∙ ap (λ (g : Given). (tableCheck g).refusal) e ∙ sym refusal-told
+      ∙ question-alike (columns_asked λs b) Cast (first_asked λs b) (second_asked λs b) (room_asked λs b) h ((numbers-good false (length (shown_in (columns_asked λs b)).names) (first_asked λs b) (second_asked λs b)).1 w)
+      ∙ ap (λ (g : Given). (table_check g).refusal) e ∙ sym refusal-told
 
   pub bp-join-alike : (λs : Lfts 9) (b : Dens λs bp-join-kinds.ps) (q : (res_t bp-join-kinds.r λs).Denot) (y : AtExit (ended_of 9 bp-join-kinds.ps bp-join-kinds.r) λs)
-      → bp-join-reads.Post λs b q y → columnsAsked λs b ≡ columnsChecked κs a → 8192 ≤ roomAsked λs b
-      → NumbersIn true (length (shownIn (columnsAsked λs b)).names) (firstAsked λs b) (secondAsked λs b) → q.refusal ≡ r.refusal
-  unfolding joinTold rowsView
+      → bp-join-reads.Post λs b q y → columns_asked λs b ≡ columns_checked κs a → 8192 ≤ room_asked λs b
+      → NumbersIn true (length (shown_in (columns_asked λs b)).names) (first_asked λs b) (second_asked λs b) → q.refusal ≡ r.refusal
+  unfolding join_told rows_view
   bp-join-alike λs b q y o e h w =
       ap (λ (z : BpAnswer). z.refusal) o.0 ∙ answer-refusal _ _
-      ∙ question-alike (columnsAsked λs b) Join (firstAsked λs b) (secondAsked λs b) (roomAsked λs b) h ((numbers-good true (length (shownIn (columnsAsked λs b)).names) (firstAsked λs b) (secondAsked λs b)).1 w)
-      ∙ ap (λ (g : Given). (tableCheck g).refusal) e ∙ sym refusal-told
+      ∙ question-alike (columns_asked λs b) Join (first_asked λs b) (second_asked λs b) (room_asked λs b) h ((numbers-good true (length (shown_in (columns_asked λs b)).names) (first_asked λs b) (second_asked λs b)).1 w)
+      ∙ ap (λ (g : Given). (table_check g).refusal) e ∙ sym refusal-told
 
   pub bp-assignable-alike : (λs : Lfts 9) (b : Dens λs bp-assignable-kinds.ps) (q : (res_t bp-assignable-kinds.r λs).Denot) (y : AtExit (ended_of 9 bp-assignable-kinds.ps bp-assignable-kinds.r) λs)
-      → bp-assignable-reads.Post λs b q y → columnsAsked λs b ≡ columnsChecked κs a → 8192 ≤ roomAsked λs b
-      → NumbersIn true (length (shownIn (columnsAsked λs b)).names) (firstAsked λs b) (secondAsked λs b) → q.refusal ≡ r.refusal
-  unfolding assignableTold rowsView
+      → bp-assignable-reads.Post λs b q y → columns_asked λs b ≡ columns_checked κs a → 8192 ≤ room_asked λs b
+      → NumbersIn true (length (shown_in (columns_asked λs b)).names) (first_asked λs b) (second_asked λs b) → q.refusal ≡ r.refusal
+  unfolding assignable_told rows_view
   bp-assignable-alike λs b q y o e h w =
       ap (λ (z : BpAnswer). z.refusal) o.0 ∙ answer-refusal _ _
-      ∙ question-alike (columnsAsked λs b) Assignable (firstAsked λs b) (secondAsked λs b) (roomAsked λs b) h ((numbers-good true (length (shownIn (columnsAsked λs b)).names) (firstAsked λs b) (secondAsked λs b)).1 w)
-      ∙ ap (λ (g : Given). (tableCheck g).refusal) e ∙ sym refusal-told
+      ∙ question-alike (columns_asked λs b) Assignable (first_asked λs b) (second_asked λs b) (room_asked λs b) h ((numbers-good true (length (shown_in (columns_asked λs b)).names) (first_asked λs b) (second_asked λs b)).1 w)
+      ∙ ap (λ (g : Given). (table_check g).refusal) e ∙ sym refusal-told
 
   pub bp-ancestors-alike : (λs : Lfts 9) (b : Dens λs bp-ancestors-kinds.ps) (q : (res_t bp-ancestors-kinds.r λs).Denot) (y : AtExit (ended_of 9 bp-ancestors-kinds.ps bp-ancestors-kinds.r) λs)
-      → bp-ancestors-reads.Post λs b q y → columnsOfOne λs b ≡ columnsChecked κs a → 8192 ≤ roomOfOne λs b
-      → classOfOne λs b < length (shownIn (columnsOfOne λs b)).names → q.refusal ≡ r.refusal
-  unfolding ancestorsTold rowsView goodNumbers all_below
+      → bp-ancestors-reads.Post λs b q y → columns_of_one λs b ≡ columns_checked κs a → 8192 ≤ room_of_one λs b
+      → class_of_one λs b < length (shown_in (columns_of_one λs b)).names → q.refusal ≡ r.refusal
+  unfolding ancestors_told rows_view good_numbers all_below
   bp-ancestors-alike λs b q y o e h w =
       ap (λ (z : BpSet). z.refusal) o.0 ∙ gathered-refusal _ _
-      ∙ ancestors-alike (columnsOfOne λs b) (classOfOne λs b) (roomOfOne λs b) h (rw (lt-ltb (classOfOne λs b) (length (shownIn (columnsOfOne λs b)).names) w) refl)
-      ∙ ap (λ (g : Given). (tableCheck g).refusal) e ∙ sym refusal-told
+      ∙ ancestors-alike (columns_of_one λs b) (class_of_one λs b) (room_of_one λs b) h (rw (lt-ltb (class_of_one λs b) (length (shown_in (columns_of_one λs b)).names) w) refl)
+      ∙ ap (λ (g : Given). (table_check g).refusal) e ∙ sym refusal-told

@@ -13,17 +13,17 @@ use contract.Lifetimes.{Lfts}
 use Rattle.sets.specs.Sets.{at, member, members, first}
 use Rattle.sorted.specs.Sorted.{Sorted}
 use Rattle.view.specs.declared.Relation.TheVariants.{Yes, No, Unknown}
-use Rattle.view.specs.View.{number_of, distance, ancestors, relation, relationNumber, cast, nearer, supertype}
+use Rattle.view.specs.View.{number_of, distance, ancestors, relation, relation_number, cast, nearer, supertype}
 use Rattle.view.specs.Reach.{Good}
-use Rattle.view.specs.Relations.{relationNumber-injective}
+use Rattle.view.specs.Relations.{relation_number-injective}
 use Rattle.columns.specs.Given.{Given}
-use Rattle.tableview.specs.TableRows.{Rows, rowsView}
-use Rattle.stackview.specs.LayerRows.{shownIn}
+use Rattle.tableview.specs.TableRows.{Rows, rows_view}
+use Rattle.stackview.specs.LayerRows.{shown_in}
 use Rattle.tableview.specs.Paths.{NoWay, Shortest, IsObject, Kind, near, top, neither, kind}
-use Rattle.tableview.specs.Answers.{Ancestor, Whole, Lacking, ByFacts, LeastCommon, yes-rows, no_rows, unknown-rows, set-rows, list-rows, lowest-rows, members-sorted, cast-rows, supertype-rows, supertype-right-rows, supertype-left-rows, supertype-nearest-rows}
+use Rattle.tableview.specs.Answers.{Ancestor, Whole, Lacking, ByFacts, LeastCommon, yes-rows, no-rows, unknown-rows, set-rows, list-rows, lowest-rows, members-sorted, cast-rows, supertype-rows, supertype-right-rows, supertype-left-rows, supertype-nearest-rows}
 use Rattle.questions.specs.declared.Question.TheVariants.{Relation, Distance, Supertype, Cast}
 use Rattle.questions.specs.declared.Ancestors.{Ancestors}
-use Rattle.questions.specs.Questions.{questionRefusal, ancestorsRefusal, answered, gathered}
+use Rattle.questions.specs.Questions.{question_refusal, ancestors_refusal, answered, gathered}
 use Rattle.questionlaws.specs.Accepted.{accepted, accepted-class}
 use Rattle.bracepuffin.proofs.bp_relation.Reads as bp-relation-reads
 use Rattle.bracepuffin.proofs.bp_relation.Kinds as bp-relation-kinds
@@ -38,8 +38,8 @@ use Rattle.bracepuffin.proofs.bp_cast.Kinds as bp-cast-kinds
 use Rattle.bracepuffin.specs.declared.BpRelation.{BpRelation}
 use Rattle.bracepuffin.specs.declared.BpAnswer.{BpAnswer}
 use Rattle.bracepuffin.specs.declared.BpSet.{BpSet}
-use Rattle.bracepuffin.specs.Boundary.{relationTold, distanceTold, ancestorsTold, supertypeTold, castTold, setAnswer}
-use Rattle.demands.specs.Asked.{columnsAsked, firstAsked, secondAsked, roomAsked, columnsOfOne, classOfOne, roomOfOne}
+use Rattle.bracepuffin.specs.Boundary.{relation_told, distance_told, ancestors_told, supertype_told, cast_told, set_answer}
+use Rattle.demands.specs.Asked.{columns_asked, first_asked, second_asked, room_asked, columns_of_one, class_of_one, room_of_one}
 
 -- ---- what each number says
 
@@ -67,7 +67,7 @@ pub record SupertypeSays (t : Rows) (left right n : ℕ) : Type 0 where
   pub least : LeastCommon t left right n
   pub right-first : Ancestor t left right → n ≡ right
   pub left-next : (Ancestor t left right → ⊥) → Ancestor t right left → n ≡ left
-  pub nearest : (Ancestor t left right → ⊥) → (Ancestor t right left → ⊥) → (d : ℕ) → LeastCommon t left right d → (d ≡ n) ⊎ (nearer (rowsView t) left right n d ≡ true)
+  pub nearest : (Ancestor t left right → ⊥) → (Ancestor t right left → ⊥) → (d : ℕ) → LeastCommon t left right d → (d ≡ n) ⊎ (nearer (rows_view t) left right n d ≡ true)
 
 -- 1 for an ancestor either way round, or by the facts of the last rows with flag 1; else 0
 pub record CastSays (t : Rows) (source target n : ℕ) : Type 0 where
@@ -76,18 +76,18 @@ pub record CastSays (t : Rows) (source target n : ℕ) : Type 0 where
 
 -- ---- over a good table
 
-module _ (t : Rows) (g : Good (rowsView t)) where
-  relation-says : (x y : ℕ) → x < length t.names → RelationSays t x y (relationNumber (relation (rowsView t) x y))
-  unfolding relationNumber
+module _ (t : Rows) (g : Good (rows_view t)) where
+  relation-says : (x y : ℕ) → x < length t.names → RelationSays t x y (relation_number (relation (rows_view t) x y))
+  unfolding relation_number
   relation-says x y h = record {
-    yes = (λ e. (yes-rows t g x h y).0 (relationNumber-injective (relation (rowsView t) x y) Yes e), λ w. ap relationNumber ((yes-rows t g x h y).1 w));
-    no = (λ e. (no_rows t g x h y).0 (relationNumber-injective (relation (rowsView t) x y) No e), λ w. ap relationNumber ((no_rows t g x h y).1 w));
-    unknown = (λ e. (unknown-rows t g x h y).0 (relationNumber-injective (relation (rowsView t) x y) Unknown e), λ w. ap relationNumber ((unknown-rows t g x h y).1 w));
+    yes = (λ e. (yes-rows t g x h y).0 (relation_number-injective (relation (rows_view t) x y) Yes e), λ w. ap relation_number ((yes-rows t g x h y).1 w));
+    no = (λ e. (no-rows t g x h y).0 (relation_number-injective (relation (rows_view t) x y) No e), λ w. ap relation_number ((no-rows t g x h y).1 w));
+    unknown = (λ e. (unknown-rows t g x h y).0 (relation_number-injective (relation (rows_view t) x y) Unknown e), λ w. ap relation_number ((unknown-rows t g x h y).1 w));
   }
 
-  distance-says : (x y : ℕ) → x < length t.names → DistanceSays t x y (number_of (distance (rowsView t) x y))
+  distance-says : (x y : ℕ) → x < length t.names → DistanceSays t x y (number_of (distance (rows_view t) x y))
   unfolding number_of
-  distance-says x y h = go (distance (rowsView t) x y) (kind t g x h y)
+  distance-says x y h = go (distance (rows_view t) x y) (kind t g x h y)
     where
       go : (o : Option ℕ) → Kind t g x h y o → DistanceSays t x y (number_of o)
       go (some m) (near l s) = record {
@@ -109,7 +109,7 @@ module _ (t : Rows) (g : Good (rowsView t)) where
         absent = (λ e. (o, w), λ v. refl);
       }
 
-  supertype-says : (l r : ℕ) → l < length t.names → r < length t.names → SupertypeSays t l r (number_of (supertype (rowsView t) l r))
+  supertype-says : (l r : ℕ) → l < length t.names → r < length t.names → SupertypeSays t l r (number_of (supertype (rows_view t) l r))
   unfolding number_of
   supertype-says l r hl hr =
       let s = supertype-rows t g l r hl hr in
@@ -123,10 +123,10 @@ module _ (t : Rows) (g : Good (rowsView t)) where
       same : (c d : ℕ) → some c ≡ some d → c ≡ d
       same c d e = cc
 
-  cast-says : (s e : ℕ) → s < length t.names → e < length t.names → CastSays t s e (cond (cast (rowsView t) s e) 1 0)
-  cast-says s e hs he = go (cast (rowsView t) s e) refl
+  cast-says : (s e : ℕ) → s < length t.names → e < length t.names → CastSays t s e (cond (cast (rows_view t) s e) 1 0)
+  cast-says s e hs he = go (cast (rows_view t) s e) refl
     where
-      go : (b : Bool) → cast (rowsView t) s e ≡ b → CastSays t s e (cond b 1 0)
+      go : (b : Bool) → cast (rows_view t) s e ≡ b → CastSays t s e (cond b 1 0)
       go true q = record { passes = (λ z. (cast-rows t g s e hs he).0 q, λ w. refl); otherwise = λ n. absurd (n refl) }
       go false q = record { passes = (λ z. absurd (omega arith), λ w. absurd (true≢false (sym ((cast-rows t g s e hs he).1 w) ∙ q))); otherwise = λ n. refl }
 
@@ -152,78 +152,78 @@ gathered-refusal k s = go (eqb k 0) refl
     go false e = refl
 
 module _ (g : Given) where
-  relation-told : (x y room : ℕ) (r : BpRelation) → r ≡ relationTold g x y room → r.refusal ≡ 0 → RelationSays (shownIn g) x y r.relation
-  unfolding relationTold rowsView
+  relation-told : (x y room : ℕ) (r : BpRelation) → r ≡ relation_told g x y room → r.refusal ≡ 0 → RelationSays (shown_in g) x y r.relation
+  unfolding relation_told rows_view
   relation-told x y room r e z =
-      let v = relationNumber (relation (rowsView (shownIn g)) x y) in
-      let k = questionRefusal g Relation x y room in
-      let zero_is : k ≡ 0 = sym (answer-refusal k v) ∙ sym (ap (λ (q : BpRelation). q.refusal) e) ∙ z in
-      let w = accepted g Relation x y room zero_is in
-      subst (RelationSays (shownIn g) x y) (sym (ap (λ (q : BpRelation). q.relation) e ∙ answer-is k v zero_is)) (relation-says (shownIn g) w.good x y w.numbers-in.0)
+      let v = relation_number (relation (rows_view (shown_in g)) x y) in
+      let k = question_refusal g Relation x y room in
+      let zero-is : k ≡ 0 = sym (answer-refusal k v) ∙ sym (ap (λ (q : BpRelation). q.refusal) e) ∙ z in
+      let w = accepted g Relation x y room zero-is in
+      subst (RelationSays (shown_in g) x y) (sym (ap (λ (q : BpRelation). q.relation) e ∙ answer-is k v zero-is)) (relation-says (shown_in g) w.good x y w.numbers-in.0)
 
-  distance-told : (x y room : ℕ) (r : BpAnswer) → r ≡ distanceTold g x y room → r.refusal ≡ 0 → DistanceSays (shownIn g) x y r.value
-  unfolding distanceTold rowsView
+  distance-told : (x y room : ℕ) (r : BpAnswer) → r ≡ distance_told g x y room → r.refusal ≡ 0 → DistanceSays (shown_in g) x y r.value
+  unfolding distance_told rows_view
   distance-told x y room r e z =
-      let v = number_of (distance (rowsView (shownIn g)) x y) in
-      let k = questionRefusal g Distance x y room in
-      let zero_is : k ≡ 0 = sym (answer-refusal k v) ∙ sym (ap (λ (q : BpAnswer). q.refusal) e) ∙ z in
-      let w = accepted g Distance x y room zero_is in
-      subst (DistanceSays (shownIn g) x y) (sym (ap (λ (q : BpAnswer). q.value) e ∙ answer-is k v zero_is)) (distance-says (shownIn g) w.good x y w.numbers-in.0)
+      let v = number_of (distance (rows_view (shown_in g)) x y) in
+      let k = question_refusal g Distance x y room in
+      let zero-is : k ≡ 0 = sym (answer-refusal k v) ∙ sym (ap (λ (q : BpAnswer). q.refusal) e) ∙ z in
+      let w = accepted g Distance x y room zero-is in
+      subst (DistanceSays (shown_in g) x y) (sym (ap (λ (q : BpAnswer). q.value) e ∙ answer-is k v zero-is)) (distance-says (shown_in g) w.good x y w.numbers-in.0)
 
-  supertype-told : (l m room : ℕ) (r : BpAnswer) → r ≡ supertypeTold g l m room → r.refusal ≡ 0 → SupertypeSays (shownIn g) l m r.value
-  unfolding supertypeTold rowsView
+  supertype-told : (l m room : ℕ) (r : BpAnswer) → r ≡ supertype_told g l m room → r.refusal ≡ 0 → SupertypeSays (shown_in g) l m r.value
+  unfolding supertype_told rows_view
   supertype-told l m room r e z =
-      let v = number_of (supertype (rowsView (shownIn g)) l m) in
-      let k = questionRefusal g Supertype l m room in
-      let zero_is : k ≡ 0 = sym (answer-refusal k v) ∙ sym (ap (λ (q : BpAnswer). q.refusal) e) ∙ z in
-      let w = accepted g Supertype l m room zero_is in
-      subst (SupertypeSays (shownIn g) l m) (sym (ap (λ (q : BpAnswer). q.value) e ∙ answer-is k v zero_is)) (supertype-says (shownIn g) w.good l m w.numbers-in.0 w.numbers-in.1)
+      let v = number_of (supertype (rows_view (shown_in g)) l m) in
+      let k = question_refusal g Supertype l m room in
+      let zero-is : k ≡ 0 = sym (answer-refusal k v) ∙ sym (ap (λ (q : BpAnswer). q.refusal) e) ∙ z in
+      let w = accepted g Supertype l m room zero-is in
+      subst (SupertypeSays (shown_in g) l m) (sym (ap (λ (q : BpAnswer). q.value) e ∙ answer-is k v zero-is)) (supertype-says (shown_in g) w.good l m w.numbers-in.0 w.numbers-in.1)
 
-  cast-told : (x y room : ℕ) (r : BpAnswer) → r ≡ castTold g x y room → r.refusal ≡ 0 → CastSays (shownIn g) x y r.value
-  unfolding castTold rowsView
+  cast-told : (x y room : ℕ) (r : BpAnswer) → r ≡ cast_told g x y room → r.refusal ≡ 0 → CastSays (shown_in g) x y r.value
+  unfolding cast_told rows_view
   cast-told x y room r e z =
-      let v = cond {A = ℕ} (cast (rowsView (shownIn g)) x y) 1 0 in
-      let k = questionRefusal g Cast x y room in
-      let zero_is : k ≡ 0 = sym (answer-refusal k v) ∙ sym (ap (λ (q : BpAnswer). q.refusal) e) ∙ z in
-      let w = accepted g Cast x y room zero_is in
-      subst (CastSays (shownIn g) x y) (sym (ap (λ (q : BpAnswer). q.value) e ∙ answer-is k v zero_is)) (cast-says (shownIn g) w.good x y w.numbers-in.0 w.numbers-in.1)
+      let v = cond {A = ℕ} (cast (rows_view (shown_in g)) x y) 1 0 in
+      let k = question_refusal g Cast x y room in
+      let zero-is : k ≡ 0 = sym (answer-refusal k v) ∙ sym (ap (λ (q : BpAnswer). q.refusal) e) ∙ z in
+      let w = accepted g Cast x y room zero-is in
+      subst (CastSays (shown_in g) x y) (sym (ap (λ (q : BpAnswer). q.value) e ∙ answer-is k v zero-is)) (cast-says (shown_in g) w.good x y w.numbers-in.0 w.numbers-in.1)
 
-  ancestors-told : (c room : ℕ) (r : BpSet) → r ≡ ancestorsTold g c room → r.refusal ≡ 0 → SetSays (shownIn g) c r
-  unfolding ancestorsTold rowsView gathered
+  ancestors-told : (c room : ℕ) (r : BpSet) → r ≡ ancestors_told g c room → r.refusal ≡ 0 → SetSays (shown_in g) c r
+  unfolding ancestors_told rows_view gathered
   ancestors-told c room r e z =
-      let s = ancestors (rowsView (shownIn g)) c in
-      let k = ancestorsRefusal g c room in
-      let zero_is : k ≡ 0 = sym (gathered-refusal k s) ∙ sym (ap (λ (q : BpSet). q.refusal) e) ∙ z in
-      let w = accepted-class g c room zero_is in
-      subst (SetSays (shownIn g) c) (sym (e ∙ ap (λ (n : ℕ). setAnswer (gathered n s)) zero_is)) (record {
-        members = set-rows (shownIn g) w.good c w.numbers-in.0;
-        listed = (members (at s) 0 1024, members-sorted (at s) 0 1024, list-rows (shownIn g) w.good c w.numbers-in.0, refl);
-        least = lowest-rows (shownIn g) w.good c w.numbers-in.0;
+      let s = ancestors (rows_view (shown_in g)) c in
+      let k = ancestors_refusal g c room in
+      let zero-is : k ≡ 0 = sym (gathered-refusal k s) ∙ sym (ap (λ (q : BpSet). q.refusal) e) ∙ z in
+      let w = accepted-class g c room zero-is in
+      subst (SetSays (shown_in g) c) (sym (e ∙ ap (λ (n : ℕ). set_answer (gathered n s)) zero-is)) (record {
+        members = set-rows (shown_in g) w.good c w.numbers-in.0;
+        listed = (members (at s) 0 1024, members-sorted (at s) 0 1024, list-rows (shown_in g) w.good c w.numbers-in.0, refl);
+        least = lowest-rows (shown_in g) w.good c w.numbers-in.0;
       })
 
 -- ---- OF WHAT THE EXPORTED FUNCTIONS RETURN
 
 -- BP_RELATION TELLS WHETHER expected IS AN ANCESTOR OF value
 pub bp-relation : (κs : Lfts 9) (a : Dens κs bp-relation-kinds.ps) (r : (res_t bp-relation-kinds.r κs).Denot) (x : AtExit (ended_of 9 bp-relation-kinds.ps bp-relation-kinds.r) κs)
-    → bp-relation-reads.Post κs a r x → r.refusal ≡ 0 → RelationSays (shownIn (columnsAsked κs a)) (firstAsked κs a) (secondAsked κs a) r.relation
-bp-relation κs a r x p z = relation-told (columnsAsked κs a) (firstAsked κs a) (secondAsked κs a) (roomAsked κs a) r p.0 z
+    → bp-relation-reads.Post κs a r x → r.refusal ≡ 0 → RelationSays (shown_in (columns_asked κs a)) (first_asked κs a) (second_asked κs a) r.relation
+bp-relation κs a r x p z = relation-told (columns_asked κs a) (first_asked κs a) (second_asked κs a) (room_asked κs a) r p.0 z
 
 -- BP_DISTANCE THE LENGTH OF A SHORTEST WAY
 pub bp-distance : (κs : Lfts 9) (a : Dens κs bp-distance-kinds.ps) (r : (res_t bp-distance-kinds.r κs).Denot) (x : AtExit (ended_of 9 bp-distance-kinds.ps bp-distance-kinds.r) κs)
-    → bp-distance-reads.Post κs a r x → r.refusal ≡ 0 → DistanceSays (shownIn (columnsAsked κs a)) (firstAsked κs a) (secondAsked κs a) r.value
-bp-distance κs a r x p z = distance-told (columnsAsked κs a) (firstAsked κs a) (secondAsked κs a) (roomAsked κs a) r p.0 z
+    → bp-distance-reads.Post κs a r x → r.refusal ≡ 0 → DistanceSays (shown_in (columns_asked κs a)) (first_asked κs a) (second_asked κs a) r.value
+bp-distance κs a r x p z = distance-told (columns_asked κs a) (first_asked κs a) (second_asked κs a) (room_asked κs a) r p.0 z
 
 -- BP_SUPERTYPE A LEAST COMMON SUPERTYPE
 pub bp-supertype : (κs : Lfts 9) (a : Dens κs bp-supertype-kinds.ps) (r : (res_t bp-supertype-kinds.r κs).Denot) (x : AtExit (ended_of 9 bp-supertype-kinds.ps bp-supertype-kinds.r) κs)
-    → bp-supertype-reads.Post κs a r x → r.refusal ≡ 0 → SupertypeSays (shownIn (columnsAsked κs a)) (firstAsked κs a) (secondAsked κs a) r.value
-bp-supertype κs a r x p z = supertype-told (columnsAsked κs a) (firstAsked κs a) (secondAsked κs a) (roomAsked κs a) r p.0 z
+    → bp-supertype-reads.Post κs a r x → r.refusal ≡ 0 → SupertypeSays (shown_in (columns_asked κs a)) (first_asked κs a) (second_asked κs a) r.value
+bp-supertype κs a r x p z = supertype-told (columns_asked κs a) (first_asked κs a) (second_asked κs a) (room_asked κs a) r p.0 z
 
 -- BP_CAST WHETHER A CAST PASSES
 pub bp-cast : (κs : Lfts 9) (a : Dens κs bp-cast-kinds.ps) (r : (res_t bp-cast-kinds.r κs).Denot) (x : AtExit (ended_of 9 bp-cast-kinds.ps bp-cast-kinds.r) κs)
-    → bp-cast-reads.Post κs a r x → r.refusal ≡ 0 → CastSays (shownIn (columnsAsked κs a)) (firstAsked κs a) (secondAsked κs a) r.value
-bp-cast κs a r x p z = cast-told (columnsAsked κs a) (firstAsked κs a) (secondAsked κs a) (roomAsked κs a) r p.0 z
+    → bp-cast-reads.Post κs a r x → r.refusal ≡ 0 → CastSays (shown_in (columns_asked κs a)) (first_asked κs a) (second_asked κs a) r.value
+bp-cast κs a r x p z = cast-told (columns_asked κs a) (first_asked κs a) (second_asked κs a) (room_asked κs a) r p.0 z
 
 -- BP_ANCESTORS THE SET OF ANCESTORS
 pub bp-ancestors : (κs : Lfts 9) (a : Dens κs bp-ancestors-kinds.ps) (r : (res_t bp-ancestors-kinds.r κs).Denot) (x : AtExit (ended_of 9 bp-ancestors-kinds.ps bp-ancestors-kinds.r) κs)
-    → bp-ancestors-reads.Post κs a r x → r.refusal ≡ 0 → SetSays (shownIn (columnsOfOne κs a)) (classOfOne κs a) r
-bp-ancestors κs a r x p z = ancestors-told (columnsOfOne κs a) (classOfOne κs a) (roomOfOne κs a) r p.0 z
+    → bp-ancestors-reads.Post κs a r x → r.refusal ≡ 0 → SetSays (shown_in (columns_of_one κs a)) (class_of_one κs a) r
+bp-ancestors κs a r x p z = ancestors-told (columns_of_one κs a) (class_of_one κs a) (room_of_one κs a) r p.0 z

@@ -3,24 +3,24 @@
 use Rattle.std.specs.Prelude.{◌≡◌, refl, Bool, false, List, [], ◌∷◌, ℕ}
 use Rattle.std.proofs.Math.Option.{some}
 use Prim.Native.String.{String}
-use Rattle.order.specs.Compare.{compareNumbers, compareLists}
+use Rattle.order.specs.Compare.{compare_numbers, compare_lists}
 use Rattle.order.specs.Lists.{elem}
 use Rattle.text.specs.Text.{ascii}
 use Rattle.sets.specs.Sets.{bit, at, member, insert, members, first}
-use Rattle.sorted.specs.Sorted.{insertSorted, put}
-use Rattle.utf8.specs.Utf8.{table, within, matches, firstMatch, sequence, scan, validPrefix}
+use Rattle.sorted.specs.Sorted.{insert_sorted, put}
+use Rattle.utf8.specs.Utf8.{table, within, matches, first_match, sequence, scan, valid_prefix}
 use Rattle.ty.specs.Types.{ArgType, Primitive, Object, Unknown, Boolean, Short, Char, Int, compare, categories}
 use Rattle.descriptor.specs.declared.Base.TheVariants.{Simple}
 use Rattle.descriptor.specs.declared.Read.{Read}
 use Rattle.descriptor.specs.declared.Read.TheVariants.{Found, Refused}
-use Rattle.descriptor.specs.Read.{letterOf, index_of, nameRead, readName, readType, finish, readWhole}
-use Rattle.methods.specs.Method.{Method, Broken, readParams, returns, afterParams, readMethod}
+use Rattle.descriptor.specs.Read.{letter_of, index_of, name_read, read_name, read_type, finish, read_whole}
+use Rattle.methods.specs.Method.{Method, Broken, read_params, returns, after_params, read_method}
 use Rattle.view.specs.declared.Relation.{Relation}
 use Rattle.view.specs.declared.Relation.TheVariants.{No, Unknown as Incomplete}
-use Rattle.view.specs.View.{number_of, insertAll, withParents, grow, level, reached, reach, steps, distance, ancestor, allRecorded, complete, relation, common, below, anyBelow, lowest, nearer, nearest, numbers, candidates, supertype}
-use Rattle.lattice.specs.Lattice.{sameType, hasAll, unknownAccepts, inEither, unknownUnion, primitiveAssignable, assignableApart, isAssignable, narrow, underDouble, joinPrimitive, joinKnown, joinApart, join, joinFrom, joinAll}
-use Rattle.rows.specs.Rows.{objectName, cloneableName, serializableName}
-use Rattle.tableview.specs.TableRows.{Record, Rows, isRecorded, listedParents, setOf, lastDeclared, rowsView, rowsWorld}
+use Rattle.view.specs.View.{number_of, insert_all, with_parents, grow, level, reached, reach, steps, distance, ancestor, all_recorded, complete, relation, common, below, any_below, lowest, nearer, nearest, numbers, candidates, supertype}
+use Rattle.lattice.specs.Lattice.{same_type, has_all, unknown_accepts, in_either, unknown_union, primitive_assignable, assignable_apart, is_assignable, narrow, under_double, join_primitive, join_known, join_apart, join, join_from, join_all}
+use Rattle.rows.specs.Rows.{object_name, cloneable_name, serializable_name}
+use Rattle.tableview.specs.TableRows.{Record, Rows, is_recorded, listed_parents, set_of, last_declared, rows_view, rows_world}
 use Rattle.tableview.specs.TableRows as rows
 use Rattle.questionlaws.specs.Examples.{All}
 
@@ -54,13 +54,13 @@ pub data Example : Type 0 where
   Assigns : Rows → ArgType → ArgType → Bool → Example
 
 abbrev pub Holds : Example → Type 0
-Holds (Reads text r) = readWhole (ascii text) ≡ r
-Holds (ReadsMethod text m) = readMethod (ascii text) ≡ m
-Holds (Stands t value expected r) = relation (rowsView t) value expected ≡ r
-Holds (Common t left right c) = supertype (rowsView t) left right ≡ some c
-Holds (Joins t left right u) = join (rowsWorld t) left right ≡ u
-Holds (JoinsAll t list u) = joinAll (rowsWorld t) list ≡ some u
-Holds (Assigns t value expected b) = isAssignable (rowsWorld t) value expected ≡ b
+Holds (Reads text r) = read_whole (ascii text) ≡ r
+Holds (ReadsMethod text m) = read_method (ascii text) ≡ m
+Holds (Stands t value expected r) = relation (rows_view t) value expected ≡ r
+Holds (Common t left right c) = supertype (rows_view t) left right ≡ some c
+Holds (Joins t left right u) = join (rows_world t) left right ≡ u
+Holds (JoinsAll t list u) = join_all (rows_world t) list ≡ some u
+Holds (Assigns t value expected b) = is_assignable (rows_world t) value expected ≡ b
 
 -- ---- the list
 
@@ -80,5 +80,5 @@ examples =
 
 -- EVERY EXAMPLE HOLDS, by computation
 pub examples-hold : All Holds examples
-unfolding ascii letterOf index_of nameRead readName readType finish readWhole readParams returns afterParams readMethod table within matches firstMatch sequence scan validPrefix rowsView rowsWorld rows.place_of objectName cloneableName serializableName isRecorded listedParents setOf put insertSorted elem lastDeclared number_of bit at member insert members first insertAll withParents grow level reached reach steps distance ancestor allRecorded complete relation common below anyBelow lowest nearer nearest numbers candidates supertype compareNumbers compareLists compare categories sameType hasAll unknownAccepts inEither unknownUnion primitiveAssignable assignableApart isAssignable narrow underDouble joinPrimitive joinKnown joinApart join joinFrom joinAll
+unfolding ascii letter_of index_of name_read read_name read_type finish read_whole read_params returns after_params read_method table within matches first_match sequence scan valid_prefix rows_view rows_world rows.place_of object_name cloneable_name serializable_name is_recorded listed_parents set_of put insert_sorted elem last_declared number_of bit at member insert members first insert_all with_parents grow level reached reach steps distance ancestor all_recorded complete relation common below any_below lowest nearer nearest numbers candidates supertype compare_numbers compare_lists compare categories same_type has_all unknown_accepts in_either unknown_union primitive_assignable assignable_apart is_assignable narrow under_double join_primitive join_known join_apart join join_from join_all
 examples-hold = (refl, (refl, (refl, (refl, (refl, (refl, (refl, (refl, (refl, (refl, tt))))))))))

@@ -7,9 +7,9 @@ use Rattle.descriptor.specs.declared.Base.TheVariants.{Simple, Class}
 use Rattle.descriptor.specs.declared.Read.{Read}
 use Rattle.descriptor.specs.declared.Read.TheVariants.{Found, Refused}
 use Rattle.descriptor.specs.declared.Core.{Core}
-use Rattle.descriptor.specs.Read.{pick_r, letterOf, readName, readType, finish}
-use Rattle.descriptor.specs.Steps.{read-end, read_at}
-use Rattle.descriptor.specs.Laws.{byteIf, Tells, read-tells, finish-tells}
+use Rattle.descriptor.specs.Read.{pick_r, letter_of, read_name, read_type, finish}
+use Rattle.descriptor.specs.Steps.{read-end, read-at}
+use Rattle.descriptor.specs.Laws.{byte_if, Tells, read-tells, finish-tells}
 
 -- a refusal's code and offset; or the category (9 for a class) and the dimensions, and the offset after the type
 abbrev pub core_of : Read → Core
@@ -18,9 +18,9 @@ core_of (Found d (Class p n) next) = record { what = 265 + 1024 * d; at = next }
 core_of (Refused code o byte) = record { what = code; at = o }
 
 -- the type whose core these two words are, read from `at` on
-abbrev pub unCore : List ℕ → ℕ → Core → Read
-unCore s at c =
-    pick_r (ltb c.what 256) (Refused c.what c.at (byteIf (eqb c.what 12) (get_or s c.at 0)))
+abbrev pub un_core : List ℕ → ℕ → Core → Read
+un_core s at c =
+    pick_r (ltb c.what 256) (Refused c.what c.at (byte_if (eqb c.what 12) (get_or s c.at 0)))
     (pick_r (ltb (c.what % 256) 9) (Found (c.what / 1024) (Simple (c.what % 256)) c.at) (Found (c.what / 1024) (Class from (c.at - from - 1)) c.at))
   where
     from : ℕ
@@ -34,7 +34,7 @@ pub record Sound (s : List ℕ) (at : ℕ) (c : Core) : Type 0 where
 
 -- what a core tells of the type read from `at` on: all of it
 pub record CoreTells (s : List ℕ) (at : ℕ) (c : Core) (r : Read) : Type 0 where
-  pub whole : r ≡ unCore s at c
+  pub whole : r ≡ un_core s at c
   pub sound : Sound s at c
 
 module _ (s : List ℕ) (at : ℕ) where
@@ -66,9 +66,9 @@ module _ (s : List ℕ) (at : ℕ) where
       }
 
   -- A TYPE IS ALL IN ITS CORE
-  pub core-tells : (void : Bool) (c : Core) → c ≡ core_of (readType (drop at s) at void 0) → CoreTells s at c (readType (drop at s) at void 0)
+  pub core-tells : (void : Bool) (c : Core) → c ≡ core_of (read_type (drop at s) at void 0) → CoreTells s at c (read_type (drop at s) at void 0)
   core-tells void c e =
-      let r = readType (drop at s) at void 0 in
+      let r = read_type (drop at s) at void 0 in
       subst (λ (x : Core). CoreTells s at x r) (sym e) (told r (read-tells s at void))
 
 -- ---- the end of the bytes, at a core
@@ -101,18 +101,18 @@ ended-core s at (Found d (Class p n) next) h = rw (le-ltb (265 + 1024 * d) 256 (
     go false = refl
 ended-core s at (Refused code o byte) h = rw (lt-ltb code 256 (omega arith))
 
-pub ended-tells : (s : List ℕ) (at : ℕ) (c e : Core) → c ≡ core_of (readType (drop at s) at true 0) → e ≡ ended_of (length s) c
-    → CoreTells s at e (finish s (readType (drop at s) at true 0))
+pub ended-tells : (s : List ℕ) (at : ℕ) (c e : Core) → c ≡ core_of (read_type (drop at s) at true 0) → e ≡ ended_of (length s) c
+    → CoreTells s at e (finish s (read_type (drop at s) at true 0))
 ended-tells s at c e f g =
-    let r = readType (drop at s) at true 0 in
+    let r = read_type (drop at s) at true 0 in
     let h = read-tells s at true in
     subst (λ (x : Core). CoreTells s at x (finish s r)) (sym (g ∙ ap (ended_of (length s)) f ∙ ended-core s at r h)) (told s at (finish s r) (finish-tells s at 0 r h))
 
 -- ---- one step of reading a core, by the letter k of the byte at an offset
 
 -- the core of a type of one letter that is no class and no array
-abbrev pub flatOf : ℕ → ℕ → Bool → ℕ → Core
-flatOf k at void dims =
+abbrev pub flat_of : ℕ → ℕ → Bool → ℕ → Core
+flat_of k at void dims =
     pick_c (eqb k 0) (pick_c void (record { what = 256 + 1024 * dims; at = at + 1 }) (record { what = 13; at = at }))
     (pick_c (ltb k 9) (record { what = 256 + k + 1024 * dims; at = at + 1 }) (record { what = 12; at = at }))
 
@@ -121,22 +121,22 @@ core-pick true a b = refl
 core-pick false a b = refl
 
 module _ (s : List ℕ) (at : ℕ) (void : Bool) (dims : ℕ) where
-  pub core-end : length s ≤ at → record { what = 11; at = at } ≡ core_of (readType (drop at s) at void dims)
+  pub core-end : length s ≤ at → record { what = 11; at = at } ≡ core_of (read_type (drop at s) at void dims)
   core-end h = ap core_of (sym (read-end s at void dims h))
 
-  module _ (h : at < length s) (k : ℕ) (e : k ≡ letterOf (get_or s at 0)) where
-    pub core-name : k ≡ 9 → core_of (readName (drop (at + 1) s) at dims) ≡ core_of (readType (drop at s) at void dims)
-    core-name f = sym (ap core_of (read_at s at void dims h k e) ∙ rw f)
+  module _ (h : at < length s) (k : ℕ) (e : k ≡ letter_of (get_or s at 0)) where
+    pub core-name : k ≡ 9 → core_of (read_name (drop (at + 1) s) at dims) ≡ core_of (read_type (drop at s) at void dims)
+    core-name f = sym (ap core_of (read-at s at void dims h k e) ∙ rw f)
 
-    pub core-full : k ≡ 10 → 255 ≤ dims → record { what = 18; at = at } ≡ core_of (readType (drop at s) at void dims)
-    core-full f l = sym (ap core_of (read_at s at void dims h k e) ∙ rw (f, le-leb 255 dims l))
+    pub core-full : k ≡ 10 → 255 ≤ dims → record { what = 18; at = at } ≡ core_of (read_type (drop at s) at void dims)
+    core-full f l = sym (ap core_of (read-at s at void dims h k e) ∙ rw (f, le-leb 255 dims l))
 
-    pub core-deeper : k ≡ 10 → dims < 255 → core_of (readType (drop (at + 1) s) (at + 1) false (dims + 1)) ≡ core_of (readType (drop at s) at void dims)
-    core-deeper f l = sym (ap core_of (read_at s at void dims h k e) ∙ rw (f, lt-leb 255 dims l))
+    pub core-deeper : k ≡ 10 → dims < 255 → core_of (read_type (drop (at + 1) s) (at + 1) false (dims + 1)) ≡ core_of (read_type (drop at s) at void dims)
+    core-deeper f l = sym (ap core_of (read-at s at void dims h k e) ∙ rw (f, lt-leb 255 dims l))
 
-    pub core-flat : (k ≡ 9 → ⊥) → (k ≡ 10 → ⊥) → flatOf k at void dims ≡ core_of (readType (drop at s) at void dims)
+    pub core-flat : (k ≡ 9 → ⊥) → (k ≡ 10 → ⊥) → flat_of k at void dims ≡ core_of (read_type (drop at s) at void dims)
     core-flat m n =
-        sym (ap core_of (read_at s at void dims h k e)
+        sym (ap core_of (read-at s at void dims h k e)
         ∙ rw (ne_eqb k 9 m, ne_eqb k 10 n)
         (core-pick (eqb k 0) _ _ ∙ ap₂ (pick_c (eqb k 0)) (core-pick void _ _) (core-pick (ltb k 9) _ _)))
 

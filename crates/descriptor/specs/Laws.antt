@@ -4,14 +4,14 @@ use Rattle.std.proofs.Common.{sym, ap, subst, ◌∙◌, arith}
 use Rattle.std.proofs.Math.ListN.{drop, length-take, length-drop}
 use Rattle.std.proofs.Math.Seq.{get_or-drop}
 use borrow.Author.Tests.{eqb-true, eqb-false, leb-true, leb-false, ltb-true, ltb-false, eq-eqb, ne_eqb}
-use Rattle.utf8.specs.Utf8.{validPrefix, wellFormed}
+use Rattle.utf8.specs.Utf8.{valid_prefix, well_formed}
 use Rattle.utf8.specs.Laws.{prefix-le}
 use Rattle.descriptor.specs.declared.Base.{Base}
 use Rattle.descriptor.specs.declared.Base.TheVariants.{Simple, Class}
 use Rattle.descriptor.specs.declared.Read.{Read}
 use Rattle.descriptor.specs.declared.Read.TheVariants.{Found, Refused}
-use Rattle.descriptor.specs.Read.{pick_r, letterOf, index_of, nameRead, readName, choose, readType, finish, strictName, strictly}
-use Rattle.descriptor.specs.Steps.{read-end, read_at, Placed}
+use Rattle.descriptor.specs.Read.{pick_r, letter_of, index_of, name_read, read_name, choose, read_type, finish, strict_name, strictly}
+use Rattle.descriptor.specs.Steps.{read-end, read-at, Placed}
 
 -- the class name of n bytes at p, in a type that begins at `at` and ends before `next`
 pub record NameTells (s : List ℕ) (at p n next : ℕ) : Type 0 where
@@ -20,7 +20,7 @@ pub record NameTells (s : List ℕ) (at p n next : ℕ) : Type 0 where
   pub within : p + n < length s
   pub ends : next ≡ p + n + 1
   pub first : index_of 59 (drop p s) ≡ n
-  pub valid : wellFormed (take n (drop p s)) ≡ true
+  pub valid : well_formed (take n (drop p s)) ≡ true
 
 abbrev pub BaseTells : List ℕ → ℕ → Base → ℕ → Type 0
 BaseTells s at (Simple k) next = k ≤ 8
@@ -31,9 +31,9 @@ abbrev pub Behind : ℕ → ℕ → ℕ → Base → Type 0
 Behind at dims d (Simple k) = Unit {0}
 Behind at dims d (Class p n) = p + dims ≡ at + d + 1
 
-abbrev pub byteIf : Bool → ℕ → ℕ
-byteIf true b = b
-byteIf false b = 0
+abbrev pub byte_if : Bool → ℕ → ℕ
+byte_if true b = b
+byte_if false b = 0
 
 -- a refusal of a type read from `at` on: for 12 it names the byte at its offset
 pub record RefusedTells (s : List ℕ) (at code o byte : ℕ) : Type 0 where
@@ -41,7 +41,7 @@ pub record RefusedTells (s : List ℕ) (at code o byte : ℕ) : Type 0 where
   pub most : code ≤ 24
   pub onward : at ≤ o
   pub inside : code ≡ 12 → o < length s
-  pub names : byte ≡ byteIf (eqb code 12) (get_or s o 0)
+  pub names : byte ≡ byte_if (eqb code 12) (get_or s o 0)
 
 -- a type of d dimensions, read from `at` on after `dims` brackets
 pub record FoundTells (s : List ℕ) (at dims d : ℕ) (base : Base) (next : ℕ) : Type 0 where
@@ -80,12 +80,12 @@ module _ (s : List ℕ) where
   earlier at dims (Refused code o byte) h = record { least = h.least; most = h.most; onward = omega arith; inside = h.inside; names = h.names }
 
   module _ (at dims : ℕ) (h : at < length s) (l : dims ≤ 255) where
-    name-tells : Tells s at dims (readName (drop (at + 1) s) at dims)
-    unfolding readName nameRead wellFormed
+    name-tells : Tells s at dims (read_name (drop (at + 1) s) at dims)
+    unfolding read_name name_read well_formed
     name-tells =
         let bs = drop (at + 1) s in
         let n = index_of 59 bs in
-        let v = validPrefix (take n bs) in
+        let v = valid_prefix (take n bs) in
         let m = length-drop (at + 1) s in
         either at dims (leb (length bs) n) _ _ (λ e. plain at 11 _ (omega arith) (omega arith) (λ z. omega arith) (omega arith)) λ e.
         let e' = leb-false (length bs) n e in
@@ -122,22 +122,22 @@ module _ (s : List ℕ) where
         simple : (c : ℕ) → c ≤ 8 → Tells s at dims (Found dims (Simple c) (at + 1))
         simple c i = record { forward = omega arith; within = omega arith; deeper = omega arith; shallow = l; made = i; behind = tt }
 
-  turns-tell : (turns at : ℕ) (void : Bool) (dims : ℕ) → length s ≤ turns + at → dims ≤ 255 → Tells s at dims (readType (drop at s) at void dims)
+  turns-tell : (turns at : ℕ) (void : Bool) (dims : ℕ) → length s ≤ turns + at → dims ≤ 255 → Tells s at dims (read_type (drop at s) at void dims)
   turns-tell zero at void dims m l = subst (Tells s at dims) (sym (read-end s at void dims (omega arith))) (plain at 11 at (omega arith) (omega arith) (λ z. omega arith) (omega arith))
   turns-tell (suc turns) at void dims m l = go (leb (length s) at) refl (λ i. turns-tell turns (at + 1) false (dims + 1) (omega arith) (omega arith))
     where
       inner : Read
-      inner = readType (drop (at + 1) s) (at + 1) false (dims + 1)
+      inner = read_type (drop (at + 1) s) (at + 1) false (dims + 1)
 
-      go : (t : Bool) → leb (length s) at ≡ t → (dims < 255 → Tells s (at + 1) (dims + 1) inner) → Tells s at dims (readType (drop at s) at void dims)
+      go : (t : Bool) → leb (length s) at ≡ t → (dims < 255 → Tells s (at + 1) (dims + 1) inner) → Tells s at dims (read_type (drop at s) at void dims)
       go true e f = subst (Tells s at dims) (sym (read-end s at void dims (leb-true (length s) at e))) (plain at 11 at (omega arith) (omega arith) (λ z. omega arith) (omega arith))
       go false e f =
           let h = leb-false (length s) at e in
-          subst (Tells s at dims) (sym (read_at s at void dims h (letterOf (get_or s at 0)) refl))
-          (choose-tells at dims h l (letterOf (get_or s at 0)) void inner f)
+          subst (Tells s at dims) (sym (read-at s at void dims h (letter_of (get_or s at 0)) refl))
+          (choose-tells at dims h l (letter_of (get_or s at 0)) void inner f)
 
   -- what is told of the type at an offset
-  pub read-tells : (at : ℕ) (void : Bool) → Tells s at 0 (readType (drop at s) at void 0)
+  pub read-tells : (at : ℕ) (void : Bool) → Tells s at 0 (read_type (drop at s) at void 0)
   read-tells at void = turns-tell (length s) at void 0 (omega arith) (omega arith)
 
   -- what is refused after a type
@@ -151,7 +151,7 @@ module _ (s : List ℕ) where
   unfolding strictly
   strictly-tells at dims (Found d (Simple k) next) h = h
   strictly-tells at dims (Found d (Class p n) next) h =
-      either at dims (strictName (take n (drop p s))) _ _ (λ e. h) (λ e. plain at 24 (p - 1) (omega arith) (omega arith) (λ z. omega arith) (let a = h.made.after in omega arith))
+      either at dims (strict_name (take n (drop p s))) _ _ (λ e. h) (λ e. plain at 24 (p - 1) (omega arith) (omega arith) (λ z. omega arith) (let a = h.made.after in omega arith))
   strictly-tells at dims (Refused code o byte) h = h
 
   -- a class's name lies within the bytes
@@ -160,15 +160,15 @@ module _ (s : List ℕ) where
   tells-placed at dims (Found d (Class p n) next) h = (let a = h.made.after in omega arith, let w = h.made.within in omega arith)
   tells-placed at dims (Refused code o byte) h = tt
 
-  pub read-placed : (at : ℕ) (void : Bool) → Placed (length s) (readType (drop at s) at void 0)
-  read-placed at void = tells-placed at 0 (readType (drop at s) at void 0) (read-tells at void)
+  pub read-placed : (at : ℕ) (void : Bool) → Placed (length s) (read_type (drop at s) at void 0)
+  read-placed at void = tells-placed at 0 (read_type (drop at s) at void 0) (read-tells at void)
 
-  pub finish-placed : (at : ℕ) (void : Bool) → Placed (length s) (finish s (readType (drop at s) at void 0))
+  pub finish-placed : (at : ℕ) (void : Bool) → Placed (length s) (finish s (read_type (drop at s) at void 0))
   finish-placed at void =
-      let t = readType (drop at s) at void 0 in tells-placed at 0 (finish s t) (finish-tells at 0 t (read-tells at void))
+      let t = read_type (drop at s) at void 0 in tells-placed at 0 (finish s t) (finish-tells at 0 t (read-tells at void))
 
   -- what a type found tells, of an answer that is known to be the type at an offset
-  pub found-tells : (at : ℕ) (void : Bool) (d : ℕ) (base : Base) (next : ℕ) → readType (drop at s) at void 0 ≡ Found d base next → FoundTells s at 0 d base next
+  pub found-tells : (at : ℕ) (void : Bool) (d : ℕ) (base : Base) (next : ℕ) → read_type (drop at s) at void 0 ≡ Found d base next → FoundTells s at 0 d base next
   found-tells at void d base next e = subst (Tells s at 0) e (read-tells at void)
 
 -- ---- the first ';'
@@ -183,10 +183,10 @@ index-before x (b ∷ bs) i h = go (eqb b x) refl i h (index-before x bs)
     go false e zero h r = eqb-false b x e
     go false e (suc i) h r = r i (let z = rw e at h in omega arith)
 
-pub index_at : (x : ℕ) (bs : List ℕ) → index_of x bs < length bs → get_or bs (index_of x bs) 0 ≡ x
+pub index-at : (x : ℕ) (bs : List ℕ) → index_of x bs < length bs → get_or bs (index_of x bs) 0 ≡ x
 unfolding index_of
-index_at x [] h = absurd (omega arith)
-index_at x (b ∷ bs) h = go (eqb b x) refl h (index_at x bs)
+index-at x [] h = absurd (omega arith)
+index-at x (b ∷ bs) h = go (eqb b x) refl h (index-at x bs)
   where
     go : (t : Bool) → eqb b x ≡ t → index_of x (b ∷ bs) < suc (length bs) → (index_of x bs < length bs → get_or bs (index_of x bs) 0 ≡ x) → get_or (b ∷ bs) (index_of x (b ∷ bs)) 0 ≡ x
     go true e h r = rw e (eqb-true b x e)
@@ -202,4 +202,4 @@ module _ (s : List ℕ) (at p n next : ℕ) (h : NameTells s at p n next) where
       let f = h.first in
       let w = h.within in
       let d = length-drop p s in
-      sym (get_or-drop p s n 0) ∙ ap (λ (k : ℕ). get_or (drop p s) k 0) (sym f) ∙ index_at 59 (drop p s) (omega arith)
+      sym (get_or-drop p s n 0) ∙ ap (λ (k : ℕ). get_or (drop p s) k 0) (sym f) ∙ index-at 59 (drop p s) (omega arith)

@@ -2,7 +2,7 @@
 -- Added to the Rust: refusal 18 at the 256th '[', and strict reading (24).
 use Rattle.std.specs.Prelude.{Bool, true, false, not, ◌&&◌, List, [], ◌∷◌, ℕ, suc, ◌+◌, ◌-◌, eqb, leb, ltb, length, take, drop, get_or}
 use Rattle.text.specs.Text.{byte}
-use Rattle.utf8.specs.Utf8.{validPrefix}
+use Rattle.utf8.specs.Utf8.{valid_prefix}
 use Rattle.descriptor.specs.declared.Base.TheVariants.{Simple, Class}
 use Rattle.descriptor.specs.declared.Read.{Read}
 use Rattle.descriptor.specs.declared.Read.TheVariants.{Found, Refused}
@@ -14,8 +14,8 @@ pick_r false a b = b
 -- ---- the letters
 
 -- what a byte begins: the category of its letter, 9 for 'L', 10 for '[', 11 for any other byte
-unfoldable pub letterOf : ℕ → ℕ
-letterOf b =
+unfoldable pub letter_of : ℕ → ℕ
+letter_of b =
     pick_n (eqb b (byte "V")) 0 (pick_n (eqb b (byte "Z")) 1 (pick_n (eqb b (byte "B")) 2 (pick_n (eqb b (byte "S")) 3 (pick_n (eqb b (byte "C")) 4
     (pick_n (eqb b (byte "I")) 5 (pick_n (eqb b (byte "J")) 6 (pick_n (eqb b (byte "F")) 7 (pick_n (eqb b (byte "D")) 8
     (pick_n (eqb b (byte "L")) 9 (pick_n (eqb b (byte "[")) 10 11))))))))))
@@ -36,13 +36,13 @@ index_of x (b ∷ bs) = step (eqb b x) (index_of x bs)
     step false n = suc n
 
 -- the name after the 'L' at `at`, of n bytes whose first v are the longest well-formed prefix
-unfoldable pub nameRead : List ℕ → ℕ → ℕ → ℕ → ℕ → Read
-nameRead bs at dims n v =
+unfoldable pub name_read : List ℕ → ℕ → ℕ → ℕ → ℕ → Read
+name_read bs at dims n v =
     pick_r (leb (length bs) n) (Refused 11 (at + 1 + length bs) 0)
     (pick_r (eqb n 0) (Refused 14 at 0) (pick_r (ltb v n) (Refused 12 (at + 1 + v) (get_or bs v 0)) (Found dims (Class (at + 1) n) (at + 1 + n + 1))))
 
-unfoldable pub readName : List ℕ → ℕ → ℕ → Read
-readName bs at dims = nameRead bs at dims (index_of (byte ";") bs) (validPrefix (take (index_of (byte ";") bs) bs))
+unfoldable pub read_name : List ℕ → ℕ → ℕ → Read
+read_name bs at dims = name_read bs at dims (index_of (byte ";") bs) (valid_prefix (take (index_of (byte ";") bs) bs))
 
 -- ---- a type
 
@@ -51,13 +51,13 @@ abbrev pub choose : ℕ → ℕ → List ℕ → ℕ → Bool → ℕ → Read �
 choose k b bs at void dims inner =
     pick_r (eqb k 0) (pick_r void (Found dims (Simple 0) (at + 1)) (Refused 13 at 0))
     (pick_r (ltb k 9) (Found dims (Simple k) (at + 1))
-    (pick_r (eqb k 9) (readName bs at dims)
+    (pick_r (eqb k 9) (read_name bs at dims)
     (pick_r (eqb k 10) (pick_r (leb 255 dims) (Refused 18 at 0) inner) (Refused 12 at b))))
 
 -- the type at the front of the bytes, which stand at the offset `at`, after `dims` brackets
-unfoldable pub readType : List ℕ → ℕ → Bool → ℕ → Read
-readType [] at void dims = Refused 11 at 0
-readType (b ∷ bs) at void dims = choose (letterOf b) b bs at void dims (readType bs (at + 1) false (dims + 1))
+unfoldable pub read_type : List ℕ → ℕ → Bool → ℕ → Read
+read_type [] at void dims = Refused 11 at 0
+read_type (b ∷ bs) at void dims = choose (letter_of b) b bs at void dims (read_type bs (at + 1) false (dims + 1))
 
 -- DescriptorParser::finish
 unfoldable pub finish : List ℕ → Read → Read
@@ -65,28 +65,28 @@ finish s (Found dims base next) = pick_r (eqb next (length s)) (Found dims base 
 finish s (Refused code at byte) = Refused code at byte
 
 -- ArgType::from_str
-unfoldable pub readWhole : List ℕ → Read
-readWhole s = finish s (readType s 0 true 0)
+unfoldable pub read_whole : List ℕ → Read
+read_whole s = finish s (read_type s 0 true 0)
 
 -- ---- strict reading
 
 -- whether a name is made of parts that are not empty, with a '/' between them, and has no '.' and no '['
-unfoldable pub partsFrom : Bool → List ℕ → Bool
-partsFrom begun [] = begun
-partsFrom begun (b ∷ bs) = part (eqb b (byte "/")) (not (eqb b (byte ".")) && not (eqb b (byte "["))) (partsFrom false bs) (partsFrom true bs)
+unfoldable pub parts_from : Bool → List ℕ → Bool
+parts_from begun [] = begun
+parts_from begun (b ∷ bs) = part (eqb b (byte "/")) (not (eqb b (byte ".")) && not (eqb b (byte "["))) (parts_from false bs) (parts_from true bs)
   where
     part : Bool → Bool → Bool → Bool → Bool
     part true plain next rest = begun && next
     part false plain next rest = plain && rest
 
-unfoldable pub strictName : List ℕ → Bool
-strictName name = partsFrom false name
+unfoldable pub strict_name : List ℕ → Bool
+strict_name name = parts_from false name
 
 -- 24 at the 'L' of a name that is not so
 unfoldable pub strictly : List ℕ → Read → Read
 strictly s (Found dims (Simple k) next) = Found dims (Simple k) next
-strictly s (Found dims (Class at n) next) = pick_r (strictName (take n (drop at s))) (Found dims (Class at n) next) (Refused 24 (at - 1) 0)
+strictly s (Found dims (Class at n) next) = pick_r (strict_name (take n (drop at s))) (Found dims (Class at n) next) (Refused 24 (at - 1) 0)
 strictly s (Refused code at byte) = Refused code at byte
 
-unfoldable pub readStrict : List ℕ → Read
-readStrict s = strictly s (readWhole s)
+unfoldable pub read_strict : List ℕ → Read
+read_strict s = strictly s (read_whole s)

@@ -9,11 +9,11 @@ use Rattle.std.proofs.Math.Numerals.{add-one}
 use native.Mathlib.Omega.{arith}
 use Rattle.std.proofs.Math.ListN.{length, drop, get_or, length-drop}
 use borrow.Author.Tests.{eq-eqb, ne_eqb, le-leb, lt-leb, lt-ltb, le-ltb}
-use Rattle.utf8.specs.Utf8.{validPrefix}
+use Rattle.utf8.specs.Utf8.{valid_prefix}
 use Rattle.descriptor.specs.declared.Base.TheVariants.{Simple, Class}
 use Rattle.descriptor.specs.declared.Read.{Read}
 use Rattle.descriptor.specs.declared.Read.TheVariants.{Found, Refused}
-use Rattle.descriptor.specs.Read.{letterOf, index_of, nameRead, readName, choose, readType}
+use Rattle.descriptor.specs.Read.{letter_of, index_of, name_read, read_name, choose, read_type}
 
 -- ---- the first ';'
 
@@ -62,8 +62,8 @@ module _ (s : List ℕ) (at dims e : ℕ) (h : at < length s) (f : e ≡ at + 1 
   pub name-inside : e ≤ length s
   name-inside = let l = length-drop (at + 1) s in let i = index-le 59 (drop (at + 1) s) in omega arith
 
-  pub name-none : e ≡ length s → Refused 11 e 0 ≡ readName (drop (at + 1) s) at dims
-  unfolding readName nameRead
+  pub name-none : e ≡ length s → Refused 11 e 0 ≡ read_name (drop (at + 1) s) at dims
+  unfolding read_name name_read
   name-none g =
       let l = length-drop (at + 1) s in
       rw (le-leb (length (drop (at + 1) s)) (index_of 59 (drop (at + 1) s)) (omega arith))
@@ -76,47 +76,47 @@ module _ (s : List ℕ) (at dims e : ℕ) (h : at < length s) (f : e ≡ at + 1 
         let i = index-le 59 (drop (at + 1) s) in
         lt-leb (length (drop (at + 1) s)) (index_of 59 (drop (at + 1) s)) (omega arith)
 
-    pub name-empty : e ≡ at + 1 → Refused 14 at 0 ≡ readName (drop (at + 1) s) at dims
-    unfolding readName nameRead
+    pub name-empty : e ≡ at + 1 → Refused 14 at 0 ≡ read_name (drop (at + 1) s) at dims
+    unfolding read_name name_read
     name-empty z = rw (found, eq-eqb (index_of 59 (drop (at + 1) s)) 0 (omega arith))
 
-    module _ (z : e ≡ at + 1 → ⊥) (v : ℕ) (w : v ≡ at + 1 + validPrefix (take (e - (at + 1)) (drop (at + 1) s))) where
+    module _ (z : e ≡ at + 1 → ⊥) (v : ℕ) (w : v ≡ at + 1 + valid_prefix (take (e - (at + 1)) (drop (at + 1) s))) where
       some : eqb (index_of 59 (drop (at + 1) s)) 0 ≡ false
       some = ne_eqb (index_of 59 (drop (at + 1) s)) 0 (omega arith)
 
       size : e - (at + 1) ≡ index_of 59 (drop (at + 1) s)
       size = omega arith
 
-      valid : v ≡ at + 1 + validPrefix (take (index_of 59 (drop (at + 1) s)) (drop (at + 1) s))
-      valid = w ∙ ap (λ (n : ℕ). at + 1 + validPrefix (take n (drop (at + 1) s))) size
+      valid : v ≡ at + 1 + valid_prefix (take (index_of 59 (drop (at + 1) s)) (drop (at + 1) s))
+      valid = w ∙ ap (λ (n : ℕ). at + 1 + valid_prefix (take n (drop (at + 1) s))) size
 
-      pub name-bad : v < e → Refused 12 v (get_or s v 0) ≡ readName (drop (at + 1) s) at dims
-      unfolding readName nameRead
+      pub name-bad : v < e → Refused 12 v (get_or s v 0) ≡ read_name (drop (at + 1) s) at dims
+      unfolding read_name name_read
       name-bad b =
           let q = valid in
-          rw (found, some, lt-ltb (validPrefix (take (index_of 59 (drop (at + 1) s)) (drop (at + 1) s))) (index_of 59 (drop (at + 1) s)) (omega arith))
-          (ap₂ (Refused 12) q (ap (λ (o : ℕ). get_or s o 0) q ∙ sym (get_or-drop (at + 1) s (validPrefix (take (index_of 59 (drop (at + 1) s)) (drop (at + 1) s))) 0)))
+          rw (found, some, lt-ltb (valid_prefix (take (index_of 59 (drop (at + 1) s)) (drop (at + 1) s))) (index_of 59 (drop (at + 1) s)) (omega arith))
+          (ap₂ (Refused 12) q (ap (λ (o : ℕ). get_or s o 0) q ∙ sym (get_or-drop (at + 1) s (valid_prefix (take (index_of 59 (drop (at + 1) s)) (drop (at + 1) s))) 0)))
 
-      pub name-good : e ≤ v → Found dims (Class (at + 1) (e - (at + 1))) (e + 1) ≡ readName (drop (at + 1) s) at dims
-      unfolding readName nameRead
+      pub name-good : e ≤ v → Found dims (Class (at + 1) (e - (at + 1))) (e + 1) ≡ read_name (drop (at + 1) s) at dims
+      unfolding read_name name_read
       name-good b =
           let q = valid in
-          rw (found, some, le-ltb (validPrefix (take (index_of 59 (drop (at + 1) s)) (drop (at + 1) s))) (index_of 59 (drop (at + 1) s)) (omega arith))
+          rw (found, some, le-ltb (valid_prefix (take (index_of 59 (drop (at + 1) s)) (drop (at + 1) s))) (index_of 59 (drop (at + 1) s)) (omega arith))
           (ap₂ (λ (x y : ℕ). Found dims (Class (at + 1) x) y) size (let y : e + 1 ≡ at + 1 + index_of 59 (drop (at + 1) s) + 1 = omega arith in y))
 
 -- ---- a type
 
 module _ (s : List ℕ) (at : ℕ) (void : Bool) (dims : ℕ) where
-  pub read-end : length s ≤ at → readType (drop at s) at void dims ≡ Refused 11 at 0
-  unfolding readType
+  pub read-end : length s ≤ at → read_type (drop at s) at void dims ≡ Refused 11 at 0
+  unfolding read_type
   read-end h = rw (drop_of_length-le s)
 
-  pub read_at : at < length s → (k : ℕ) → k ≡ letterOf (get_or s at 0)
-      → readType (drop at s) at void dims ≡ choose k (get_or s at 0) (drop (at + 1) s) at void dims (readType (drop (at + 1) s) (at + 1) false (dims + 1))
-  unfolding readType
-  read_at h k e =
-      ap (λ (l : List ℕ). readType l at void dims) (drop-cons s at 0 h ∙ ap (λ (n : ℕ). get_or s at 0 ∷ drop n s) (sym (add-one at)))
-      ∙ ap (λ (j : ℕ). choose j (get_or s at 0) (drop (at + 1) s) at void dims (readType (drop (at + 1) s) (at + 1) false (dims + 1))) (sym e)
+  pub read-at : at < length s → (k : ℕ) → k ≡ letter_of (get_or s at 0)
+      → read_type (drop at s) at void dims ≡ choose k (get_or s at 0) (drop (at + 1) s) at void dims (read_type (drop (at + 1) s) (at + 1) false (dims + 1))
+  unfolding read_type
+  read-at h k e =
+      ap (λ (l : List ℕ). read_type l at void dims) (drop-cons s at 0 h ∙ ap (λ (n : ℕ). get_or s at 0 ∷ drop n s) (sym (add-one at)))
+      ∙ ap (λ (j : ℕ). choose j (get_or s at 0) (drop (at + 1) s) at void dims (read_type (drop (at + 1) s) (at + 1) false (dims + 1))) (sym e)
 
 -- ---- where a name stands
 

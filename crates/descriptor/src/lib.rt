@@ -2,8 +2,8 @@
 ghost use Rattle.std.specs.Prelude.{◌≡◌, true, ◌+◌, ◌≤◌, ◌<◌, ltb, length, drop};
 ghost use Rattle.text.specs.Text.{byte};
 ghost use Rattle.descriptor.specs.declared.Read.TheVariants.{Refused};
-ghost use Rattle.descriptor.specs.Read.{letterOf, index_of, readName, readType, finish, readWhole};
-ghost use Rattle.descriptor.specs.Core.{core_of, unCore, flatOf, ended_of, Sound};
+ghost use Rattle.descriptor.specs.Read.{letter_of, index_of, read_name, read_type, finish, read_whole};
+ghost use Rattle.descriptor.specs.Core.{core_of, un_core, flat_of, ended_of, Sound};
 
 // Refusals: the errors of ty.rs in source order, and the limit of dimensions.
 const UNEXPECTED_END: u64 = 11;
@@ -69,7 +69,7 @@ fn refuse(code: u64, at: usize, byte: u64) -> Read
 
 // The category of a letter, 9 for a class, 10 for an array, 11 for none.
 fn letter(b: u8) -> u64
-    ensures { result ≡ letterOf b }
+    ensures { result ≡ letter_of b }
 {
     match b {
         b'V' => 0,
@@ -137,7 +137,7 @@ fn find_end(s: &[u8], from: usize) -> usize
 // The class whose 'L' stands at `at`.
 fn name_core(s: &[u8], at: usize, dims: u64) -> Core
     requires { (at < length s.now) × (dims ≤ 255) }
-    ensures { result ≡ core_of (readName (drop (at + 1) s.now) at dims) }
+    ensures { result ≡ core_of (read_name (drop (at + 1) s.now) at dims) }
 {
     let from = at + 1;
     let end = find_end(s, from);
@@ -170,7 +170,7 @@ fn name_core(s: &[u8], at: usize, dims: u64) -> Core
 // The type of one letter k that is no class and no array; 12 where it is none.
 fn flat_core(k: u64, at: usize, void: bool, dims: u64) -> Core
     requires { (at < 18446744073709551615) × (dims ≤ 255) }
-    ensures { result ≡ flatOf k at void dims }
+    ensures { result ≡ flat_of k at void dims }
 {
     if k == 0 {
         if void {
@@ -201,7 +201,7 @@ fn flat_core(k: u64, at: usize, void: bool, dims: u64) -> Core
 // Each call is lent the slice anew, `&s[0..]`: the compiler then keeps this function's own in registers.
 fn read_core(s: &[u8], at: usize, void: bool, dims: u64) -> Core
     requires { dims ≤ 255 }
-    ensures { result ≡ core_of (readType (drop at s.now) at void dims) }
+    ensures { result ≡ core_of (read_type (drop at s.now) at void dims) }
 {
     if s.len() <= at {
         Core {
@@ -230,7 +230,7 @@ fn read_core(s: &[u8], at: usize, void: bool, dims: u64) -> Core
 // The type that a core stands for, read from `at` on.
 fn read_of(s: &[u8], at: usize, c: Core) -> Read
     requires { Sound s.now at c }
-    ensures { result ≡ unCore s.now at c }
+    ensures { result ≡ un_core s.now at c }
 {
     let what = c.what;
     let next = c.at;
@@ -260,7 +260,7 @@ fn read_of(s: &[u8], at: usize, c: Core) -> Read
 
 // The type at `at`.
 pub fn read_type(s: &[u8], at: usize, void: bool) -> Read
-    ensures { result ≡ readType (drop at s.now) at void 0 }
+    ensures { result ≡ read_type (drop at s.now) at void 0 }
 {
     let c = read_core(s, at, void, 0);
     read_of(s, at, c)
@@ -284,7 +284,7 @@ fn ended(s: &[u8], c: Core) -> Core
 
 // The type from `at` to the end of the bytes, Void allowed.
 pub fn read_last(s: &[u8], at: usize) -> Read
-    ensures { result ≡ finish s.now (readType (drop at s.now) at true 0) }
+    ensures { result ≡ finish s.now (read_type (drop at s.now) at true 0) }
 {
     let c = read_core(s, at, true, 0);
     let e = ended(s, c);
@@ -293,7 +293,7 @@ pub fn read_last(s: &[u8], at: usize) -> Read
 
 // ArgType::from_str.
 pub fn read_whole(s: &[u8]) -> Read
-    ensures { result ≡ readWhole s.now }
+    ensures { result ≡ read_whole s.now }
 {
     read_last(s, 0)
 }

@@ -4,8 +4,8 @@ use Rattle.std.specs.Prelude.{◌≡◌, refl, true, false, List, [], ◌∷◌,
 use Rattle.std.proofs.Math.Option.{some, none}
 use Rattle.sets.specs.Sets.{bit, at, member, insert, members, first}
 use Rattle.view.specs.declared.Relation.TheVariants.{Yes}
-use Rattle.view.specs.View.{View, insertAll, withParents, grow, level, reached, reach, steps, distance, ancestor, allRecorded, complete, relation, castByFacts}
-use Rattle.families.specs.Families.{Family, distanceFrom, ancestorFrom, relationOf, castOf}
+use Rattle.view.specs.View.{View, insert_all, with_parents, grow, level, reached, reach, steps, distance, ancestor, all_recorded, complete, relation, cast_by_facts}
+use Rattle.families.specs.Families.{Family, distance_from, ancestor_from, relation_of, cast_of}
 
 abbrev up : List ℕ → ℕ → List ℕ
 up above zero = 1 ∷ []
@@ -19,6 +19,6 @@ abbrev partly : Family
 partly = record { whole = with (2 ∷ []); from = λ x. with [] }
 
 -- A YES OF THE WALK COMES THOUGH THE SEARCH HAS NONE, also to a cast; a distance and an ancestor are the search's alone
-pub late-yes : (relationOf partly 0 2 ≡ Yes) × (castOf partly 2 0 ≡ true) × (ancestorFrom partly 0 2 ≡ false) × (distanceFrom partly 0 2 ≡ none) × (distanceFrom partly 0 1 ≡ some 1)
-unfolding bit at member insert members first insertAll withParents grow level reached reach steps distance ancestor allRecorded complete relation castByFacts distanceFrom ancestorFrom relationOf castOf
+pub late-yes : (relation_of partly 0 2 ≡ Yes) × (cast_of partly 2 0 ≡ true) × (ancestor_from partly 0 2 ≡ false) × (distance_from partly 0 2 ≡ none) × (distance_from partly 0 1 ≡ some 1)
+unfolding bit at member insert members first insert_all with_parents grow level reached reach steps distance ancestor all_recorded complete relation cast_by_facts distance_from ancestor_from relation_of cast_of
 late-yes = (refl, refl, refl, refl, refl)

@@ -1,11 +1,11 @@
 // The head of a frame: its kind, the length of its body, its place in the order of kinds.
 ghost use Rattle.std.specs.Prelude.{◌≡◌};
-ghost use Rattle.frames.specs.Frames.{goodLength, rank_of, bad_order};
-ghost use Rattle.frameheads.specs.Heads.{headRefusal};
+ghost use Rattle.frames.specs.Frames.{good_length, rank_of, bad_order};
+ghost use Rattle.frameheads.specs.Heads.{head_refusal};
 
 // Whether a body of n bytes is one of this kind, from 1 to 14.
 fn is_length(kind: u64, n: usize) -> bool
-    ensures { result ≡ goodLength kind n }
+    ensures { result ≡ good_length kind n }
 {
     if kind == 1 {
         if n < 1 {
@@ -66,7 +66,7 @@ fn is_late(kind: u64, rank: u64) -> bool
 
 // The refusal of a frame's head: 2, 3, 4; 0 where there is none.
 pub fn check_head(kind: u64, n: usize, rank: u64) -> u64
-    ensures { result ≡ headRefusal kind n rank }
+    ensures { result ≡ head_refusal kind n rank }
 {
     if kind == 0 {
         return 2;

@@ -6,26 +6,26 @@ use Rattle.std.proofs.Math.Bool.{false}
 use Rattle.std.proofs.Math.Option.{Option, some, none}
 use Rattle.std.proofs.Math.ListN.{length-drop}
 use borrow.Author.Tests.{eq-eqb, ltb-true, ltb-false, leb-true, eqb-true, eqb-false}
-use Rattle.order.specs.Compare.{compareLists, isEqual}
+use Rattle.order.specs.Compare.{compare_lists, is_equal}
 use Rattle.checks.specs.Checks as checks
-use Rattle.names.specs.Names.{checkName}
+use Rattle.names.specs.Names.{check_name}
 use Rattle.tables.specs.declared.Tables.{Tables}
-use Rattle.rows.specs.Rows.{objectName, noTables, noted, withName, nameRow, State, recordRefusal, withRecord, recordRow}
-use Rattle.rows.specs.Laws.{name-room, name-refused, name-taken, good_start}
-use Rattle.columns.specs.Given.{noMarks}
-use Rattle.layers.specs.Layers.{layersRoom, layerRefusal, withLayerRecord, layerRow, opened}
-use Rattle.layers.specs.Stacks.{Stack, withNames, topKeys, stackRow, openRow, Upright}
+use Rattle.rows.specs.Rows.{object_name, no_tables, noted, with_name, name_row, State, record_refusal, with_record, record_row}
+use Rattle.rows.specs.Laws.{name-room, name-refused, name-taken, good-start}
+use Rattle.columns.specs.Given.{no_marks}
+use Rattle.layers.specs.Layers.{layers_room, layer_refusal, with_layer_record, layer_row, opened}
+use Rattle.layers.specs.Stacks.{Stack, with_names, top_keys, stack_row, open_row, Upright}
 use Rattle.layers.specs.StackLaws.{upright-ground, upright-row, upright-open}
 use Rattle.solving.specs.Solving.{Problem, Solution, Unsolved, Solved, solve}
-use Rattle.tableview.specs.Inner.{stateWorld}
-use Rattle.problems.specs.Problems.{ProblemRow, counted, variable, bounded, flow, upperFlow, reading, writing, noProblem, problemRow}
-use Rattle.problems.specs.Held.{Held, Later, held_none, held-row, held-counted}
-use Rattle.hexline.specs.Hex.{digit, byteThen, hexBytes, badHex, number_at, numbersIn, bytesNumber}
-use Rattle.frames.specs.Frames.{Store, emptyStore, shown, kind_of, body_of, badKind, goodLength, rank_of, bad_order, Question, Message, naming, recording, opening, row, solving, asking, Relating, Supertyping, Casting, messageOf, messageRefusal, frameChecks, Refused, stepped, withMessage, solvedStep, answer, accepted, frameBytes, frame}
+use Rattle.tableview.specs.Inner.{state_world}
+use Rattle.problems.specs.Problems.{ProblemRow, counted, variable, bounded, flow, upper_flow, reading, writing, no_problem, problem_row}
+use Rattle.problems.specs.Held.{Held, Later, held-none, held-row, held-counted}
+use Rattle.hexline.specs.Hex.{digit, byte_then, hex_bytes, bad_hex, number_at, numbers_in, bytes_number}
+use Rattle.frames.specs.Frames.{Store, empty_store, shown, kind_of, body_of, bad_kind, good_length, rank_of, bad_order, Question, Message, naming, recording, opening, row, solving, asking, Relating, Supertyping, Casting, message_of, message_refusal, frame_checks, Refused, stepped, with_message, solved_step, answer, accepted, frame_bytes, frame}
 
 -- ---- a refused frame
 
-solved-refused : (rank : ℕ) (s : Store) (o : Solution) (k : ℕ) → (solvedStep rank s o).said ≡ Refused k → (solvedStep rank s o).store ≡ s
+solved-refused : (rank : ℕ) (s : Store) (o : Solution) (k : ℕ) → (solved_step rank s o).said ≡ Refused k → (solved_step rank s o).store ≡ s
 solved-refused rank s (Unsolved j) k h = refl
 solved-refused rank s (Solved t n as') k h = let z : ◌≡◌ {A = ℕ} 0 1 = cc in absurd (omega arith)
 
@@ -35,22 +35,22 @@ accepted-refused rank (naming n) s k h = let z : ◌≡◌ {A = ℕ} 0 1 = cc in
 accepted-refused rank (recording f c ps) s k h = let z : ◌≡◌ {A = ℕ} 0 1 = cc in absurd (omega arith)
 accepted-refused rank opening s k h = let z : ◌≡◌ {A = ℕ} 0 1 = cc in absurd (omega arith)
 accepted-refused rank (row r) s k h = let z : ◌≡◌ {A = ℕ} 0 1 = cc in absurd (omega arith)
-accepted-refused rank solving s k h = solved-refused rank s (solve (stateWorld (shown s)) s.problem) k h
+accepted-refused rank solving s k h = solved-refused rank s (solve (state_world (shown s)) s.problem) k h
 accepted-refused rank (asking Relating a b) s k h = let z : ◌≡◌ {A = ℕ} 0 1 = cc in absurd (omega arith)
 accepted-refused rank (asking Supertyping a b) s k h = let z : ◌≡◌ {A = ℕ} 0 1 = cc in absurd (omega arith)
 accepted-refused rank (asking Casting a b) s k h = let z : ◌≡◌ {A = ℕ} 0 1 = cc in absurd (omega arith)
 
 -- A REFUSED FRAME LEAVES THE STATE
-pub frame_refused : (line : List ℕ) (s : Store) (k : ℕ) → (frame line s).said ≡ Refused k → (frame line s).store ≡ s
-unfolding frame frameBytes
-frame_refused line s k h = go (eqb (checks.firstRefusal (frameChecks (hexBytes line) s)) 0) h
+pub frame-refused : (line : List ℕ) (s : Store) (k : ℕ) → (frame line s).said ≡ Refused k → (frame line s).store ≡ s
+unfolding frame frame_bytes
+frame-refused line s k h = go (eqb (checks.first_refusal (frame_checks (hex_bytes line) s)) 0) h
   where
     f : Option (List ℕ)
-    f = hexBytes line
+    f = hex_bytes line
 
-    go : (b : Bool) → (cond b (accepted (rank_of (kind_of f)) (messageOf (kind_of f) (body_of f)) s) (stepped (Refused (checks.firstRefusal (frameChecks f s))) s)).said ≡ Refused k
-        → (cond b (accepted (rank_of (kind_of f)) (messageOf (kind_of f) (body_of f)) s) (stepped (Refused (checks.firstRefusal (frameChecks f s))) s)).store ≡ s
-    go true q = accepted-refused (rank_of (kind_of f)) (messageOf (kind_of f) (body_of f)) s k q
+    go : (b : Bool) → (cond b (accepted (rank_of (kind_of f)) (message_of (kind_of f) (body_of f)) s) (stepped (Refused (checks.first_refusal (frame_checks f s))) s)).said ≡ Refused k
+        → (cond b (accepted (rank_of (kind_of f)) (message_of (kind_of f) (body_of f)) s) (stepped (Refused (checks.first_refusal (frame_checks f s))) s)).store ≡ s
+    go true q = accepted-refused (rank_of (kind_of f)) (message_of (kind_of f) (body_of f)) s k q
     go false q = refl
 
 -- ---- a line's bytes are bytes
@@ -81,22 +81,22 @@ abbrev pub MaybeBytes : Option (List ℕ) → Type 0
 MaybeBytes none = Unit {0}
 MaybeBytes (some bs) = BytesIn bs
 
-then-bytes : (x y : Option ℕ) (r : Option (List ℕ)) → Small x → Small y → MaybeBytes r → MaybeBytes (byteThen x y r)
+then-bytes : (x y : Option ℕ) (r : Option (List ℕ)) → Small x → Small y → MaybeBytes r → MaybeBytes (byte_then x y r)
 then-bytes none y r h k l = tt
 then-bytes (some d) none r h k l = tt
 then-bytes (some d) (some e) none h k l = tt
 then-bytes (some d) (some e) (some bs) h k l = (omega arith, l)
 
-pub hex-bytes : (line : List ℕ) → MaybeBytes (hexBytes line)
-unfolding hexBytes
+pub hex-bytes : (line : List ℕ) → MaybeBytes (hex_bytes line)
+unfolding hex_bytes
 hex-bytes [] = tt
 hex-bytes (x ∷ []) = tt
-hex-bytes (x ∷ y ∷ rest) = then-bytes (digit x) (digit y) (hexBytes rest) (digit-small x) (digit-small y) (hex-bytes rest)
+hex-bytes (x ∷ y ∷ rest) = then-bytes (digit x) (digit y) (hex_bytes rest) (digit-small x) (digit-small y) (hex-bytes rest)
 
-pub body_bytes : (f : Option (List ℕ)) → MaybeBytes f → BytesIn (body_of f)
-body_bytes none h = tt
-body_bytes (some []) h = tt
-body_bytes (some (k ∷ body)) h = h.1
+pub body-bytes : (f : Option (List ℕ)) → MaybeBytes f → BytesIn (body_of f)
+body-bytes none h = tt
+body-bytes (some []) h = tt
+body-bytes (some (k ∷ body)) h = h.1
 
 pub drop-bytes : (n : ℕ) (l : List ℕ) → BytesIn l → BytesIn (drop n l)
 drop-bytes zero l h = h
@@ -104,44 +104,44 @@ drop-bytes (suc n) [] h = tt
 drop-bytes (suc n) (x ∷ l) h = drop-bytes n l h.1
 
 -- eight bytes are a word
-pub word_fits : (l : List ℕ) → length l ≡ 8 → BytesIn l → bytesNumber 0 l < 2 ^ 64
-unfolding bytesNumber
-word_fits [] e h = absurd (omega arith)
-word_fits (a ∷ []) e h = absurd (omega arith)
-word_fits (a ∷ b ∷ []) e h = absurd (omega arith)
-word_fits (a ∷ b ∷ c ∷ []) e h = absurd (omega arith)
-word_fits (a ∷ b ∷ c ∷ d ∷ []) e h = absurd (omega arith)
-word_fits (a ∷ b ∷ c ∷ d ∷ x ∷ []) e h = absurd (omega arith)
-word_fits (a ∷ b ∷ c ∷ d ∷ x ∷ y ∷ []) e h = absurd (omega arith)
-word_fits (a ∷ b ∷ c ∷ d ∷ x ∷ y ∷ z ∷ []) e h = absurd (omega arith)
-word_fits (a ∷ b ∷ c ∷ d ∷ x ∷ y ∷ z ∷ w ∷ []) e h =
+pub word-fits : (l : List ℕ) → length l ≡ 8 → BytesIn l → bytes_number 0 l < 2 ^ 64
+unfolding bytes_number
+word-fits [] e h = absurd (omega arith)
+word-fits (a ∷ []) e h = absurd (omega arith)
+word-fits (a ∷ b ∷ []) e h = absurd (omega arith)
+word-fits (a ∷ b ∷ c ∷ []) e h = absurd (omega arith)
+word-fits (a ∷ b ∷ c ∷ d ∷ []) e h = absurd (omega arith)
+word-fits (a ∷ b ∷ c ∷ d ∷ x ∷ []) e h = absurd (omega arith)
+word-fits (a ∷ b ∷ c ∷ d ∷ x ∷ y ∷ []) e h = absurd (omega arith)
+word-fits (a ∷ b ∷ c ∷ d ∷ x ∷ y ∷ z ∷ []) e h = absurd (omega arith)
+word-fits (a ∷ b ∷ c ∷ d ∷ x ∷ y ∷ z ∷ w ∷ []) e h =
     let h0 = h.0 in let h1 = h.1.0 in let h2 = h.1.1.0 in let h3 = h.1.1.1.0 in
     let h4 = h.1.1.1.1.0 in let h5 = h.1.1.1.1.1.0 in let h6 = h.1.1.1.1.1.1.0 in let h7 = h.1.1.1.1.1.1.1.0 in
     omega arith
-word_fits (a ∷ b ∷ c ∷ d ∷ x ∷ y ∷ z ∷ w ∷ v ∷ l) e h = absurd (omega arith)
+word-fits (a ∷ b ∷ c ∷ d ∷ x ∷ y ∷ z ∷ w ∷ v ∷ l) e h = absurd (omega arith)
 
 -- ---- what no check refused says
 
 pub record Passed (f : Option (List ℕ)) (s : Store) : Type 0 where
-  pub hex : badHex f ≡ false
-  pub kind : badKind (kind_of f) ≡ false
-  pub sized : goodLength (kind_of f) (length (body_of f)) ≡ true
+  pub hex : bad_hex f ≡ false
+  pub kind : bad_kind (kind_of f) ≡ false
+  pub sized : good_length (kind_of f) (length (body_of f)) ≡ true
   pub order : bad_order (kind_of f) s.rank ≡ false
-  pub taken : messageRefusal (messageOf (kind_of f) (body_of f)) s ≡ 0
+  pub taken : message_refusal (message_of (kind_of f) (body_of f)) s ≡ 0
 
-pub passed : (f : Option (List ℕ)) (s : Store) → checks.firstRefusal (frameChecks f s) ≡ 0 → Passed f s
-unfolding frameChecks checks.firstRefusal
-passed f s h = go (badHex f) refl (badKind (kind_of f)) refl (goodLength (kind_of f) (length (body_of f))) refl (bad_order (kind_of f) s.rank) refl (eqb (messageRefusal (messageOf (kind_of f) (body_of f)) s) 0) refl h
+pub passed : (f : Option (List ℕ)) (s : Store) → checks.first_refusal (frame_checks f s) ≡ 0 → Passed f s
+unfolding frame_checks checks.first_refusal
+passed f s h = go (bad_hex f) refl (bad_kind (kind_of f)) refl (good_length (kind_of f) (length (body_of f))) refl (bad_order (kind_of f) s.rank) refl (eqb (message_refusal (message_of (kind_of f) (body_of f)) s) 0) refl h
   where
-    go : (a : Bool) → badHex f ≡ a → (b : Bool) → badKind (kind_of f) ≡ b → (c : Bool) → goodLength (kind_of f) (length (body_of f)) ≡ c → (d : Bool) → bad_order (kind_of f) s.rank ≡ d
-        → (e : Bool) → eqb (messageRefusal (messageOf (kind_of f) (body_of f)) s) 0 ≡ e
-        → cond a 1 (cond b 2 (cond (not c) 3 (cond d 4 (cond (not e) (messageRefusal (messageOf (kind_of f) (body_of f)) s) 0)))) ≡ 0 → Passed f s
+    go : (a : Bool) → bad_hex f ≡ a → (b : Bool) → bad_kind (kind_of f) ≡ b → (c : Bool) → good_length (kind_of f) (length (body_of f)) ≡ c → (d : Bool) → bad_order (kind_of f) s.rank ≡ d
+        → (e : Bool) → eqb (message_refusal (message_of (kind_of f) (body_of f)) s) 0 ≡ e
+        → cond a 1 (cond b 2 (cond (not c) 3 (cond d 4 (cond (not e) (message_refusal (message_of (kind_of f) (body_of f)) s) 0)))) ≡ 0 → Passed f s
     go true ea b eb c ec d ed e ee q = absurd (omega arith)
     go false ea true eb c ec d ed e ee q = absurd (omega arith)
     go false ea false eb false ec d ed e ee q = absurd (omega arith)
     go false ea false eb true ec true ed e ee q = absurd (omega arith)
-    go false ea false eb true ec false ed false ee q = absurd (eqb-false (messageRefusal (messageOf (kind_of f) (body_of f)) s) 0 ee q)
-    go false ea false eb true ec false ed true ee q = record { hex = ea; kind = eb; sized = ec; order = ed; taken = eqb-true (messageRefusal (messageOf (kind_of f) (body_of f)) s) 0 ee }
+    go false ea false eb true ec false ed false ee q = absurd (eqb-false (message_refusal (message_of (kind_of f) (body_of f)) s) 0 ee q)
+    go false ea false eb true ec false ed true ee q = record { hex = ea; kind = eb; sized = ec; order = ed; taken = eqb-true (message_refusal (message_of (kind_of f) (body_of f)) s) 0 ee }
 
 -- an accepted kind is not below the rank
 pub order-says : (k rank : ℕ) → bad_order k rank ≡ false → (rank ≤ rank_of k) × (k ≡ 3 → rank ≡ 3 → ⊥)
@@ -162,21 +162,21 @@ pub record Sound (s : Store) : Type 0 where
   -- components, kinds, legal types over the names, ascending sets within their limits
   pub held : Held (shown s).tables.names s.problem
   -- no row of a problem before 03
-  pub fresh : s.rank < 3 → s.problem ≡ noProblem
+  pub fresh : s.rank < 3 → s.problem ≡ no_problem
   pub ranked : s.rank ≤ 10
 
-pub sound_empty : Sound emptyStore
-unfolding emptyStore noTables noProblem
-sound_empty = record {
-  good = upright-ground _ (good_start noMarks refl);
+pub sound-empty : Sound empty_store
+unfolding empty_store no_tables no_problem
+sound-empty = record {
+  good = upright-ground _ (good-start no_marks refl);
   known = λ n. absurd (n refl);
-  held = held_none 0;
+  held = held-none 0;
   fresh = λ h. refl;
   ranked = omega arith;
 }
 
 -- the keys that its layers show have room
-pub sound-room : (s : Store) → Sound s → length (shown s).keys ≤ layersRoom
+pub sound-room : (s : Store) → Sound s → length (shown s).keys ≤ layers_room
 sound-room s h = omega (arith, h.good.room, h.good.top-room, h.good.low)
 
 -- ---- one message
@@ -184,12 +184,12 @@ sound-room s h = omega (arith, h.good.room, h.good.top-room, h.good.low)
 Known : Tables → Type 0
 Known t = (t.object ≡ 2 ^ 64 - 1 → ⊥) → t.object < t.names
 
-name-known : (last name : List ℕ) (t : Tables) → Known t → Known (nameRow last name t).tables
-unfolding Known nameRow withName noted
-name-known last name t k = go (eqb (checkName last name t.names t.bytes) 0) (isEqual (compareLists name objectName))
+name-known : (last name : List ℕ) (t : Tables) → Known t → Known (name_row last name t).tables
+unfolding Known name_row with_name noted
+name-known last name t k = go (eqb (check_name last name t.names t.bytes) 0) (is_equal (compare_lists name object_name))
   where
     new : Bool → Tables
-    new d = record { names = t.names + 1; bytes = t.bytes + length name; object = cond d t.names t.object; cloneable = (withName name t).cloneable; serializable = (withName name t).serializable; pairs = t.pairs }
+    new d = record { names = t.names + 1; bytes = t.bytes + length name; object = cond d t.names t.object; cloneable = (with_name name t).cloneable; serializable = (with_name name t).serializable; pairs = t.pairs }
 
     go : (b d : Bool) → ((cond b (new d) t).object ≡ 2 ^ 64 - 1 → ⊥) → (cond b (new d) t).object < (cond b (new d) t).names
     go true true n = omega arith
@@ -197,12 +197,12 @@ name-known last name t k = go (eqb (checkName last name t.names t.bytes) 0) (isE
     go false d n = k n
 
 -- layers stay so after a name: their keys are of classes that were there before
-upright-name : (last name : List ℕ) (c : Stack) → Upright c → Upright (withNames c (nameRow last name c.top.shown.tables).tables)
-unfolding withName topKeys
-upright-name last name c g = go (checkName last name c.top.shown.tables.names c.top.shown.tables.bytes) refl
+upright-name : (last name : List ℕ) (c : Stack) → Upright c → Upright (with_names c (name_row last name c.top.shown.tables).tables)
+unfolding with_name top_keys
+upright-name last name c g = go (check_name last name c.top.shown.tables.names c.top.shown.tables.bytes) refl
   where
-    go : (k : ℕ) → checkName last name c.top.shown.tables.names c.top.shown.tables.bytes ≡ k
-        → Upright (withNames c (nameRow last name c.top.shown.tables).tables)
+    go : (k : ℕ) → check_name last name c.top.shown.tables.names c.top.shown.tables.bytes ≡ k
+        → Upright (with_names c (name_row last name c.top.shown.tables).tables)
     go zero e =
         let r = name-room last name c.top.shown.tables.names c.top.shown.tables.bytes e in
         rw (name-taken last name c.top.shown.tables e) (record {
@@ -222,15 +222,15 @@ upright-name last name c g = go (checkName last name c.top.shown.tables.names c.
 
 -- a record changes no name, nor does a layer that is opened
 record-tables : (c : Stack) (f n : ℕ) (ps : List ℕ)
-    → ((stackRow c f n ps).top.shown.tables.names ≡ c.top.shown.tables.names) × ((stackRow c f n ps).top.shown.tables.object ≡ c.top.shown.tables.object)
-unfolding stackRow recordRow withRecord layerRow withLayerRecord
+    → ((stack_row c f n ps).top.shown.tables.names ≡ c.top.shown.tables.names) × ((stack_row c f n ps).top.shown.tables.object ≡ c.top.shown.tables.object)
+unfolding stack_row record_row with_record layer_row with_layer_record
 record-tables c f n ps =
-    go (eqb c.under 0) (eqb (recordRefusal c.top.shown.tables.names c.top.shown.keys f n ps) 0) (eqb (layerRefusal c.top f n ps) 0)
+    go (eqb c.under 0) (eqb (record_refusal c.top.shown.tables.names c.top.shown.keys f n ps) 0) (eqb (layer_refusal c.top f n ps) 0)
   where
     next : Bool → Bool → Bool → Stack
     next low a b =
-        cond low (record { top = record { shown = cond a (withRecord c.top.shown f n ps) c.top.shown; own = c.top.own }; under = c.under })
-        (record { top = cond b (withLayerRecord c.top f n ps) c.top; under = c.under })
+        cond low (record { top = record { shown = cond a (with_record c.top.shown f n ps) c.top.shown; own = c.top.own }; under = c.under })
+        (record { top = cond b (with_layer_record c.top f n ps) c.top; under = c.under })
 
     go : (low a b : Bool) → ((next low a b).top.shown.tables.names ≡ c.top.shown.tables.names) × ((next low a b).top.shown.tables.object ≡ c.top.shown.tables.object)
     go true true b = (refl, refl)
@@ -238,8 +238,8 @@ record-tables c f n ps =
     go false a true = (refl, refl)
     go false a false = (refl, refl)
 
-pub open-shows : (c : Stack) → (openRow c).top.shown ≡ c.top.shown
-unfolding openRow
+pub open-shows : (c : Stack) → (open_row c).top.shown ≡ c.top.shown
+unfolding open_row
 open-shows c = go (leb 3 c.under)
   where
     go : (b : Bool) → (cond b c (record { top = opened c.top.shown; under = c.under + 1 })).top.shown ≡ c.top.shown
@@ -247,18 +247,18 @@ open-shows c = go (leb 3 c.under)
     go false = refl
 
 module _ (s : Store) (h : Sound s) where
-  sound-name : (n : List ℕ) → s.rank ≤ 1 → Sound (withMessage 1 (naming n) s)
-  unfolding withMessage Known
+  sound-name : (n : List ℕ) → s.rank ≤ 1 → Sound (with_message 1 (naming n) s)
+  unfolding with_message Known
   sound-name n r = record {
     good = upright-name s.last n s.classes h.good;
     known = name-known s.last n (shown s).tables h.known;
-    held = subst (Held (nameRow s.last n (shown s).tables).tables.names) (sym (h.fresh (omega arith))) (held_none (nameRow s.last n (shown s).tables).tables.names);
+    held = subst (Held (name_row s.last n (shown s).tables).tables.names) (sym (h.fresh (omega arith))) (held-none (name_row s.last n (shown s).tables).tables.names);
     fresh = λ k. h.fresh (omega arith);
     ranked = omega arith;
   }
 
-  sound-record : (f c : ℕ) (ps : List ℕ) → s.rank ≤ 2 → Sound (withMessage 2 (recording f c ps) s)
-  unfolding withMessage
+  sound-record : (f c : ℕ) (ps : List ℕ) → s.rank ≤ 2 → Sound (with_message 2 (recording f c ps) s)
+  unfolding with_message
   sound-record f c ps r =
       let t = record-tables s.classes f c ps in
       record {
@@ -269,8 +269,8 @@ module _ (s : Store) (h : Sound s) where
         ranked = omega arith;
       }
 
-  sound-open : s.rank ≤ 2 → Sound (withMessage 2 opening s)
-  unfolding withMessage
+  sound-open : s.rank ≤ 2 → Sound (with_message 2 opening s)
+  unfolding with_message
   sound-open r =
       let e = open-shows s.classes in
       record {
@@ -281,18 +281,18 @@ module _ (s : Store) (h : Sound s) where
         ranked = omega arith;
       }
 
-  sound-count : (n : ℕ) → s.rank < 3 → Sound (withMessage 3 (row (counted n)) s)
-  unfolding withMessage
+  sound-count : (n : ℕ) → s.rank < 3 → Sound (with_message 3 (row (counted n)) s)
+  unfolding with_message
   sound-count n r = record {
     good = h.good;
     known = h.known;
-    held = subst (λ (p : Problem). Held (shown s).tables.names (problemRow (shown s).tables.names (counted n) p).problem) (sym (h.fresh r)) (held-counted (shown s).tables.names n);
+    held = subst (λ (p : Problem). Held (shown s).tables.names (problem_row (shown s).tables.names (counted n) p).problem) (sym (h.fresh r)) (held-counted (shown s).tables.names n);
     fresh = λ k. absurd (omega arith);
     ranked = omega arith;
   }
 
-  sound-row : (rank : ℕ) (r : ProblemRow) → Later r → 3 ≤ rank → rank ≤ 10 → Sound (withMessage rank (row r) s)
-  unfolding withMessage
+  sound-row : (rank : ℕ) (r : ProblemRow) → Later r → 3 ≤ rank → rank ≤ 10 → Sound (with_message rank (row r) s)
+  unfolding with_message
   sound-row rank r l a b = record {
     good = h.good;
     known = h.known;
@@ -301,16 +301,16 @@ module _ (s : Store) (h : Sound s) where
     ranked = b;
   }
 
-  sound-last : (m : Message) → ((rank : ℕ) → withMessage rank m s ≡ record { last = s.last; classes = s.classes; problem = s.problem; rank = rank }) → Sound (withMessage 10 m s)
+  sound-last : (m : Message) → ((rank : ℕ) → with_message rank m s ≡ record { last = s.last; classes = s.classes; problem = s.problem; rank = rank }) → Sound (with_message 10 m s)
   sound-last m e = subst Sound (sym (e 10)) (record { good = h.good; known = h.known; held = h.held; fresh = λ k. absurd (omega arith); ranked = omega arith })
 
-  sound-solved : (o : Solution) → Sound (solvedStep 10 s o).store
-  unfolding withMessage
+  sound-solved : (o : Solution) → Sound (solved_step 10 s o).store
+  unfolding with_message
   sound-solved (Unsolved k) = h
   sound-solved (Solved t n as') = sound-last solving (λ rank. refl)
 
   sound-asked : (q : Question) (a b : ℕ) → Sound (accepted 10 (asking q a b) s).store
-  unfolding accepted withMessage
+  unfolding accepted with_message
   sound-asked q a b = sound-last (asking q a b) (λ rank. refl)
 
 pub by-if : {A : Type 0} (P : A → Type 0) (b : Bool) (x y : A) → (b ≡ true → P x) → (b ≡ false → P y) → P (cond b x y)
@@ -339,8 +339,8 @@ from-ten j n = go (ltb j 10) refl
 four-more : (j : ℕ) → 10 ≤ j → j ≤ 14 → (j ≡ 10 → ⊥) → (j ≡ 11 → ⊥) → (j ≡ 12 → ⊥) → (j ≡ 13 → ⊥) → j ≡ 14
 four-more j a b d10 d11 d12 d13 = omega arith
 
-kind-ends : (k : ℕ) → badKind k ≡ false → (k ≡ 0 → ⊥) × (k ≤ 14)
-unfolding badKind
+kind-ends : (k : ℕ) → bad_kind k ≡ false → (k ≡ 0 → ⊥) × (k ≤ 14)
+unfolding bad_kind
 kind-ends k h = go (eqb k 0) refl (ltb 14 k) refl h
   where
     go : (a : Bool) → eqb k 0 ≡ a → (b : Bool) → ltb 14 k ≡ b → (a || b) ≡ false → (k ≡ 0 → ⊥) × (k ≤ 14)
@@ -349,7 +349,7 @@ kind-ends k h = go (eqb k 0) refl (ltb 14 k) refl h
     go false ea false eb q = (eqb-false k 0 ea, ltb-false 14 k eb)
 
 -- a kind that is none of the others is the last
-pub last-kind : (k : ℕ) → badKind k ≡ false → eqb k 1 ≡ false → eqb k 2 ≡ false → eqb k 3 ≡ false → eqb k 4 ≡ false → eqb k 5 ≡ false → eqb k 6 ≡ false → eqb k 7 ≡ false → eqb k 8 ≡ false
+pub last-kind : (k : ℕ) → bad_kind k ≡ false → eqb k 1 ≡ false → eqb k 2 ≡ false → eqb k 3 ≡ false → eqb k 4 ≡ false → eqb k 5 ≡ false → eqb k 6 ≡ false → eqb k 7 ≡ false → eqb k 8 ≡ false
     → eqb k 9 ≡ false → eqb k 10 ≡ false → eqb k 11 ≡ false → eqb k 12 ≡ false → eqb k 13 ≡ false → k ≡ 14
 last-kind k h n1 n2 n3 n4 n5 n6 n7 n8 n9 n10 n11 n12 n13 =
     four-more k (from-ten k not-below) (kind-ends k h).1 (eqb-false k 10 n10) (eqb-false k 11 n11) (eqb-false k 12 n12) (eqb-false k 13 n13)
@@ -377,35 +377,35 @@ module _ (f : Option (List ℕ)) (s : Store) (h : Sound s) (b : MaybeBytes f) (p
   -- a row of kind i, between 04 and 09
   later-fine : (i : ℕ) (r : ProblemRow) → 3 ≤ rank_of i → rank_of i ≤ 10 → Later r → eqb k i ≡ true → Fine (row r)
   unfolding Fine accepted
-  later-fine i r a c l e = subst (λ (j : ℕ). Sound (withMessage (rank_of j) (row r) s)) (sym (eqb-true k i e)) (sound-row s h (rank_of i) r l a c)
+  later-fine i r a c l e = subst (λ (j : ℕ). Sound (with_message (rank_of j) (row r) s)) (sym (eqb-true k i e)) (sound-row s h (rank_of i) r l a c)
 
   ten-fine : (i : ℕ) → rank_of i ≡ 10 → (m : Message) → Sound (accepted 10 m s).store → eqb k i ≡ true → Fine m
   unfolding Fine
   ten-fine i t m w e = subst (λ (j : ℕ). Sound (accepted j m s).store) (sym (ap rank_of (eqb-true k i e) ∙ t)) w
 
-  word-body : eqb k 5 ≡ true → bytesNumber 0 (drop 3 body) < 2 ^ 64
-  unfolding goodLength k body
+  word-body : eqb k 5 ≡ true → bytes_number 0 (drop 3 body) < 2 ^ 64
+  unfolding good_length k body
   word-body e =
       let five = eqb-true (kind_of f) 5 e in
-      let sized = subst (λ (j : ℕ). goodLength j (length (body_of f)) ≡ true) five p.sized in
+      let sized = subst (λ (j : ℕ). good_length j (length (body_of f)) ≡ true) five p.sized in
       let n = eqb-true (length (body_of f)) 11 sized in
       let d = length-drop 3 (body_of f) in
-      word_fits (drop 3 (body_of f)) (omega arith) (drop-bytes 3 (body_of f) (body_bytes f b))
+      word-fits (drop 3 (body_of f)) (omega arith) (drop-bytes 3 (body_of f) (body-bytes f b))
 
   one : eqb k 1 ≡ true → Fine (naming body)
   unfolding Fine accepted
   one e =
       let r = ap rank_of (eqb-true k 1 e) in
       let o = ranked-below in
-      subst (λ (j : ℕ). Sound (withMessage j (naming body) s)) (sym r) (sound-name s h body (omega arith))
+      subst (λ (j : ℕ). Sound (with_message j (naming body) s)) (sym r) (sound-name s h body (omega arith))
 
-  two : eqb k 2 ≡ true → Fine (recording (get_or body 0 0) (number_at 1 body) (numbersIn (drop 3 body)))
+  two : eqb k 2 ≡ true → Fine (recording (get_or body 0 0) (number_at 1 body) (numbers_in (drop 3 body)))
   unfolding Fine accepted
   two e =
       let r = ap rank_of (eqb-true k 2 e) in
       let o = ranked-below in
-      subst (λ (j : ℕ). Sound (withMessage j (recording (get_or body 0 0) (number_at 1 body) (numbersIn (drop 3 body))) s)) (sym r)
-      (sound-record s h (get_or body 0 0) (number_at 1 body) (numbersIn (drop 3 body)) (omega arith))
+      subst (λ (j : ℕ). Sound (with_message j (recording (get_or body 0 0) (number_at 1 body) (numbers_in (drop 3 body))) s)) (sym r)
+      (sound-record s h (get_or body 0 0) (number_at 1 body) (numbers_in (drop 3 body)) (omega arith))
 
   three : eqb k 3 ≡ true → Fine (row (counted (number_at 0 body)))
   unfolding Fine accepted k
@@ -414,7 +414,7 @@ module _ (f : Option (List ℕ)) (s : Store) (h : Sound s) (b : MaybeBytes f) (p
       let r = ap rank_of t in
       let o = ranked-below in
       let n = not-again t in
-      subst (λ (j : ℕ). Sound (withMessage j (row (counted (number_at 0 body))) s)) (sym r) (sound-count s h (number_at 0 body) (below-three s.rank (omega arith) n))
+      subst (λ (j : ℕ). Sound (with_message j (row (counted (number_at 0 body))) s)) (sym r) (sound-count s h (number_at 0 body) (below-three s.rank (omega arith) n))
     where
       not-again : k ≡ 3 → s.rank ≡ 3 → ⊥
       not-again t = (order-says k s.rank again).1 t
@@ -431,29 +431,29 @@ module _ (f : Option (List ℕ)) (s : Store) (h : Sound s) (b : MaybeBytes f) (p
 
   solved : Sound (accepted 10 solving s).store
   unfolding accepted
-  solved = sound-solved s h (solve (stateWorld (shown s)) s.problem)
+  solved = sound-solved s h (solve (state_world (shown s)) s.problem)
 
   fourteen : k ≡ 14 → Fine opening
   unfolding Fine accepted
   fourteen e =
       let r = ap rank_of e in
       let o = ranked-below in
-      subst (λ (j : ℕ). Sound (withMessage j opening s)) (sym r) (sound-open s h (omega arith))
+      subst (λ (j : ℕ). Sound (with_message j opening s)) (sym r) (sound-open s h (omega arith))
 
-  some-kind : badKind k ≡ false
+  some-kind : bad_kind k ≡ false
   unfolding k
   some-kind = p.kind
 
-  fine : Fine (messageOf k body)
-  unfolding messageOf
+  fine : Fine (message_of k body)
+  unfolding message_of
   fine =
       by-if Fine (eqb k 1) _ _ one
       (λ n1. by-if Fine (eqb k 2) _ _ two
       (λ n2. by-if Fine (eqb k 3) _ _ three
       (λ n3. by-if Fine (eqb k 4) _ _ (later-fine 4 (variable (number_at 0 body)) (omega arith) (omega arith) tt)
-      (λ n4. by-if Fine (eqb k 5) _ _ (λ e. later-fine 5 (bounded (number_at 0 body) (get_or body 2 0) (bytesNumber 0 (drop 3 body))) (omega arith) (omega arith) (word-body e) e)
+      (λ n4. by-if Fine (eqb k 5) _ _ (λ e. later-fine 5 (bounded (number_at 0 body) (get_or body 2 0) (bytes_number 0 (drop 3 body))) (omega arith) (omega arith) (word-body e) e)
       (λ n5. by-if Fine (eqb k 6) _ _ (later-fine 6 (flow (number_at 0 body) (number_at 2 body)) (omega arith) (omega arith) tt)
-      (λ n6. by-if Fine (eqb k 7) _ _ (later-fine 7 (upperFlow (number_at 0 body) (number_at 2 body)) (omega arith) (omega arith) tt)
+      (λ n6. by-if Fine (eqb k 7) _ _ (later-fine 7 (upper_flow (number_at 0 body) (number_at 2 body)) (omega arith) (omega arith) tt)
       (λ n7. by-if Fine (eqb k 8) _ _ (later-fine 8 (reading (number_at 0 body) (number_at 2 body)) (omega arith) (omega arith) tt)
       (λ n8. by-if Fine (eqb k 9) _ _ (later-fine 9 (writing (number_at 0 body) (number_at 2 body)) (omega arith) (omega arith) tt)
       (λ n9. by-if Fine (eqb k 10) _ _ (ten-fine 10 refl solving solved)
@@ -462,21 +462,21 @@ module _ (f : Option (List ℕ)) (s : Store) (h : Sound s) (b : MaybeBytes f) (p
       (λ n12. by-if Fine (eqb k 13) _ _ (ten-fine 13 refl (asking Casting (number_at 0 body) (number_at 2 body)) (sound-asked s h Casting (number_at 0 body) (number_at 2 body)))
       (λ n13. fourteen (last-kind k some-kind n1 n2 n3 n4 n5 n6 n7 n8 n9 n10 n11 n12 n13))))))))))))))
 
-frame-fine : (f : Option (List ℕ)) (s : Store) → Sound s → MaybeBytes f → Passed f s → Sound (accepted (rank_of (kind_of f)) (messageOf (kind_of f) (body_of f)) s).store
+frame-fine : (f : Option (List ℕ)) (s : Store) → Sound s → MaybeBytes f → Passed f s → Sound (accepted (rank_of (kind_of f)) (message_of (kind_of f) (body_of f)) s).store
 unfolding Fine k body
 frame-fine f s h b p = fine f s h b p
 
 -- A FRAME KEEPS IT, accepted or refused
 pub sound-frame : (line : List ℕ) (s : Store) → Sound s → Sound (frame line s).store
-unfolding frame frameBytes
-sound-frame line s h = go (eqb (checks.firstRefusal (frameChecks f s)) 0) refl
+unfolding frame frame_bytes
+sound-frame line s h = go (eqb (checks.first_refusal (frame_checks f s)) 0) refl
   where
     f : Option (List ℕ)
-    f = hexBytes line
+    f = hex_bytes line
 
-    go : (b : Bool) → eqb (checks.firstRefusal (frameChecks (hexBytes line) s)) 0 ≡ b
-        → Sound (cond b (accepted (rank_of (kind_of (hexBytes line))) (messageOf (kind_of (hexBytes line)) (body_of (hexBytes line))) s) (stepped (Refused (checks.firstRefusal (frameChecks (hexBytes line) s))) s)).store
-    go true e = frame-fine (hexBytes line) s h (hex-bytes line) (passed (hexBytes line) s (eqb-true (checks.firstRefusal (frameChecks (hexBytes line) s)) 0 e))
+    go : (b : Bool) → eqb (checks.first_refusal (frame_checks (hex_bytes line) s)) 0 ≡ b
+        → Sound (cond b (accepted (rank_of (kind_of (hex_bytes line))) (message_of (kind_of (hex_bytes line)) (body_of (hex_bytes line))) s) (stepped (Refused (checks.first_refusal (frame_checks (hex_bytes line) s))) s)).store
+    go true e = frame-fine (hex_bytes line) s h (hex-bytes line) (passed (hex_bytes line) s (eqb-true (checks.first_refusal (frame_checks (hex_bytes line) s)) 0 e))
     go false e = h
 
 -- ---- all lines
@@ -491,5 +491,5 @@ sound-after [] s h = h
 sound-after (l ∷ ls) s h = sound-after ls (frame l s).store (sound-frame l s h)
 
 -- EVERY STATE THAT LINES LEAD TO IS SOUND
-pub reached-sound : (ls : List (List ℕ)) → Sound (after ls emptyStore)
-reached-sound ls = sound-after ls emptyStore sound_empty
+pub reached-sound : (ls : List (List ℕ)) → Sound (after ls empty_store)
+reached-sound ls = sound-after ls empty_store sound-empty

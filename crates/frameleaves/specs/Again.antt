@@ -6,60 +6,60 @@ use Rattle.std.proofs.Math.Option.{Option}
 use Rattle.std.proofs.Math.ListN.{length}
 use Rattle.std.proofs.lemmas.List.{length-map}
 use Rattle.order.specs.Truth.{both}
-use Rattle.checks.specs.Checks.{firstRefusal}
+use Rattle.checks.specs.Checks.{first_refusal}
 use Rattle.rows.specs.Rows.{filled}
 use Rattle.rows.specs.Keys.{take-filled}
-use Rattle.layers.specs.Layers.{layerKeys}
-use Rattle.tableview.specs.Inner.{stateWorld}
+use Rattle.layers.specs.Layers.{layer_keys}
+use Rattle.tableview.specs.Inner.{state_world}
 use Rattle.solving.specs.Solving.{Pair, Bound, Solution, Unsolved, Solved, solve}
-use Rattle.solving.specs.TableKeys.{key_of, keys_of, boundOf, table-back}
+use Rattle.solving.specs.TableKeys.{key_of, keys_of, bound_of, table-back}
 use Rattle.solving.specs.LinkKeys.{pair_of}
-use Rattle.problems.specs.Problems.{counted, variable, bounded, flow, upperFlow, reading, writing}
+use Rattle.problems.specs.Problems.{counted, variable, bounded, flow, upper_flow, reading, writing}
 use Rattle.problems.specs.Held.{Links}
-use Rattle.problems.specs.Stored.{pairKey, held-keyed}
+use Rattle.problems.specs.Stored.{pair_key, held-keyed}
 use Rattle.problems.specs.Kept.{links-back}
-use Rattle.hexline.specs.Hex.{hexBytes, number_at, numbersIn, bytesNumber}
-use Rattle.frames.specs.Frames.{Store, shown, kind_of, body_of, goodLength, rank_of, Message, naming, recording, opening, row, solving, asking, Relating, Supertyping, Casting, messageOf, frameChecks, Refused, Stepped, stepped, withMessage, solvedStep, accepted, frameBytes, frame}
+use Rattle.hexline.specs.Hex.{hex_bytes, number_at, numbers_in, bytes_number}
+use Rattle.frames.specs.Frames.{Store, shown, kind_of, body_of, good_length, rank_of, Message, naming, recording, opening, row, solving, asking, Relating, Supertyping, Casting, message_of, frame_checks, Refused, Stepped, stepped, with_message, solved_step, accepted, frame_bytes, frame}
 use Rattle.framelaws.specs.Reached.{Sound, passed, sound-frame, by-if}
 use Rattle.framestate.specs.declared.Numbers.{Numbers}
-use Rattle.framestate.specs.FrameState.{Slices, store_of, Sized, Within, Ready, numbersOf, Shows}
+use Rattle.framestate.specs.FrameState.{Slices, store_of, Sized, Within, Ready, numbers_of, Shows}
 
 -- entries in front of a slice, taken again
 front : (l a a' : List ℕ) → a' ≡ filled l a → take (length l) a' ≡ l
 front l a a' e = ap (take (length l)) e ∙ take-filled l a (length l) refl
 
-pairs-front : (c : ℕ) (l : List Pair) (a a' : List ℕ) → c ≤ 512 → Links c l → a' ≡ filled (map pairKey l) a → map pair_of (take (length l) a') ≡ l
+pairs-front : (c : ℕ) (l : List Pair) (a a' : List ℕ) → c ≤ 512 → Links c l → a' ≡ filled (map pair_key l) a → map pair_of (take (length l) a') ≡ l
 pairs-front c l a a' few k e =
-    ap (λ (n : ℕ). map pair_of (take n a')) (sym (length-map l pairKey)) ∙ ap (map pair_of) (front (map pairKey l) a a' e) ∙ links-back c l few k
+    ap (λ (n : ℕ). map pair_of (take n a')) (sym (length-map l pair_key)) ∙ ap (map pair_of) (front (map pair_key l) a a' e) ∙ links-back c l few k
 
 bounds-front : (l : List Bound) (a a' : List ℕ) → a' ≡ filled (keys_of l) a → take (length l) a' ≡ keys_of l
 bounds-front l a a' e = ap (λ (n : ℕ). take n a') (sym (length-map l key_of)) ∙ front (keys_of l) a a' e
 
 module _ (s : Store) (before after : Slices) (h : Sound s) where
-  module _ (w : Shows s before after (numbersOf s)) where
-    store-of : store_of after (numbersOf s) ≡ s
-    unfolding numbersOf
+  module _ (w : Shows s before after (numbers_of s)) where
+    store-of : store_of after (numbers_of s) ≡ s
+    unfolding numbers_of
     store-of =
         let p = s.problem in
         let a = front s.last before.last after.last w.last-is in
         let k = ap (take (shown s).tables.pairs) w.pairs-are ∙ take-filled (shown s).keys before.pairs (shown s).tables.pairs h.good.counted in
         let m = w.marks-are in
         let v = front p.variables before.variables after.variables w.variables-are in
-        let b = ap (map boundOf) (bounds-front p.bounds before.bounds after.bounds w.bounds-are) ∙ table-back p.bounds (held-keyed (shown s).tables.names p h.good.few h.held) in
+        let b = ap (map bound_of) (bounds-front p.bounds before.bounds after.bounds w.bounds-are) ∙ table-back p.bounds (held-keyed (shown s).tables.names p h.good.few h.held) in
         let f = pairs-front p.components p.flows before.flows after.flows h.held.few h.held.flows w.flows-are in
-        let u = pairs-front p.components p.upperFlows before.uppers after.uppers h.held.few h.held.upperFlows w.uppers-are in
+        let u = pairs-front p.components p.upper_flows before.uppers after.uppers h.held.few h.held.upper_flows w.uppers-are in
         let r = pairs-front p.components p.reads before.reads after.reads h.held.few h.held.reads w.reads-are in
-        let x = pairs-front p.components p.writes before.writes after.writes h.held.few h.held.writes w.writes_are in
+        let x = pairs-front p.components p.writes before.writes after.writes h.held.few h.held.writes w.writes-are in
         λ i. record {
           last = a i;
           classes = record { top = record { shown = record { tables = (shown s).tables; keys = k i; marks = m i }; own = s.classes.top.own }; under = s.classes.under };
-          problem = record { components = p.components; variables = v i; bounds = b i; flows = f i; upperFlows = u i; reads = r i; writes = x i };
+          problem = record { components = p.components; variables = v i; bounds = b i; flows = f i; upper_flows = u i; reads = r i; writes = x i };
           rank = s.rank;
         }
 
-    within_of : length s.last ≤ 255 → Within (numbersOf s)
-    unfolding numbersOf
-    within_of e = record {
+    within-of : length s.last ≤ 255 → Within (numbers_of s)
+    unfolding numbers_of
+    within-of e = record {
       last = e;
       variables = h.held.variables-few;
       bounds = h.held.bounds-few;
@@ -70,26 +70,26 @@ module _ (s : Store) (before after : Slices) (h : Sound s) where
     }
 
     -- the keys of the bounds are their own
-    keys-own : keys_of (map boundOf (take (length s.problem.bounds) after.bounds)) ≡ take (length s.problem.bounds) after.bounds
+    keys-own : keys_of (map bound_of (take (length s.problem.bounds) after.bounds)) ≡ take (length s.problem.bounds) after.bounds
     keys-own =
         let t = bounds-front s.problem.bounds before.bounds after.bounds w.bounds-are in
-        ap (λ (x : List ℕ). keys_of (map boundOf x)) t ∙ ap keys_of (table-back s.problem.bounds (held-keyed (shown s).tables.names s.problem h.good.few h.held)) ∙ sym t
+        ap (λ (x : List ℕ). keys_of (map bound_of x)) t ∙ ap keys_of (table-back s.problem.bounds (held-keyed (shown s).tables.names s.problem h.good.few h.held)) ∙ sym t
 
-    ready_of : length s.last ≤ 255 → Sized after → Ready after (numbersOf s)
-    unfolding numbersOf
-    ready_of e z =
-        let sound : Sound (store_of after (numbersOf s)) = subst Sound (sym store-of) h in
+    ready-of : length s.last ≤ 255 → Sized after → Ready after (numbers_of s)
+    unfolding numbers_of
+    ready-of e z =
+        let sound : Sound (store_of after (numbers_of s)) = subst Sound (sym store-of) h in
         record {
           sized = z;
-          within = within_of e;
+          within = within-of e;
           sound = sound;
-          counted = ap (λ (x : Store). length (layerKeys x.classes.top)) (sym store-of);
+          counted = ap (λ (x : Store). length (layer_keys x.classes.top)) (sym store-of);
           keeps = record { held = sound.held; keyed = keys-own };
         }
 
   module _ (n : Numbers) (w : Shows s before after n) where
     -- as if the numbers were the state's own
-    own : Shows s before after (numbersOf s)
+    own : Shows s before after (numbers_of s)
     own = subst (Shows s before after) w.numbers-are w
 
     -- THE SLICES HOLD THE STATE THAT THEY SHOW
@@ -98,7 +98,7 @@ module _ (s : Store) (before after : Slices) (h : Sound s) where
 
     -- AND ARE READY FOR THE NEXT FRAME
     pub shows-ready : length s.last ≤ 255 → Sized after → Ready after n
-    shows-ready e z = subst (Ready after) (sym w.numbers-are) (ready_of own e z)
+    shows-ready e z = subst (Ready after) (sym w.numbers-are) (ready-of own e z)
 
 -- ---- the last name stays within 255 bytes
 
@@ -114,31 +114,31 @@ abbrev Short : Stepped → Type 0
 Short u = length u.store.last ≤ 255
 
 module _ (s : Store) (h : length s.last ≤ 255) where
-  solved-short : (rank : ℕ) (o : Solution) → Short (solvedStep rank s o)
-  unfolding withMessage
+  solved-short : (rank : ℕ) (o : Solution) → Short (solved_step rank s o)
+  unfolding with_message
   solved-short rank (Unsolved k) = h
   solved-short rank (Solved t n as') = h
 
   other-short : (rank : ℕ) (m : Message) → NoName m → Short (accepted rank m s)
-  unfolding accepted withMessage
+  unfolding accepted with_message
   other-short rank (naming b) k = absurd k
   other-short rank (recording f c ps) k = h
   other-short rank opening k = h
   other-short rank (row r) k = h
-  other-short rank solving k = solved-short rank (solve (stateWorld (shown s)) s.problem)
+  other-short rank solving k = solved-short rank (solve (state_world (shown s)) s.problem)
   other-short rank (asking q a b) k = h
 
   name-short : (rank : ℕ) (b : List ℕ) → length b ≤ 255 → Short (accepted rank (naming b) s)
-  unfolding accepted withMessage
+  unfolding accepted with_message
   name-short rank b k = k
 
-is_name : (k : ℕ) (body : List ℕ) → eqb k 1 ≡ true → messageOf k body ≡ naming body
-unfolding messageOf
-is_name k body e = ap (λ (x : ℕ). messageOf x body) (eqb-true k 1 e)
+is-name : (k : ℕ) (body : List ℕ) → eqb k 1 ≡ true → message_of k body ≡ naming body
+unfolding message_of
+is-name k body e = ap (λ (x : ℕ). message_of x body) (eqb-true k 1 e)
 
-no_name : (k : ℕ) (body : List ℕ) → eqb k 1 ≡ false → NoName (messageOf k body)
-unfolding messageOf
-no_name k body e =
+no-name : (k : ℕ) (body : List ℕ) → eqb k 1 ≡ false → NoName (message_of k body)
+unfolding message_of
+no-name k body e =
     subst (λ (t : Bool). NoName (cond t (naming body) rest)) (sym e)
     (by-if NoName (eqb k 2) _ _ (λ z. tt) (λ z. by-if NoName (eqb k 3) _ _ (λ z. tt) (λ z. by-if NoName (eqb k 4) _ _ (λ z. tt) (λ z. by-if NoName (eqb k 5) _ _ (λ z. tt)
     (λ z. by-if NoName (eqb k 6) _ _ (λ z. tt) (λ z. by-if NoName (eqb k 7) _ _ (λ z. tt) (λ z. by-if NoName (eqb k 8) _ _ (λ z. tt) (λ z. by-if NoName (eqb k 9) _ _ (λ z. tt)
@@ -147,12 +147,12 @@ no_name k body e =
   where
     rest : Message
     rest =
-        cond (eqb k 2) (recording (get_or body 0 0) (number_at 1 body) (numbersIn (drop 3 body)))
+        cond (eqb k 2) (recording (get_or body 0 0) (number_at 1 body) (numbers_in (drop 3 body)))
         (cond (eqb k 3) (row (counted (number_at 0 body)))
         (cond (eqb k 4) (row (variable (number_at 0 body)))
-        (cond (eqb k 5) (row (bounded (number_at 0 body) (get_or body 2 0) (bytesNumber 0 (drop 3 body))))
+        (cond (eqb k 5) (row (bounded (number_at 0 body) (get_or body 2 0) (bytes_number 0 (drop 3 body))))
         (cond (eqb k 6) (row (flow (number_at 0 body) (number_at 2 body)))
-        (cond (eqb k 7) (row (upperFlow (number_at 0 body) (number_at 2 body)))
+        (cond (eqb k 7) (row (upper_flow (number_at 0 body) (number_at 2 body)))
         (cond (eqb k 8) (row (reading (number_at 0 body) (number_at 2 body)))
         (cond (eqb k 9) (row (writing (number_at 0 body) (number_at 2 body)))
         (cond (eqb k 10) solving
@@ -160,28 +160,28 @@ no_name k body e =
         (cond (eqb k 12) (asking Supertyping (number_at 0 body) (number_at 2 body))
         (cond (eqb k 13) (asking Casting (number_at 0 body) (number_at 2 body)) opening)))))))))))
 
-length-name : (k n : ℕ) → eqb k 1 ≡ true → goodLength k n ≡ true → n ≤ 255
-unfolding goodLength
+length-name : (k n : ℕ) → eqb k 1 ≡ true → good_length k n ≡ true → n ≤ 255
+unfolding good_length
 length-name k n e g =
     let z = sym (ap (λ (t : Bool). cond t (leb 1 n && leb n 255) (cond (eqb k 2) (leb 3 n && (eqb (n % 2) 1 && leb n 511)) (cond (leb k 4) (eqb n 2) (cond (eqb k 5) (eqb n 11) (cond (eqb k 10) (eqb n 0) (cond (eqb k 14) (eqb n 0) (eqb n 4))))))) e) ∙ g in
     leb-true n 255 (both (leb 1 n) (leb n 255) z).1
 
-message-short : (k rank : ℕ) (body : List ℕ) (s : Store) → length s.last ≤ 255 → goodLength k (length body) ≡ true → Short (accepted rank (messageOf k body) s)
+message-short : (k rank : ℕ) (body : List ℕ) (s : Store) → length s.last ≤ 255 → good_length k (length body) ≡ true → Short (accepted rank (message_of k body) s)
 message-short k rank body s h g = go (eqb k 1) refl
   where
-    go : (t : Bool) → eqb k 1 ≡ t → Short (accepted rank (messageOf k body) s)
-    go true e = subst (λ (m : Message). Short (accepted rank m s)) (sym (is_name k body e)) (name-short s h rank body (length-name k (length body) e g))
-    go false e = other-short s h rank (messageOf k body) (no_name k body e)
+    go : (t : Bool) → eqb k 1 ≡ t → Short (accepted rank (message_of k body) s)
+    go true e = subst (λ (m : Message). Short (accepted rank m s)) (sym (is-name k body e)) (name-short s h rank body (length-name k (length body) e g))
+    go false e = other-short s h rank (message_of k body) (no-name k body e)
 
 pub last-short : (line : List ℕ) (s : Store) → length s.last ≤ 255 → length (frame line s).store.last ≤ 255
-unfolding frame frameBytes
+unfolding frame frame_bytes
 last-short line s h =
-    by-if Short (eqb (firstRefusal (frameChecks f s)) 0) (accepted (rank_of (kind_of f)) (messageOf (kind_of f) (body_of f)) s) (stepped (Refused (firstRefusal (frameChecks f s))) s)
-    (λ e. message-short (kind_of f) (rank_of (kind_of f)) (body_of f) s h (passed f s (eqb-true (firstRefusal (frameChecks f s)) 0 e)).sized)
+    by-if Short (eqb (first_refusal (frame_checks f s)) 0) (accepted (rank_of (kind_of f)) (message_of (kind_of f) (body_of f)) s) (stepped (Refused (first_refusal (frame_checks f s))) s)
+    (λ e. message-short (kind_of f) (rank_of (kind_of f)) (body_of f) s h (passed f s (eqb-true (first_refusal (frame_checks f s)) 0 e)).sized)
     (λ e. h)
   where
     f : Option (List ℕ)
-    f = hexBytes line
+    f = hex_bytes line
 
 -- ONE FRAME AFTER ANOTHER: what shows the state after a line is ready for the next line
 pub ready-after : (line : List ℕ) (l after : Slices) (n m : Numbers) → Ready l n → Shows (frame line (store_of l n)).store l after m → Sized after → Ready after m

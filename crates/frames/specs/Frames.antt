@@ -3,16 +3,16 @@
 use Rattle.std.specs.Prelude.{Bool, cond, not, ◌&&◌, ◌||◌, List, [], ◌∷◌, ℕ, ◌-◌, ◌%◌, ◌^◌, eqb, leb, ltb, length, drop, get_or}
 use Rattle.std.proofs.Math.Option.{Option, some, none}
 use Rattle.ty.specs.Types.{ArgType}
-use Rattle.checks.specs.Checks.{Check, check, firstRefusal}
-use Rattle.view.specs.View.{View, relation, relationNumber, supertype, cast}
+use Rattle.checks.specs.Checks.{Check, check, first_refusal}
+use Rattle.view.specs.View.{View, relation, relation_number, supertype, cast}
 use Rattle.tables.specs.declared.Tables.{Tables}
-use Rattle.rows.specs.Rows.{noTables, nameRow, State, all_below}
-use Rattle.columns.specs.Given.{noMarks}
-use Rattle.layers.specs.Stacks.{Stack, ground, withNames, stackRefusal, stackRow, openRefusal, openRow}
-use Rattle.tableview.specs.Inner.{stateView, stateWorld}
+use Rattle.rows.specs.Rows.{no_tables, name_row, State, all_below}
+use Rattle.columns.specs.Given.{no_marks}
+use Rattle.layers.specs.Stacks.{Stack, ground, with_names, stack_refusal, stack_row, open_refusal, open_row}
+use Rattle.tableview.specs.Inner.{state_view, state_world}
 use Rattle.solving.specs.Solving.{Problem, Solution, Unsolved, Solved, solve}
-use Rattle.problems.specs.Problems.{ProblemRow, counted, variable, bounded, flow, upperFlow, reading, writing, noProblem, rowRefusal, problemRow}
-use Rattle.hexline.specs.Hex.{hexBytes, badHex, number_at, numbersIn, bytesNumber}
+use Rattle.problems.specs.Problems.{ProblemRow, counted, variable, bounded, flow, upper_flow, reading, writing, no_problem, row_refusal, problem_row}
+use Rattle.hexline.specs.Hex.{hex_bytes, bad_hex, number_at, numbers_in, bytes_number}
 
 -- ---- the state
 
@@ -25,8 +25,8 @@ pub record Store : Type 0 where
   -- the highest kind accepted; 10 for 0a to 0d, 2 for 0e
   pub rank : ℕ
 
-unfoldable pub emptyStore : Store
-emptyStore = record { last = []; classes = ground (record { tables = noTables; keys = []; marks = noMarks }); problem = noProblem; rank = 0 }
+unfoldable pub empty_store : Store
+empty_store = record { last = []; classes = ground (record { tables = no_tables; keys = []; marks = no_marks }); problem = no_problem; rank = 0 }
 
 -- what the layers together show
 abbrev pub shown : Store → State
@@ -45,12 +45,12 @@ body_of (some []) = []
 body_of (some (k ∷ body)) = body
 
 -- KIND
-unfoldable pub badKind : ℕ → Bool
-badKind k = eqb k 0 || ltb 14 k
+unfoldable pub bad_kind : ℕ → Bool
+bad_kind k = eqb k 0 || ltb 14 k
 
 -- LENGTH, by kind
-unfoldable pub goodLength : ℕ → ℕ → Bool
-goodLength k n =
+unfoldable pub good_length : ℕ → ℕ → Bool
+good_length k n =
     cond (eqb k 1) (leb 1 n && leb n 255)
     (cond (eqb k 2) (leb 3 n && (eqb (n % 2) 1 && leb n 511))
     (cond (leb k 4) (eqb n 2)
@@ -81,15 +81,15 @@ pub data Message : Type 0 where
   solving : Message
   asking : Question → ℕ → ℕ → Message
 
-unfoldable pub messageOf : ℕ → List ℕ → Message
-messageOf k body =
+unfoldable pub message_of : ℕ → List ℕ → Message
+message_of k body =
     cond (eqb k 1) (naming body)
-    (cond (eqb k 2) (recording (get_or body 0 0) (number_at 1 body) (numbersIn (drop 3 body)))
+    (cond (eqb k 2) (recording (get_or body 0 0) (number_at 1 body) (numbers_in (drop 3 body)))
     (cond (eqb k 3) (row (counted (number_at 0 body)))
     (cond (eqb k 4) (row (variable (number_at 0 body)))
-    (cond (eqb k 5) (row (bounded (number_at 0 body) (get_or body 2 0) (bytesNumber 0 (drop 3 body))))
+    (cond (eqb k 5) (row (bounded (number_at 0 body) (get_or body 2 0) (bytes_number 0 (drop 3 body))))
     (cond (eqb k 6) (row (flow (number_at 0 body) (number_at 2 body)))
-    (cond (eqb k 7) (row (upperFlow (number_at 0 body) (number_at 2 body)))
+    (cond (eqb k 7) (row (upper_flow (number_at 0 body) (number_at 2 body)))
     (cond (eqb k 8) (row (reading (number_at 0 body) (number_at 2 body)))
     (cond (eqb k 9) (row (writing (number_at 0 body) (number_at 2 body)))
     (cond (eqb k 10) solving
@@ -100,25 +100,25 @@ messageOf k body =
 -- ---- what it is refused for: as the columns' rows are
 
 -- of a question or a solve, in order: a number that is no class; no name is java/lang/Object
-unfoldable pub askChecks : Tables → List ℕ → List Check
-askChecks t numbers = check (not (all_below t.names numbers)) 6 ∷ check (eqb t.object (2 ^ 64 - 1)) 9 ∷ []
+unfoldable pub ask_checks : Tables → List ℕ → List Check
+ask_checks t numbers = check (not (all_below t.names numbers)) 6 ∷ check (eqb t.object (2 ^ 64 - 1)) 9 ∷ []
 
 -- 6 for a name is impossible, 7 comes with bounds alone, 10 and 5 with names, 9 with questions and solves
-unfoldable pub messageRefusal : Message → Store → ℕ
-messageRefusal (naming n) s = (nameRow s.last n (shown s).tables).refusal
-messageRefusal (recording flags class parents) s = stackRefusal s.classes flags class parents
-messageRefusal opening s = openRefusal s.classes
-messageRefusal (row r) s = rowRefusal (shown s).tables.names r s.problem
-messageRefusal solving s = firstRefusal (askChecks (shown s).tables [])
-messageRefusal (asking q a b) s = firstRefusal (askChecks (shown s).tables (a ∷ b ∷ []))
+unfoldable pub message_refusal : Message → Store → ℕ
+message_refusal (naming n) s = (name_row s.last n (shown s).tables).refusal
+message_refusal (recording flags class parents) s = stack_refusal s.classes flags class parents
+message_refusal opening s = open_refusal s.classes
+message_refusal (row r) s = row_refusal (shown s).tables.names r s.problem
+message_refusal solving s = first_refusal (ask_checks (shown s).tables [])
+message_refusal (asking q a b) s = first_refusal (ask_checks (shown s).tables (a ∷ b ∷ []))
 
-unfoldable pub frameChecks : Option (List ℕ) → Store → List Check
-frameChecks f s =
-    check (badHex f) 1
-    ∷ check (badKind (kind_of f)) 2
-    ∷ check (not (goodLength (kind_of f) (length (body_of f)))) 3
+unfoldable pub frame_checks : Option (List ℕ) → Store → List Check
+frame_checks f s =
+    check (bad_hex f) 1
+    ∷ check (bad_kind (kind_of f)) 2
+    ∷ check (not (good_length (kind_of f) (length (body_of f)))) 3
     ∷ check (bad_order (kind_of f) s.rank) 4
-    ∷ check (not (eqb (messageRefusal (messageOf (kind_of f) (body_of f)) s) 0)) (messageRefusal (messageOf (kind_of f) (body_of f)) s)
+    ∷ check (not (eqb (message_refusal (message_of (kind_of f) (body_of f)) s) 0)) (message_refusal (message_of (kind_of f) (body_of f)) s)
     ∷ []
 
 -- ---- what it makes of the state, and what it says
@@ -140,44 +140,44 @@ abbrev pub stepped : Said → Store → Stepped
 stepped said s = record { said = said; store = s }
 
 -- by the same row functions
-unfoldable pub withMessage : ℕ → Message → Store → Store
-withMessage rank (naming n) s = record {
+unfoldable pub with_message : ℕ → Message → Store → Store
+with_message rank (naming n) s = record {
   last = n;
-  classes = withNames s.classes (nameRow s.last n (shown s).tables).tables;
+  classes = with_names s.classes (name_row s.last n (shown s).tables).tables;
   problem = s.problem;
   rank = rank;
 }
-withMessage rank (recording flags class parents) s = record { last = s.last; classes = stackRow s.classes flags class parents; problem = s.problem; rank = rank }
-withMessage rank opening s = record { last = s.last; classes = openRow s.classes; problem = s.problem; rank = rank }
-withMessage rank (row r) s = record { last = s.last; classes = s.classes; problem = (problemRow (shown s).tables.names r s.problem).problem; rank = rank }
-withMessage rank solving s = record { last = s.last; classes = s.classes; problem = s.problem; rank = rank }
-withMessage rank (asking q a b) s = record { last = s.last; classes = s.classes; problem = s.problem; rank = rank }
+with_message rank (recording flags class parents) s = record { last = s.last; classes = stack_row s.classes flags class parents; problem = s.problem; rank = rank }
+with_message rank opening s = record { last = s.last; classes = open_row s.classes; problem = s.problem; rank = rank }
+with_message rank (row r) s = record { last = s.last; classes = s.classes; problem = (problem_row (shown s).tables.names r s.problem).problem; rank = rank }
+with_message rank solving s = record { last = s.last; classes = s.classes; problem = s.problem; rank = rank }
+with_message rank (asking q a b) s = record { last = s.last; classes = s.classes; problem = s.problem; rank = rank }
 
 -- a refused run leaves the state, the rank included
-abbrev pub solvedStep : ℕ → Store → Solution → Stepped
-solvedStep rank s (Unsolved k) = stepped (Refused k) s
-solvedStep rank s (Solved table turns answers) = stepped (Answers answers) (withMessage rank solving s)
+abbrev pub solved_step : ℕ → Store → Solution → Stepped
+solved_step rank s (Unsolved k) = stepped (Refused k) s
+solved_step rank s (Solved table turns answers) = stepped (Answers answers) (with_message rank solving s)
 
 unfoldable pub answer : Question → ℕ → ℕ → View → Said
-answer Relating a b v = Related (relationNumber (relation v a b))
+answer Relating a b v = Related (relation_number (relation v a b))
 answer Supertyping a b v = Supertyped (supertype v a b)
 answer Casting a b v = Castable (cast v a b)
 
 -- a message that no check refuses
 unfoldable pub accepted : ℕ → Message → Store → Stepped
-accepted rank (naming n) s = stepped Accepted (withMessage rank (naming n) s)
-accepted rank (recording flags class parents) s = stepped Accepted (withMessage rank (recording flags class parents) s)
-accepted rank opening s = stepped Accepted (withMessage rank opening s)
-accepted rank (row r) s = stepped Accepted (withMessage rank (row r) s)
-accepted rank solving s = solvedStep rank s (solve (stateWorld (shown s)) s.problem)
-accepted rank (asking q a b) s = stepped (answer q a b (stateView (shown s))) (withMessage rank (asking q a b) s)
+accepted rank (naming n) s = stepped Accepted (with_message rank (naming n) s)
+accepted rank (recording flags class parents) s = stepped Accepted (with_message rank (recording flags class parents) s)
+accepted rank opening s = stepped Accepted (with_message rank opening s)
+accepted rank (row r) s = stepped Accepted (with_message rank (row r) s)
+accepted rank solving s = solved_step rank s (solve (state_world (shown s)) s.problem)
+accepted rank (asking q a b) s = stepped (answer q a b (state_view (shown s))) (with_message rank (asking q a b) s)
 
 -- ---- ONE FRAME
 
-unfoldable pub frameBytes : Option (List ℕ) → Store → Stepped
-frameBytes f s =
-    cond (eqb (firstRefusal (frameChecks f s)) 0) (accepted (rank_of (kind_of f)) (messageOf (kind_of f) (body_of f)) s)
-    (stepped (Refused (firstRefusal (frameChecks f s))) s)
+unfoldable pub frame_bytes : Option (List ℕ) → Store → Stepped
+frame_bytes f s =
+    cond (eqb (first_refusal (frame_checks f s)) 0) (accepted (rank_of (kind_of f)) (message_of (kind_of f) (body_of f)) s)
+    (stepped (Refused (first_refusal (frame_checks f s))) s)
 
 unfoldable pub frame : List ℕ → Store → Stepped
-frame line s = frameBytes (hexBytes line) s
+frame line s = frame_bytes (hex_bytes line) s

@@ -1,7 +1,7 @@
 // The state that hex frames build up, as lent slices and one struct of numbers, and what a frame comes to.
 ghost use Rattle.std.specs.Prelude.{◌≡◌};
 ghost use Rattle.framestate.specs.declared.Said.TheVariants.{Accepted, Refused};
-ghost use Rattle.framestate.specs.FrameState.{nameNumbers, recordNumbers, countNumbers, variableNumbers, boundNumbers, flowNumbers, upperNumbers, readNumbers, writeNumbers, askNumbers, framed};
+ghost use Rattle.framestate.specs.FrameState.{name_numbers, record_numbers, count_numbers, variable_numbers, bound_numbers, flow_numbers, upper_numbers, read_numbers, write_numbers, ask_numbers, framed};
 
 use layers::StackTables;
 use tables::Tables;
@@ -60,7 +60,7 @@ pub fn accept(n: Numbers) -> Framed
 // The numbers after a row that was taken, by its kind.
 impl Numbers {
     pub fn named(self, last: usize, tables: Tables) -> Numbers
-        ensures { result ≡ nameNumbers self last tables }
+        ensures { result ≡ name_numbers self last tables }
     {
         let before = self.stack;
         let layer = before.layer;
@@ -84,7 +84,7 @@ impl Numbers {
     }
 
     pub fn recorded(self, stack: StackTables) -> Numbers
-        ensures { result ≡ recordNumbers self stack }
+        ensures { result ≡ record_numbers self stack }
     {
         Numbers {
             stack: stack,
@@ -101,7 +101,7 @@ impl Numbers {
     }
 
     pub fn counted(self, components: u64) -> Numbers
-        ensures { result ≡ countNumbers self components }
+        ensures { result ≡ count_numbers self components }
     {
         let stack = self.stack;
         Numbers {
@@ -119,7 +119,7 @@ impl Numbers {
     }
 
     pub fn with_variables(self, count: usize) -> Numbers
-        ensures { result ≡ variableNumbers self count }
+        ensures { result ≡ variable_numbers self count }
     {
         let stack = self.stack;
         Numbers {
@@ -137,7 +137,7 @@ impl Numbers {
     }
 
     pub fn with_bounds(self, count: usize) -> Numbers
-        ensures { result ≡ boundNumbers self count }
+        ensures { result ≡ bound_numbers self count }
     {
         let stack = self.stack;
         Numbers {
@@ -155,7 +155,7 @@ impl Numbers {
     }
 
     pub fn with_flows(self, count: usize) -> Numbers
-        ensures { result ≡ flowNumbers self count }
+        ensures { result ≡ flow_numbers self count }
     {
         let stack = self.stack;
         Numbers {
@@ -173,7 +173,7 @@ impl Numbers {
     }
 
     pub fn with_uppers(self, count: usize) -> Numbers
-        ensures { result ≡ upperNumbers self count }
+        ensures { result ≡ upper_numbers self count }
     {
         let stack = self.stack;
         Numbers {
@@ -191,7 +191,7 @@ impl Numbers {
     }
 
     pub fn with_reads(self, count: usize) -> Numbers
-        ensures { result ≡ readNumbers self count }
+        ensures { result ≡ read_numbers self count }
     {
         let stack = self.stack;
         Numbers {
@@ -209,7 +209,7 @@ impl Numbers {
     }
 
     pub fn with_writes(self, count: usize) -> Numbers
-        ensures { result ≡ writeNumbers self count }
+        ensures { result ≡ write_numbers self count }
     {
         let stack = self.stack;
         Numbers {
@@ -227,7 +227,7 @@ impl Numbers {
     }
 
     pub fn asked(self) -> Numbers
-        ensures { result ≡ askNumbers self }
+        ensures { result ≡ ask_numbers self }
     {
         let stack = self.stack;
         Numbers {

@@ -14,7 +14,7 @@ use Rattle.hexline.proofs.put_numbers.Kinds as put-numbers-kinds
 
 pub read-line-one : (κs : Lfts 2) (a : Dens κs read-line-kinds.ps) (r₁ r₂ : (res_t read-line-kinds.r κs).Denot)
     (x₁ x₂ : AtExit (ended_of 2 read-line-kinds.ps read-line-kinds.r) κs) → read-line.Post κs a r₁ x₁ → read-line.Post κs a r₂ x₂ → (r₁ ≡ r₂) × (x₁.1.0.now ≡ x₂.1.0.now)
-read-line-one κs a r₁ r₂ x₁ x₂ p q = (p.count-is ∙ sym q.count-is, p.slice_is ∙ sym q.slice_is)
+read-line-one κs a r₁ r₂ x₁ x₂ p q = (p.count-is ∙ sym q.count-is, p.slice-is ∙ sym q.slice-is)
 
 pub number-at-one : (κs : Lfts 1) (a : Dens κs number-at-kinds.ps) (r₁ r₂ : (res_t number-at-kinds.r κs).Denot)
     (x₁ x₂ : AtExit (ended_of 1 number-at-kinds.ps number-at-kinds.r) κs) → number_at.Post κs a r₁ x₁ → number_at.Post κs a r₂ x₂ → r₁ ≡ r₂

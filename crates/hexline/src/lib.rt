@@ -1,7 +1,7 @@
 // Hex lines: the bytes of a line, two lower-case digits a byte, and the numbers that a frame's bytes hold, high byte first.
 ghost use Rattle.std.specs.Prelude.{◌≡◌, true, ◌+◌, ◌*◌, ◌%◌, ◌/◌, ◌^◌, ◌≤◌, ◌<◌, length, drop};
-ghost use Rattle.hexline.specs.Hex.{digit, hexBytes, number_at, numbersIn, bytesNumber, isHex, bytes_of, inFront, Reads};
-ghost use Rattle.hexline.specs.Laws.{isDigit, value_of};
+ghost use Rattle.hexline.specs.Hex.{digit, hex_bytes, number_at, numbers_in, bytes_number, is_hex, bytes_of, in_front, Reads};
+ghost use Rattle.hexline.specs.Laws.{is_digit, value_of};
 
 fn wide(b: u8) -> u64
     ensures { (result ≡ b) × (result < 256) }
@@ -11,7 +11,7 @@ fn wide(b: u8) -> u64
 
 // Whether a byte is 0 to 9 or a to f.
 fn is_digit(b: u8) -> bool
-    ensures { result ≡ isDigit (digit b) }
+    ensures { result ≡ is_digit (digit b) }
 {
     if b < b'0' {
         return false;
@@ -47,7 +47,7 @@ fn value(b: u8) -> u8
 // Whether each byte of a line of whole pairs is a digit.
 fn is_hex(line: &[u8]) -> bool
     requires { length line.now % 2 ≡ 0 }
-    ensures { result ≡ isHex (hexBytes line.now) }
+    ensures { result ≡ is_hex (hex_bytes line.now) }
 {
     let n = line.len() / 2;
     let mut k: usize = 0;
@@ -65,8 +65,8 @@ fn is_hex(line: &[u8]) -> bool
 
 // Puts the bytes of a line of hex digits in front.
 fn put_bytes(line: &[u8], frame: &mut [u8])
-    requires { (isHex (hexBytes line.now) ≡ true) × (length line.now ≤ 2 * length frame.old) }
-    ensures { frame.new ≡ inFront (bytes_of (hexBytes line.now)) frame.old }
+    requires { (is_hex (hex_bytes line.now) ≡ true) × (length line.now ≤ 2 * length frame.old) }
+    ensures { frame.new ≡ in_front (bytes_of (hex_bytes line.now)) frame.old }
 {
     let n = line.len() / 2;
     let mut k: usize = 0;
@@ -79,7 +79,7 @@ fn put_bytes(line: &[u8], frame: &mut [u8])
 // The bytes of a line, in front of `frame`, and how many they are: 0 for a line that is empty, odd, not hex or over 512 bytes.
 pub fn read_line(line: &[u8], frame: &mut [u8]) -> usize
     requires { length frame.old ≡ 512 }
-    ensures { Reads (hexBytes line.now) frame.old frame.new result }
+    ensures { Reads (hex_bytes line.now) frame.old frame.new result }
 {
     if 1024 < line.len() {
         return 0;
@@ -113,7 +113,7 @@ fn half_at(body: &[u8], i: usize) -> u64
 // The word in the eight last bytes of eleven.
 pub fn word_at_3(body: &[u8]) -> u64
     requires { length body.now ≡ 11 }
-    ensures { (result ≡ bytesNumber 0 (drop 3 body.now)) × (result < 2 ^ 64) }
+    ensures { (result ≡ bytes_number 0 (drop 3 body.now)) × (result < 2 ^ 64) }
 {
     half_at(body, 3) * 4294967296 + half_at(body, 7)
 }
@@ -121,7 +121,7 @@ pub fn word_at_3(body: &[u8]) -> u64
 // Puts the numbers of two bytes each in front, and tells how many they are.
 pub fn put_numbers(bytes: &[u8], numbers: &mut [u64]) -> usize
     requires { (length bytes.now % 2 ≡ 0) × (length bytes.now ≤ 2 * length numbers.old) }
-    ensures { (result ≡ length (numbersIn bytes.now)) × (numbers.new ≡ inFront (numbersIn bytes.now) numbers.old) }
+    ensures { (result ≡ length (numbers_in bytes.now)) × (numbers.new ≡ in_front (numbers_in bytes.now) numbers.old) }
 {
     let n = bytes.len() / 2;
     let mut k: usize = 0;

@@ -10,13 +10,13 @@ use borrow.Author.Tests.{eq-eqb, ne_eqb}
 use lib.ListN.{length}
 use Rattle.sets.specs.Sets.{at, member, subtract, members, first}
 use Rattle.sets.specs.Bits.{first-le}
-use Rattle.sets.specs.Laws.{member-subtract, members_only, members-all, length-subtract, lowest-none, lowest-member}
+use Rattle.sets.specs.Laws.{member-subtract, members-only, members-all, length-subtract, lowest-none, lowest-member}
 use Rattle.tables.specs.declared.Tables.{Tables}
 use Rattle.view.specs.declared.Relation.TheVariants.{Yes, No, Unknown}
-use Rattle.view.specs.View.{View, reached, reach, ancestor, allRecorded, complete, relation, castByFacts, cast}
+use Rattle.view.specs.View.{View, reached, reach, ancestor, all_recorded, complete, relation, cast_by_facts, cast}
 use Rattle.view.specs.Reach.{level-formed}
-use Rattle.tables.specs.Table.{marksRoom, mark, mark-length, view_of}
-use Rattle.hierarchy.specs.Walked.{castMarked}
+use Rattle.tables.specs.Table.{marks_room, mark, mark-length, view_of}
+use Rattle.hierarchy.specs.Walked.{cast_marked}
 
 reached-length : (v : View) (x : ℕ) → length (reached v x) ≡ 16
 unfolding reached
@@ -25,29 +25,29 @@ reached-length v x = (level-formed v v.names x).0
 -- ---- whether all of a list are recorded
 
 module _ (v : View) where
-  all_true : (cs : List ℕ) → ((c : ℕ) → Memᴰ c cs → v.recorded c ≡ true) → allRecorded v cs ≡ true
-  unfolding allRecorded
-  all_true [] h = refl
-  all_true (c ∷ cs) h = ap (λ (b : Bool). b && allRecorded v cs) (h c (Memᴰ.head refl)) ∙ all_true cs (λ d m. h d (Memᴰ.tail m))
+  all-true : (cs : List ℕ) → ((c : ℕ) → Memᴰ c cs → v.recorded c ≡ true) → all_recorded v cs ≡ true
+  unfolding all_recorded
+  all-true [] h = refl
+  all-true (c ∷ cs) h = ap (λ (b : Bool). b && all_recorded v cs) (h c (Memᴰ.head refl)) ∙ all-true cs (λ d m. h d (Memᴰ.tail m))
 
-  all-false : (cs : List ℕ) (c : ℕ) → Memᴰ c cs → v.recorded c ≡ false → allRecorded v cs ≡ false
-  unfolding allRecorded
+  all-false : (cs : List ℕ) (c : ℕ) → Memᴰ c cs → v.recorded c ≡ false → all_recorded v cs ≡ false
+  unfolding all_recorded
   all-false [] c m n = absurd (Memᴰ.not-nil m)
   all-false (d ∷ cs) c m n =
-      ⊎_elim (λ e. ap (λ (b : Bool). b && allRecorded v cs) (ap v.recorded (sym e) ∙ n)) (λ t. go (v.recorded d) (all-false cs c t n)) (Memᴰ.cases_cons m)
+      ⊎_elim (λ e. ap (λ (b : Bool). b && all_recorded v cs) (ap v.recorded (sym e) ∙ n)) (λ t. go (v.recorded d) (all-false cs c t n)) (Memᴰ.cases_cons m)
     where
-      go : (b : Bool) → allRecorded v cs ≡ false → (b && allRecorded v cs) ≡ false
+      go : (b : Bool) → all_recorded v cs ≡ false → (b && all_recorded v cs) ≡ false
       go true e = e
       go false e = refl
 
   -- ALL OF s ARE RECORDED EXACTLY IF s WITHOUT THE RECORDED IS EMPTY
   module _ (s known : List ℕ) (ls : length s ≡ 16) (lk : length known ≡ 16) (is : (c : ℕ) → v.recorded c ≡ member known c) where
-    pub recorded-all : first (at (subtract s known)) 1024 ≡ 1024 → allRecorded v (members (at s) 0 1024) ≡ true
+    pub recorded-all : first (at (subtract s known)) 1024 ≡ 1024 → all_recorded v (members (at s) 0 1024) ≡ true
     recorded-all f =
-        all_true (members (at s) 0 1024)
+        all-true (members (at s) 0 1024)
         (λ c m.
         is c
-        ∙ kept (member s c) (member known c) (members_only s 1024 c m)
+        ∙ kept (member s c) (member known c) (members-only s 1024 c m)
         (sym (member-subtract s known c (ls ∙ sym lk)) ∙ lowest-none (subtract s known) (length-subtract s known (ls ∙ sym lk) ∙ ls) f c))
       where
         kept : (a b : Bool) → a ≡ true → (a && not b) ≡ false → b ≡ true
@@ -55,7 +55,7 @@ module _ (v : View) where
         kept true false q r = sym r
         kept false b q r = absurd (false≢true q)
 
-    pub recorded-not-all : (first (at (subtract s known)) 1024 ≡ 1024 → ⊥) → allRecorded v (members (at s) 0 1024) ≡ false
+    pub recorded-not-all : (first (at (subtract s known)) 1024 ≡ 1024 → ⊥) → all_recorded v (members (at s) 0 1024) ≡ false
     recorded-not-all f = all-false (members (at s) 0 1024) c (members-all s 1024 c below both.0) (is c ∙ both.1)
       where
         c : ℕ
@@ -89,7 +89,7 @@ module _ (pairs marks : List ℕ) (t : Tables) (value expected : ℕ) where
       unfolding relation ancestor
       relation-reached r = simp (ne_eqb value expected n, ne_eqb expected t.object o, r)
 
-      module _ (l : length marks ≡ marksRoom) (r : reach (view_of pairs marks t) value expected ≡ false) (missing : List ℕ)
+      module _ (l : length marks ≡ marks_room) (r : reach (view_of pairs marks t) value expected ≡ false) (missing : List ℕ)
           (e : missing ≡ subtract (reached (view_of pairs marks t) value) (mark marks 0)) where
         pub relation-no : first (at missing) 1024 ≡ 1024 → No ≡ relation (view_of pairs marks t) value expected
         unfolding relation ancestor complete
@@ -116,30 +116,30 @@ module _ (pairs marks : List ℕ) (t : Tables) (value expected : ℕ) where
 -- ---- cast
 
 module _ (marks : List ℕ) (s t : ℕ) where
-  pub undeclared-source : member (mark marks 1) s ≡ false → false ≡ castMarked marks s t
-  unfolding castMarked
+  pub undeclared-source : member (mark marks 1) s ≡ false → false ≡ cast_marked marks s t
+  unfolding cast_marked
   undeclared-source d = simp d
 
   module _ (d : member (mark marks 1) s ≡ true) where
-    pub undeclared-target : member (mark marks 1) t ≡ false → false ≡ castMarked marks s t
-    unfolding castMarked
+    pub undeclared-target : member (mark marks 1) t ≡ false → false ≡ cast_marked marks s t
+    unfolding cast_marked
     undeclared-target e = simp (d, e)
 
     module _ (e : member (mark marks 1) t ≡ true) where
-      pub both-interfaces : member (mark marks 2) s ≡ true → member (mark marks 2) t ≡ true → true ≡ castMarked marks s t
-      unfolding castMarked castByFacts
+      pub both-interfaces : member (mark marks 2) s ≡ true → member (mark marks 2) t ≡ true → true ≡ cast_marked marks s t
+      unfolding cast_marked cast_by_facts
       both-interfaces i j = simp (d, e, i, j)
 
-      pub source-interface : member (mark marks 2) s ≡ true → member (mark marks 2) t ≡ false → not (member (mark marks 3) t) ≡ castMarked marks s t
-      unfolding castMarked castByFacts
+      pub source-interface : member (mark marks 2) s ≡ true → member (mark marks 2) t ≡ false → not (member (mark marks 3) t) ≡ cast_marked marks s t
+      unfolding cast_marked cast_by_facts
       source-interface i j = simp (d, e, i, j)
 
-      pub target-interface : member (mark marks 2) s ≡ false → member (mark marks 2) t ≡ true → not (member (mark marks 3) s) ≡ castMarked marks s t
-      unfolding castMarked castByFacts
+      pub target-interface : member (mark marks 2) s ≡ false → member (mark marks 2) t ≡ true → not (member (mark marks 3) s) ≡ cast_marked marks s t
+      unfolding cast_marked cast_by_facts
       target-interface i j = simp (d, e, i, j)
 
-      pub no-interface : member (mark marks 2) s ≡ false → member (mark marks 2) t ≡ false → false ≡ castMarked marks s t
-      unfolding castMarked castByFacts
+      pub no-interface : member (mark marks 2) s ≡ false → member (mark marks 2) t ≡ false → false ≡ cast_marked marks s t
+      unfolding cast_marked cast_by_facts
       no-interface i j = simp (d, e, i, j)
 
 module _ (pairs marks : List ℕ) (t : Tables) (source target : ℕ) where
@@ -152,6 +152,6 @@ module _ (pairs marks : List ℕ) (t : Tables) (source target : ℕ) where
   cast-down a b = simp (a, b)
 
   pub cast-facts : ancestor (view_of pairs marks t) source target ≡ false → ancestor (view_of pairs marks t) target source ≡ false
-      → castMarked marks source target ≡ cast (view_of pairs marks t) source target
-  unfolding cast castMarked
+      → cast_marked marks source target ≡ cast (view_of pairs marks t) source target
+  unfolding cast cast_marked
   cast-facts a b = simp (a, b)

@@ -12,9 +12,9 @@ use native.Mathlib.Omega.{arith}
 use lib.Dec.{eqb}
 use lib.ListN.{replicate}
 use Rattle.sets.specs.Sets.{at, member, insert, subtract, members, first}
-use Rattle.sets.specs.Bits.{first_below, first_found, first-le}
-use Rattle.sets.specs.Laws.{at_none, at-member, member-past}
-use Rattle.view.specs.View.{number_of, View, withParents, grow, level, reached, reach, steps, far, distance, distanceOr}
+use Rattle.sets.specs.Bits.{first-below, first-found, first-le}
+use Rattle.sets.specs.Laws.{at-none, at-member, member-past}
+use Rattle.view.specs.View.{number_of, View, with_parents, grow, level, reached, reach, steps, far, distance, distance_or}
 use Rattle.view.specs.Grow.{Formed, member-le}
 use Rattle.view.specs.Reach.{level-formed, level-grows, level-stays}
 use Rattle.view.specs.Frontier.{Expanded, frontier, expanded-next, part-next, nothing-new}
@@ -33,8 +33,8 @@ first-is : (f : ℕ → ℕ) (n k : ℕ) → k < n → ((j : ℕ) → j < k → 
 first-is f n k h unset set = go (dec_lt (first f n) k) (dec_lt k (first f n))
   where
     go : Dec (first f n < k) → Dec (k < first f n) → first f n ≡ k
-    go (yes l) d = absurd (first_found f n (omega arith) (unset (first f n) l))
-    go (no l) (yes m) = absurd (set (first_below f n k m))
+    go (yes l) d = absurd (first-found f n (omega arith) (unset (first f n) l))
+    go (no l) (yes m) = absurd (set (first-below f n k m))
     go (no l) (no m) = omega arith
 
 module _ (v : View) (x y : ℕ) where
@@ -63,7 +63,7 @@ module _ (v : View) (x y : ℕ) where
     unfolding reach reached
     walked-found m = record {
       tells = sym found;
-      at_level = λ _. sym (found-steps m);
+      at-level = λ _. sym (found-steps m);
       has-seen = λ n. absurd (true≢false (sym found ∙ n));
     }
       where
@@ -71,40 +71,40 @@ module _ (v : View) (x y : ℕ) where
         found = member-le seen (level v v.names x) y (subst (λ (s : List ℕ). at s y ≤ at (level v v.names x) y) (sym st.is-level) (level-grows v k v.names x y st.within)) m
 
     -- y is not in this level, which is the last
-    walked_none : member seen y ≡ false → level v v.names x ≡ seen → Walked v x y false k seen
+    walked-none : member seen y ≡ false → level v v.names x ≡ seen → Walked v x y false k seen
     unfolding reach reached
-    walked_none n e = record {
+    walked-none n e = record {
       tells = sym (ap (λ (s : List ℕ). member s y) e ∙ n);
-      at_level = λ m. absurd (true≢false (sym m ∙ ap (λ (s : List ℕ). member s y) e ∙ n));
+      at-level = λ m. absurd (true≢false (sym m ∙ ap (λ (s : List ℕ). member s y) e ∙ n));
       has-seen = λ _. sym e;
     }
 
-    pub walked_end : v.names ≤ k → (b : Bool) → b ≡ member seen y → Walked v x y b k seen
-    walked_end h true e = walked-found (sym e)
-    walked_end h false e = walked_none (sym e) (ap (λ (n : ℕ). level v n x) (let q : v.names ≡ k = let l = st.within in omega arith in q) ∙ sym st.is-level)
+    pub walked-end : v.names ≤ k → (b : Bool) → b ≡ member seen y → Walked v x y b k seen
+    walked-end h true e = walked-found (sym e)
+    walked-end h false e = walked-none (sym e) (ap (λ (n : ℕ). level v n x) (let q : v.names ≡ k = let l = st.within in omega arith in q) ∙ sym st.is-level)
 
-    module _ (next new : List ℕ) (e : next ≡ withParents v seen (members (at front) 0 1024)) (q : new ≡ subtract next seen) where
-      next_level : next ≡ grow v seen
-      next_level = e ∙ frontier v seen front formed st.part st.expanded
+    module _ (next new : List ℕ) (e : next ≡ with_parents v seen (members (at front) 0 1024)) (q : new ≡ subtract next seen) where
+      next-level : next ≡ grow v seen
+      next-level = e ∙ frontier v seen front formed st.part st.expanded
 
-      new_is : new ≡ subtract (grow v seen) seen
-      new_is = q ∙ ap (λ (s : List ℕ). subtract s seen) next_level
+      new-is : new ≡ subtract (grow v seen) seen
+      new-is = q ∙ ap (λ (s : List ℕ). subtract s seen) next-level
 
       pub walked-last : member seen y ≡ false → first (at new) 1024 ≡ 1024 → Walked v x y false k seen
       unfolding level
       walked-last n l =
-          walked_none n
+          walked-none n
           (level-stays v k v.names x
-          (ap (grow v) (sym st.is-level) ∙ nothing-new v seen formed (ap (λ (s : List ℕ). first (at s) 1024) (sym new_is) ∙ l) ∙ st.is-level) st.within ∙ sym st.is-level)
+          (ap (grow v) (sym st.is-level) ∙ nothing-new v seen formed (ap (λ (s : List ℕ). first (at s) 1024) (sym new-is) ∙ l) ∙ st.is-level) st.within ∙ sym st.is-level)
 
       pub standing-next : member seen y ≡ false → k < v.names → Standing v x y next new (k + 1)
       unfolding level
       standing-next n h = record {
         within = omega arith;
-        is-level = next_level ∙ ap (grow v) st.is-level ∙ ap (λ (m : ℕ). level v m x) (sym (add-one k));
-        part = subst (λ (s : List ℕ). (j : ℕ) → at new j ≤ at s j) (sym next_level) (subst (λ (s : List ℕ). (j : ℕ) → at s j ≤ at (grow v seen) j) (sym new_is) (part-next v seen formed));
-        expanded = subst (λ (s : List ℕ). Expanded v s new) (sym next_level) (subst (Expanded v (grow v seen)) (sym new_is) (expanded-next v seen formed));
-        not-before = below_more _ _ st.not-before (ap (λ (s : List ℕ). at s y) (sym st.is-level) ∙ at_none seen y n);
+        is-level = next-level ∙ ap (grow v) st.is-level ∙ ap (λ (m : ℕ). level v m x) (sym (add-one k));
+        part = subst (λ (s : List ℕ). (j : ℕ) → at new j ≤ at s j) (sym next-level) (subst (λ (s : List ℕ). (j : ℕ) → at s j ≤ at (grow v seen) j) (sym new-is) (part-next v seen formed));
+        expanded = subst (λ (s : List ℕ). Expanded v s new) (sym next-level) (subst (Expanded v (grow v seen)) (sym new-is) (expanded-next v seen formed));
+        not-before = below_more _ _ st.not-before (ap (λ (s : List ℕ). at s y) (sym st.is-level) ∙ at-none seen y n);
       }
 
 module _ (v : View) (x : ℕ) where
@@ -123,19 +123,19 @@ module _ (v : View) (x : ℕ) where
     unfolding distance number_of
     distance-far r e = simp (r, eq-eqb y v.object e)
 
-    pub distance_none : reach v x y ≡ false → (y ≡ v.object → ⊥) → 18446744073709551615 ≡ number_of (distance v x y)
+    pub distance-none : reach v x y ≡ false → (y ≡ v.object → ⊥) → 18446744073709551615 ≡ number_of (distance v x y)
     unfolding distance number_of
-    distance_none r n = simp (r, ne_eqb y v.object n)
+    distance-none r n = simp (r, ne_eqb y v.object n)
 
     -- ---- and as a number that is there for every class
-    pub far-found : (n : ℕ) → v.names ≤ 1024 → reach v x y ≡ true → n ≡ steps v x y → (n ≡ distanceOr (distance v x y)) × (n ≤ far)
+    pub far-found : (n : ℕ) → v.names ≤ 1024 → reach v x y ≡ true → n ≡ steps v x y → (n ≡ distance_or (distance v x y)) × (n ≤ far)
     unfolding distance steps
     far-found n h r e = (e ∙ simp r, let l = first-le (λ n. at (level v n x) y) (suc v.names) in omega arith)
 
-    pub far_none : reach v x y ≡ false → far ≡ distanceOr (distance v x y)
+    pub far-none : reach v x y ≡ false → far ≡ distance_or (distance v x y)
     unfolding distance
-    far_none r = simp r (go (eqb y v.object))
+    far-none r = simp r (go (eqb y v.object))
       where
-        go : (b : Bool) → far ≡ distanceOr (cond b (some far) none)
+        go : (b : Bool) → far ≡ distance_or (cond b (some far) none)
         go true = refl
         go false = refl

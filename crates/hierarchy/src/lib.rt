@@ -1,9 +1,9 @@
 // What is asked of the class tables, from hierarchy.rs. A walk is handed the whole tables, though it reads the pairs alone.
 ghost use Rattle.std.specs.Prelude.{◌≡◌, cond, ◌<◌, ltb, length};
 ghost use Rattle.sets.specs.Sets.{at, member, members, insert};
-ghost use Rattle.view.specs.View.{insertAll, withParents, reached, reach, ancestors, distance, ancestor, relation, cast, number_of};
-ghost use Rattle.tables.specs.Table.{namesRoom, marksRoom, mark, view_of};
-ghost use Rattle.hierarchy.specs.Walked.{castMarked, Walked};
+ghost use Rattle.view.specs.View.{insert_all, with_parents, reached, reach, ancestors, distance, ancestor, relation, cast, number_of};
+ghost use Rattle.tables.specs.Table.{names_room, marks_room, mark, view_of};
+ghost use Rattle.hierarchy.specs.Walked.{cast_marked, Walked};
 
 use sets::Set;
 use tables::{NAMES, Tables};
@@ -24,8 +24,8 @@ fn with_class(s: Set, names: u64, p: u64) -> Set
 
 // The set with the parents of c: the keys from its place on, as long as they are of c.
 pub fn with_parents(pairs: &[u64], marks: &[u64], t: Tables, c: u64, s: Set) -> Set
-    requires { c < namesRoom }
-    ensures { result.words ≡ insertAll s.words ((view_of pairs.now marks.now t).parents c) }
+    requires { c < names_room }
+    ensures { result.words ≡ insert_all s.words ((view_of pairs.now marks.now t).parents c) }
 {
     let past = sorted::count(pairs, t.pairs);
     let mut i = sorted::position(pairs, t.pairs, c * NAMES);
@@ -43,7 +43,7 @@ pub fn with_parents(pairs: &[u64], marks: &[u64], t: Tables, c: u64, s: Set) -> 
 
 // The set with the parents of each class of `front`.
 pub fn expand(pairs: &[u64], marks: &[u64], t: Tables, s: Set, front: Set) -> Set
-    ensures { result.words ≡ withParents (view_of pairs.now marks.now t) s.words (members (at front.words) 0 1024) }
+    ensures { result.words ≡ with_parents (view_of pairs.now marks.now t) s.words (members (at front.words) 0 1024) }
 {
     let mut all = s;
     let mut left = front;
@@ -154,7 +154,7 @@ fn is_ancestor(pairs: &[u64], marks: &[u64], t: Tables, value: u64, expected: u6
 
 // Whether c is in the set k of the four.
 fn is_marked(marks: &[u64], k: u64, c: u64) -> bool
-    requires { (length marks.now ≡ marksRoom) × (k < 4) }
+    requires { (length marks.now ≡ marks_room) × (k < 4) }
     ensures { result ≡ member (mark marks.now k) c }
 {
     if c < NAMES {
@@ -167,7 +167,7 @@ fn is_marked(marks: &[u64], k: u64, c: u64) -> bool
 
 // The classes that are recorded.
 pub fn recorded(marks: &[u64]) -> Set
-    requires { length marks.now ≡ marksRoom }
+    requires { length marks.now ≡ marks_room }
     ensures { result.words ≡ mark marks.now 0 }
 {
     let mut words = [0u64; 16];
@@ -185,7 +185,7 @@ pub fn subtype_relation(
     value: u64,
     expected: u64,
 ) -> Relation
-    requires { length marks.now ≡ marksRoom }
+    requires { length marks.now ≡ marks_room }
     ensures { result ≡ relation (view_of pairs.now marks.now t) value expected }
 {
     if value == expected {
@@ -208,8 +208,8 @@ pub fn subtype_relation(
 
 // The cast test where neither is an ancestor: by the declared facts.
 fn cast_by_facts(marks: &[u64], source: u64, target: u64) -> bool
-    requires { length marks.now ≡ marksRoom }
-    ensures { result ≡ castMarked marks.now source target }
+    requires { length marks.now ≡ marks_room }
+    ensures { result ≡ cast_marked marks.now source target }
 {
     if !is_marked(marks, 1, source) {
         return false;
@@ -232,7 +232,7 @@ fn cast_by_facts(marks: &[u64], source: u64, target: u64) -> bool
 
 // Whether a cast from `source` to `target` can succeed: is_cast_convertible.
 pub fn cast(pairs: &[u64], marks: &[u64], t: Tables, source: u64, target: u64) -> bool
-    requires { length marks.now ≡ marksRoom }
+    requires { length marks.now ≡ marks_room }
     ensures { result ≡ cast (view_of pairs.now marks.now t) source target }
 {
     if is_ancestor(pairs, marks, t, source, target) {

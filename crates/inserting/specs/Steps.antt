@@ -4,22 +4,22 @@ use Rattle.std.proofs.Common.{sym, ap, ap₂, ◌∙◌, subst, arith}
 use Rattle.sets.specs.Sets.{member}
 use Rattle.sorted.specs.declared.Put.{Put}
 use Rattle.sorted.specs.declared.Put.TheVariants.{Old, New as Added, Full}
-use Rattle.sorted.specs.Sorted.{putAnswer, putList}
+use Rattle.sorted.specs.Sorted.{put_answer, put_list}
 use Rattle.keys.specs.Rank.{unrank}
 use Rattle.queue.specs.declared.Queue.{Queue}
-use Rattle.queue.specs.Ring.{offered, ringOffered}
+use Rattle.queue.specs.Ring.{offered, ring_offered}
 use Rattle.queue.specs.Laws.{shown-length}
 use Rattle.solving.specs.TableKeys.{key_of}
-use Rattle.solving.specs.Solving.{Bound, bound, toOne}
-use Rattle.inserting.specs.Store.{store, refusedBy, byAnswer, putBound, put_all, sentTypes, Ranked, Sendable, Ready}
+use Rattle.solving.specs.Solving.{Bound, bound, to_one}
+use Rattle.inserting.specs.Store.{store, refused_by, by_answer, put_bound, put_all, sent_types, Ranked, Sendable, Ready}
 use Rattle.inserting.specs.Laws.{put-flat, put-kept, old-new, full-new, rank-flat, key-made, rank-given, queue-fits, none-put, one-put, deep-put}
 use Rattle.inserting.specs.declared.State.{State}
 use Rattle.inserting.specs.declared.Sent.{Sent}
 use Rattle.inserting.specs.declared.Sent.TheVariants.{Nothing, Rank, Deep}
 
 -- the key of a bound, as the code makes it
-abbrev pub madeKey : ℕ → ℕ → ℕ → ℕ
-madeKey c kind r = c * 2 ^ 55 + (kind * 2 ^ 52 + r)
+abbrev pub made_key : ℕ → ℕ → ℕ → ℕ
+made_key c kind r = c * 2 ^ 55 + (kind * 2 ^ 52 + r)
 
 module _ (a ring : List ℕ) (s : State) (c kind r : ℕ) (k : Ranked r) where
   abbrev b : Bound
@@ -32,40 +32,40 @@ module _ (a ring : List ℕ) (s : State) (c kind r : ℕ) (k : Ranked r) where
       let n = shown-length ring s.queue y.queue g.shows in
       omega (arith, queue-fits (store a ring s) y.table y.queue g b (rank-given r k c kind small l) (sym (g.shows.members c) ∙ h))
 
-  module _ (p : Put) (a' : List ℕ) (e : p ≡ putAnswer a s.count (madeKey c kind r)) (f : a' ≡ putList a s.count (madeKey c kind r)) where
-    answered : p ≡ putAnswer a s.count (key_of b)
-    answered = e ∙ ap (putAnswer a s.count) (key-made r k c kind)
+  module _ (p : Put) (a' : List ℕ) (e : p ≡ put_answer a s.count (made_key c kind r)) (f : a' ≡ put_list a s.count (made_key c kind r)) where
+    answered : p ≡ put_answer a s.count (key_of b)
+    answered = e ∙ ap (put_answer a s.count) (key-made r k c kind)
 
-    placed : a' ≡ putList a s.count (key_of b)
-    placed = f ∙ ap (putList a s.count) (key-made r k c kind)
+    placed : a' ≡ put_list a s.count (key_of b)
+    placed = f ∙ ap (put_list a s.count) (key-made r k c kind)
 
-    outcome : (o : Put) → p ≡ o → byAnswer o b (store a ring s) ≡ putBound b (store a ring s)
-    outcome o h = sym (put-flat b (store a ring s) (rank-flat r k) ∙ ap (λ (x : Put). byAnswer x b (store a ring s)) (sym answered ∙ h))
+    outcome : (o : Put) → p ≡ o → by_answer o b (store a ring s) ≡ put_bound b (store a ring s)
+    outcome o h = sym (put-flat b (store a ring s) (rank-flat r k) ∙ ap (λ (x : Put). by_answer x b (store a ring s)) (sym answered ∙ h))
 
     kept : (p ≡ Added → ⊥) → a' ≡ a
-    kept h = f ∙ put-kept a s.count (madeKey c kind r) (λ g. h (e ∙ g))
+    kept h = f ∙ put-kept a s.count (made_key c kind r) (λ g. h (e ∙ g))
 
-    pub insert-old : p ≡ Old → store a' ring s ≡ putBound b (store a ring s)
+    pub insert-old : p ≡ Old → store a' ring s ≡ put_bound b (store a ring s)
     insert-old h = ap (λ (x : List ℕ). store x ring s) (kept (λ g. old-new (sym h ∙ g))) ∙ outcome Old h
 
-    pub insert-new : (ring' : List ℕ) (q' : Queue) → p ≡ Added → q' ≡ offered s.queue c → ring' ≡ ringOffered ring s.queue c
-        → store a' ring' (record { refusal = s.refusal; count = s.count + 1; queue = q' }) ≡ putBound b (store a ring s)
+    pub insert-new : (ring' : List ℕ) (q' : Queue) → p ≡ Added → q' ≡ offered s.queue c → ring' ≡ ring_offered ring s.queue c
+        → store a' ring' (record { refusal = s.refusal; count = s.count + 1; queue = q' }) ≡ put_bound b (store a ring s)
     insert-new ring' q' h g i = (λ j. store (placed j) (i j) (record { refusal = s.refusal; count = s.count + 1; queue = g j })) ∙ outcome Added h
 
-    pub insert-full : (s' : State) → p ≡ Full → s' ≡ refusedBy 21 s → store a' ring s' ≡ putBound b (store a ring s)
+    pub insert-full : (s' : State) → p ≡ Full → s' ≡ refused_by 21 s → store a' ring s' ≡ put_bound b (store a ring s)
     insert-full s' h g = ap₂ (λ (x : List ℕ) (y : State). store x ring y) (kept (λ i. full-new (sym h ∙ i))) g ∙ outcome Full h
 
 -- ---- what is sent
 
 module _ (a ring : List ℕ) (s : State) (c kind : ℕ) (t : Sent) where
-  pub sent-none : t ≡ Nothing → store a ring s ≡ put_all (toOne 0 kind (sentTypes t) c) (store a ring s)
-  sent-none e = sym (ap (λ (x : Sent). put_all (toOne 0 kind (sentTypes x) c) (store a ring s)) e ∙ none-put kind c (store a ring s))
+  pub sent-none : t ≡ Nothing → store a ring s ≡ put_all (to_one 0 kind (sent_types t) c) (store a ring s)
+  sent-none e = sym (ap (λ (x : Sent). put_all (to_one 0 kind (sent_types x) c) (store a ring s)) e ∙ none-put kind c (store a ring s))
 
-  pub sent-rank : (r : ℕ) → t ≡ Rank r → s.refusal ≡ 0 → putBound (bound c kind (unrank r)) (store a ring s) ≡ put_all (toOne 0 kind (sentTypes t) c) (store a ring s)
-  sent-rank r e h = sym (ap (λ (x : Sent). put_all (toOne 0 kind (sentTypes x) c) (store a ring s)) e ∙ one-put kind c (store a ring s) (unrank r) h)
+  pub sent-rank : (r : ℕ) → t ≡ Rank r → s.refusal ≡ 0 → put_bound (bound c kind (unrank r)) (store a ring s) ≡ put_all (to_one 0 kind (sent_types t) c) (store a ring s)
+  sent-rank r e h = sym (ap (λ (x : Sent). put_all (to_one 0 kind (sent_types x) c) (store a ring s)) e ∙ one-put kind c (store a ring s) (unrank r) h)
 
-  pub sent-deep : (s' : State) → t ≡ Deep → s.refusal ≡ 0 → s' ≡ refusedBy 20 s → store a ring s' ≡ put_all (toOne 0 kind (sentTypes t) c) (store a ring s)
-  sent-deep s' e h g = ap (store a ring) g ∙ sym (ap (λ (x : Sent). put_all (toOne 0 kind (sentTypes x) c) (store a ring s)) e ∙ deep-put kind c (store a ring s) h)
+  pub sent-deep : (s' : State) → t ≡ Deep → s.refusal ≡ 0 → s' ≡ refused_by 20 s → store a ring s' ≡ put_all (to_one 0 kind (sent_types t) c) (store a ring s)
+  sent-deep s' e h g = ap (store a ring) g ∙ sym (ap (λ (x : Sent). put_all (to_one 0 kind (sent_types x) c) (store a ring s)) e ∙ deep-put kind c (store a ring s) h)
 
   pub sent-ranked : (r : ℕ) → t ≡ Rank r → Sendable t → Ranked r
   sent-ranked r e k = subst Sendable e k

@@ -2,14 +2,14 @@
 use Rattle.std.specs.Prelude.{◌≡◌, cond, List, [], ◌∷◌, ℕ, ◌+◌, eqb, ltb}
 use Rattle.sorted.specs.declared.Put.{Put}
 use Rattle.sorted.specs.declared.Put.TheVariants.{Old, New, Full}
-use Rattle.sorted.specs.Sorted.{putAnswer, putList}
+use Rattle.sorted.specs.Sorted.{put_answer, put_list}
 use Rattle.ty.specs.Types.{ArgType, Primitive, depth, arrays}
 use Rattle.keys.specs.Rank.{rank, unrank}
 use Rattle.keys.specs.Laws.{LegalType}
 use Rattle.solving.specs.Solving.{Bound, Table, Addition, Outcome, Refused, Going}
 use Rattle.solving.specs.Tidy.{Tidy}
 use Rattle.solving.specs.TableKeys.{key_of, Holds}
-use Rattle.queue.specs.Ring.{offered, ringOffered, Shows}
+use Rattle.queue.specs.Ring.{offered, ring_offered, Shows}
 use Rattle.inserting.specs.declared.State.{State}
 use Rattle.inserting.specs.declared.Sent.{Sent}
 use Rattle.inserting.specs.declared.Sent.TheVariants.{Nothing, Rank, Deep}
@@ -25,32 +25,32 @@ pub record Store : Type 0 where
 abbrev pub store : List ℕ → List ℕ → State → Store
 store cells ring s = record { cells = cells; ring = ring; state = s }
 
-abbrev pub refusedBy : ℕ → State → State
-refusedBy k s = record { refusal = k; count = s.count; queue = s.queue }
+abbrev pub refused_by : ℕ → State → State
+refused_by k s = record { refusal = k; count = s.count; queue = s.queue }
 
 abbrev pub refuse : ℕ → Store → Store
-refuse k s = store s.cells s.ring (refusedBy k s.state)
+refuse k s = store s.cells s.ring (refused_by k s.state)
 
 -- a new bound: its key among the cells, its component in the queue
 abbrev pub grow : Bound → Store → Store
 grow b s =
-    store (putList s.cells s.state.count (key_of b)) (ringOffered s.ring s.state.queue b.component)
+    store (put_list s.cells s.state.count (key_of b)) (ring_offered s.ring s.state.queue b.component)
     (record { refusal = s.state.refusal; count = s.state.count + 1; queue = offered s.state.queue b.component })
 
 -- by a put's answer
-abbrev pub byAnswer : Put → Bound → Store → Store
-byAnswer Old b s = s
-byAnswer New b s = grow b s
-byAnswer Full b s = refuse 21 s
+abbrev pub by_answer : Put → Bound → Store → Store
+by_answer Old b s = s
+by_answer New b s = grow b s
+by_answer Full b s = refuse 21 s
 
--- one bound inserted, as insertBound of the solve's definition
-unfoldable pub putBound : Bound → Store → Store
-putBound b s = cond (ltb 255 (depth b.type)) (refuse 20 s) (byAnswer (putAnswer s.cells s.state.count (key_of b)) b s)
+-- one bound inserted, as insert_bound of the solve's definition
+unfoldable pub put_bound : Bound → Store → Store
+put_bound b s = cond (ltb 255 (depth b.type)) (refuse 20 s) (by_answer (put_answer s.cells s.state.count (key_of b)) b s)
 
--- bounds in a row until one is refused, as insertAll
+-- bounds in a row until one is refused, as insert_all
 unfoldable pub put_all : List Addition → Store → Store
 put_all [] s = s
-put_all (x ∷ xs) s = cond (eqb s.state.refusal 0) (put_all xs (putBound x.adds s)) s
+put_all (x ∷ xs) s = cond (eqb s.state.refusal 0) (put_all xs (put_bound x.adds s)) s
 
 -- ---- what is sent
 
@@ -58,14 +58,14 @@ put_all (x ∷ xs) s = cond (eqb s.state.refusal 0) (put_all xs (putBound x.adds
 unfoldable pub deepest : ArgType
 deepest = arrays 256 (Primitive 0)
 
-abbrev pub sentTypes : Sent → List ArgType
-sentTypes Nothing = []
-sentTypes (Rank r) = unrank r ∷ []
-sentTypes Deep = deepest ∷ []
+abbrev pub sent_types : Sent → List ArgType
+sent_types Nothing = []
+sent_types (Rank r) = unrank r ∷ []
+sent_types Deep = deepest ∷ []
 
 -- how a type is sent: by its rank, or the mark of what is too deep
-unfoldable pub sentOf : ArgType → Sent
-sentOf t = cond (ltb 255 (depth t)) Deep (Rank (rank t))
+unfoldable pub sent_of : ArgType → Sent
+sent_of t = cond (ltb 255 (depth t)) Deep (Rank (rank t))
 
 -- the rank of a type within the limits
 pub record Ranked (r : ℕ) : Type 0 where

@@ -1,8 +1,8 @@
 // One bound into the table of a solve. The table is lent as a slice of 4,096 words, sorted keys at its front; the queue as its ring.
 ghost use Rattle.std.specs.Prelude.{◌≡◌, ◌<◌};
 ghost use Rattle.keys.specs.Rank.{unrank};
-ghost use Rattle.solving.specs.Solving.{bound, toOne};
-ghost use Rattle.inserting.specs.Store.{store, refusedBy, putBound, put_all, sentTypes, Ranked, Sendable, Ready};
+ghost use Rattle.solving.specs.Solving.{bound, to_one};
+ghost use Rattle.inserting.specs.Store.{store, refused_by, put_bound, put_all, sent_types, Ranked, Sendable, Ready};
 
 use keys::{COMPONENT, KIND};
 use queue::Queue;
@@ -25,7 +25,7 @@ pub enum Sent {
 }
 
 fn refused(s: State, k: u64) -> State
-    ensures { result ≡ refusedBy k s }
+    ensures { result ≡ refused_by k s }
 {
     let q = s.queue;
     State {
@@ -45,7 +45,7 @@ pub fn insert_bound(
     rank: u64,
 ) -> State
     requires { Ready (store a.old ring.old s) × (component < 512) × (kind < 5) × Ranked rank }
-    ensures { store a.new ring.new result ≡ putBound (bound component kind (unrank rank)) (store a.old ring.old s) }
+    ensures { store a.new ring.new result ≡ put_bound (bound component kind (unrank rank)) (store a.old ring.old s) }
 {
     let key = component * COMPONENT + (kind * KIND + rank);
     let p = sorted::insert(a, s.count, key);
@@ -74,7 +74,7 @@ pub fn insert_sent(
     t: Sent,
 ) -> State
     requires { Ready (store a.old ring.old s) × (component < 512) × (kind < 5) × Sendable t }
-    ensures { store a.new ring.new result ≡ put_all (toOne 0 kind (sentTypes t) component) (store a.old ring.old s) }
+    ensures { store a.new ring.new result ≡ put_all (to_one 0 kind (sent_types t) component) (store a.old ring.old s) }
 {
     match t {
         Sent::Nothing => s,

@@ -32,9 +32,9 @@ pub join-known-one : (κs : Lfts 0) (a : Dens κs join-known-kinds.ps) (r₁ r�
     → join-known-reads.Post κs a r₁ x₁ → join-known-reads.Post κs a r₂ x₂ → r₁ ≡ r₂
 join-known-one κs a r₁ r₂ x₁ x₂ p q = λ i. record { word = (p ∙ sym q) i }
 
-pub join_one : (κs : Lfts 2) (a : Dens κs join-kinds.ps) (r₁ r₂ : (res_t join-kinds.r κs).Denot) (x₁ x₂ : AtExit (ended_of 2 join-kinds.ps join-kinds.r) κs)
+pub join-one : (κs : Lfts 2) (a : Dens κs join-kinds.ps) (r₁ r₂ : (res_t join-kinds.r κs).Denot) (x₁ x₂ : AtExit (ended_of 2 join-kinds.ps join-kinds.r) κs)
     → join-reads.Post κs a r₁ x₁ → join-reads.Post κs a r₂ x₂ → r₁ ≡ r₂
-join_one κs a r₁ r₂ x₁ x₂ p q = λ i. record { word = (p ∙ sym q) i }
+join-one κs a r₁ r₂ x₁ x₂ p q = λ i. record { word = (p ∙ sym q) i }
 
 pub join-all-one : (κs : Lfts 3) (a : Dens κs join-all-kinds.ps) (r₁ r₂ : (res_t join-all-kinds.r κs).Denot) (x₁ x₂ : AtExit (ended_of 3 join-all-kinds.ps join-all-kinds.r) κs)
     → join-all-reads.Post κs a r₁ x₁ → join-all-reads.Post κs a r₂ x₂ → r₁ ≡ r₂

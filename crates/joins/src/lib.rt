@@ -1,19 +1,19 @@
 // Joins of types, from lattice.rs, on type words: the table of the joins of primitives, the lists of categories, and the join of
 // two types and of a list.
 ghost use Rattle.std.specs.Prelude.{◌≡◌, true, false, cond, [], ◌∷◌, map, ◌*◌, ◌/◌, ◌^◌, ◌≤◌, ◌<◌};
-ghost use Rattle.tables.specs.Table.{namesRoom};
+ghost use Rattle.tables.specs.Table.{names_room};
 ghost use Rattle.prepared.specs.Prepared.{Prepared};
-ghost use Rattle.ty.specs.Types.{Object, categories, isKnown};
+ghost use Rattle.ty.specs.Types.{Object, categories, is_known};
 ghost use Rattle.ty.specs.Words.{Legal, type_of, word_of, list_of};
-ghost use Rattle.ty.specs.Answers.{maybeWord};
-ghost use Rattle.ty.specs.Round.{listLoad};
-ghost use Rattle.lattice.specs.Lattice.{unknownUnion, inBoth, orFull, joinKnown, joinApart, join, joinAll};
+ghost use Rattle.ty.specs.Answers.{maybe_word};
+ghost use Rattle.ty.specs.Round.{list_load};
+ghost use Rattle.lattice.specs.Lattice.{unknown_union, in_both, or_full, join_known, join_apart, join, join_all};
 ghost use Rattle.lattice.specs.JoinTable.{cell};
-ghost use Rattle.lattice.specs.JoinCases.{joinArrayOther};
+ghost use Rattle.lattice.specs.JoinCases.{join_array_other};
 ghost use Rattle.lattice.specs.Unions.{kept};
-ghost use Rattle.lattice.specs.World.{worldOf};
+ghost use Rattle.lattice.specs.World.{world_of};
 ghost use Rattle.lattice.specs.JoinAll.{Ascend};
-ghost use Rattle.joins.specs.Joins.{withFirst, Fits, Joinable, Apart, Known, Base, bothArrays, AllLegal};
+ghost use Rattle.joins.specs.Joins.{with_first, Fits, Joinable, Apart, Known, Base, both_arrays, AllLegal};
 
 use tables::Tables;
 use ty::{DIMENSION, LENGTH, MaybeType, TAG, TypeWord, digit};
@@ -183,7 +183,7 @@ fn join_primitives(left: u64, right: u64) -> TypeWord
 // The payload of a list with c before it, where c is to be kept.
 fn keep(load: u64, c: u64, is_kept: bool) -> u64
     requires { (load < 11 * 2 ^ 44) × (c < 16) }
-    ensures { result ≡ cond is_kept (withFirst c load) load }
+    ensures { result ≡ cond is_kept (with_first c load) load }
 {
     if is_kept {
         return (load / LENGTH + 1) * LENGTH + c * FIRST + load % LENGTH / 16;
@@ -194,7 +194,7 @@ fn keep(load: u64, c: u64, is_kept: bool) -> u64
 // The payload of the members of a list that the set has, in the list's order: from the last to the first.
 fn keep_members(load: u64, set: u64) -> u64
     requires { load / 2 ^ 44 ≤ 11 }
-    ensures { (result ≡ listLoad (kept set (list_of load))) × (result < 2 ^ 48) }
+    ensures { (result ≡ list_load (kept set (list_of load))) × (result < 2 ^ 48) }
 {
     let mut i = load / LENGTH;
     let mut found: u64 = 0;
@@ -209,7 +209,7 @@ fn keep_members(load: u64, set: u64) -> u64
 // The Unknown of the categories of both, ascending.
 fn unknown_union(left: TypeWord, right: TypeWord) -> TypeWord
     requires { Legal left.word × Legal right.word }
-    ensures { result.word ≡ word_of (unknownUnion (type_of left.word) (type_of right.word)) }
+    ensures { result.word ≡ word_of (unknown_union (type_of left.word) (type_of right.word)) }
 {
     let load = keep_members(0xb0123456789a, left.categories() | right.categories());
     TypeWord {
@@ -219,8 +219,8 @@ fn unknown_union(left: TypeWord, right: TypeWord) -> TypeWord
 
 // The Unknown of the members of the first one's list that the second has; the full one where there are none.
 fn in_both(left: TypeWord, right: TypeWord) -> TypeWord
-    requires { Legal left.word × Legal right.word × (isKnown (type_of left.word) ≡ false) }
-    ensures { result.word ≡ word_of (orFull (inBoth (categories (type_of left.word)) (categories (type_of right.word)))) }
+    requires { Legal left.word × Legal right.word × (is_known (type_of left.word) ≡ false) }
+    ensures { result.word ≡ word_of (or_full (in_both (categories (type_of left.word)) (categories (type_of right.word)))) }
 {
     let load = keep_members(left.load(), right.categories());
     if load == 0 {
@@ -233,7 +233,7 @@ fn in_both(left: TypeWord, right: TypeWord) -> TypeWord
 
 // The category of a known type.
 fn category(t: TypeWord) -> u64
-    requires { Legal t.word × (isKnown (type_of t.word) ≡ true) }
+    requires { Legal t.word × (is_known (type_of t.word) ≡ true) }
     ensures { (categories (type_of t.word) ≡ result ∷ []) × (result < 11) }
 {
     let w = t.word;
@@ -248,8 +248,8 @@ fn category(t: TypeWord) -> u64
 
 // A known type with an Unknown: the known one where the Unknown accepts it, else the categories of both.
 fn join_known(known: TypeWord, unknown: TypeWord) -> TypeWord
-    requires { Legal known.word × Legal unknown.word × (isKnown (type_of known.word) ≡ true) }
-    ensures { result.word ≡ word_of (joinKnown (type_of known.word) (categories (type_of unknown.word))) }
+    requires { Legal known.word × Legal unknown.word × (is_known (type_of known.word) ≡ true) }
+    ensures { result.word ≡ word_of (join_known (type_of known.word) (categories (type_of unknown.word))) }
 {
     let c = category(known);
     if (unknown.categories() >> c) % 2 == 1 {
@@ -260,8 +260,8 @@ fn join_known(known: TypeWord, unknown: TypeWord) -> TypeWord
 
 // An array and a known type that is none: Object where that is Object, else the categories of both.
 fn join_array(object: u64, array: TypeWord, other: TypeWord) -> TypeWord
-    requires { Legal array.word × Legal other.word × (object < namesRoom) }
-    ensures { result.word ≡ word_of (joinArrayOther object (type_of array.word) (type_of other.word)) }
+    requires { Legal array.word × Legal other.word × (object < names_room) }
+    ensures { result.word ≡ word_of (join_array_other object (type_of array.word) (type_of other.word)) }
 {
     if other.word == TAG + object {
         return TypeWord::object(object);
@@ -272,7 +272,7 @@ fn join_array(object: u64, array: TypeWord, other: TypeWord) -> TypeWord
 // Two classes: their least common supertype.
 fn join_classes(pairs: &[u64], marks: &[u64], t: Tables, left: u64, right: u64) -> TypeWord
     requires { Fits t × (left < t.names) × (right < t.names) × Prepared pairs.now marks.now t }
-    ensures { result.word ≡ word_of (joinApart (worldOf pairs.now marks.now t) (Object left) (Object right)) }
+    ensures { result.word ≡ word_of (join_apart (world_of pairs.now marks.now t) (Object left) (Object right)) }
 {
     let c = supertype::supertype(pairs, marks, t, left, right);
     TypeWord::object(c)
@@ -281,7 +281,7 @@ fn join_classes(pairs: &[u64], marks: &[u64], t: Tables, left: u64, right: u64) 
 // Two known types that are no arrays.
 fn join_bases(pairs: &[u64], marks: &[u64], t: Tables, left: TypeWord, right: TypeWord) -> TypeWord
     requires { Apart pairs.now marks.now t left.word right.word × Base left.word × Base right.word }
-    ensures { result.word ≡ word_of (join (worldOf pairs.now marks.now t) (type_of left.word) (type_of right.word)) }
+    ensures { result.word ≡ word_of (join (world_of pairs.now marks.now t) (type_of left.word) (type_of right.word)) }
 {
     if left.is_primitive() {
         if right.is_primitive() {
@@ -297,8 +297,8 @@ fn join_bases(pairs: &[u64], marks: &[u64], t: Tables, left: TypeWord, right: Ty
 
 // Two known types, of which one at most is an array.
 fn join_knowns(pairs: &[u64], marks: &[u64], t: Tables, left: TypeWord, right: TypeWord) -> TypeWord
-    requires { Apart pairs.now marks.now t left.word right.word × Known left.word × Known right.word × (bothArrays left.word right.word ≡ false) }
-    ensures { result.word ≡ word_of (join (worldOf pairs.now marks.now t) (type_of left.word) (type_of right.word)) }
+    requires { Apart pairs.now marks.now t left.word right.word × Known left.word × Known right.word × (both_arrays left.word right.word ≡ false) }
+    ensures { result.word ≡ word_of (join (world_of pairs.now marks.now t) (type_of left.word) (type_of right.word)) }
 {
     if left.is_array() {
         return join_array(t.object, left, right);
@@ -311,8 +311,8 @@ fn join_knowns(pairs: &[u64], marks: &[u64], t: Tables, left: TypeWord, right: T
 
 // Two types that are not equal, of which one at most is an array.
 fn join_apart(pairs: &[u64], marks: &[u64], t: Tables, left: TypeWord, right: TypeWord) -> TypeWord
-    requires { Apart pairs.now marks.now t left.word right.word × (bothArrays left.word right.word ≡ false) }
-    ensures { result.word ≡ word_of (join (worldOf pairs.now marks.now t) (type_of left.word) (type_of right.word)) }
+    requires { Apart pairs.now marks.now t left.word right.word × (both_arrays left.word right.word ≡ false) }
+    ensures { result.word ≡ word_of (join (world_of pairs.now marks.now t) (type_of left.word) (type_of right.word)) }
 {
     if left.is_known() {
         if right.is_known() {
@@ -327,7 +327,7 @@ fn join_apart(pairs: &[u64], marks: &[u64], t: Tables, left: TypeWord, right: Ty
 }
 
 fn both_arrays(left: TypeWord, right: TypeWord) -> bool
-    ensures { result ≡ bothArrays left.word right.word }
+    ensures { result ≡ both_arrays left.word right.word }
 {
     if left.is_array() {
         return right.is_array();
@@ -339,7 +339,7 @@ fn both_arrays(left: TypeWord, right: TypeWord) -> bool
 #[cycle(join_join_arrays)]
 pub fn join(pairs: &[u64], marks: &[u64], t: Tables, left: TypeWord, right: TypeWord) -> TypeWord
     requires { Joinable pairs.now marks.now t left.word right.word }
-    ensures { result.word ≡ word_of (join (worldOf pairs.now marks.now t) (type_of left.word) (type_of right.word)) }
+    ensures { result.word ≡ word_of (join (world_of pairs.now marks.now t) (type_of left.word) (type_of right.word)) }
 {
     if left.word == right.word {
         return left;
@@ -354,7 +354,7 @@ pub fn join(pairs: &[u64], marks: &[u64], t: Tables, left: TypeWord, right: Type
 #[cycle(join_join_arrays)]
 fn join_arrays(pairs: &[u64], marks: &[u64], t: Tables, left: TypeWord, right: TypeWord) -> TypeWord
     requires { Apart pairs.now marks.now t left.word right.word × (2 ^ 56 ≤ left.word) × (2 ^ 56 ≤ right.word) }
-    ensures { result.word ≡ word_of (join (worldOf pairs.now marks.now t) (type_of left.word) (type_of right.word)) }
+    ensures { result.word ≡ word_of (join (world_of pairs.now marks.now t) (type_of left.word) (type_of right.word)) }
 {
     let a = TypeWord {
         word: left.word - DIMENSION,
@@ -378,7 +378,7 @@ fn join_arrays(pairs: &[u64], marks: &[u64], t: Tables, left: TypeWord, right: T
 // comes as the set that it is, in order (specs/JoinAll of lattice: then the sort changes nothing).
 pub fn join_all(pairs: &[u64], marks: &[u64], t: Tables, words: &[u64]) -> MaybeType
     requires { Fits t × AllLegal t words.now × Ascend (map type_of words.now) × Prepared pairs.now marks.now t }
-    ensures { result ≡ maybeWord (joinAll (worldOf pairs.now marks.now t) (map type_of words.now)) }
+    ensures { result ≡ maybe_word (join_all (world_of pairs.now marks.now t) (map type_of words.now)) }
 {
     if words.len() == 0 {
         return MaybeType::Nothing;

@@ -8,11 +8,11 @@ use Rattle.descriptor.specs.declared.Base.{Base}
 use Rattle.descriptor.specs.declared.Base.TheVariants.{Simple, Class}
 use Rattle.descriptor.specs.declared.Read.{Read}
 use Rattle.descriptor.specs.declared.Read.TheVariants.{Found, Refused}
-use Rattle.descriptor.specs.Read.{pick_r, readType, finish, strictName, strictly}
+use Rattle.descriptor.specs.Read.{pick_r, read_type, finish, strict_name, strictly}
 use Rattle.jvms.specs.Jvms.{JavaType, Object, Array, dimensions, AnyName, FieldType, FieldType.base, FieldType.object, FieldType.array, ReturnDescriptor, ReturnDescriptor.field, ReturnDescriptor.void}
-use Rattle.jvms.specs.Meaning.{type_at, typeRead, placed}
+use Rattle.jvms.specs.Meaning.{type_at, type_read, placed}
 use Rattle.jvms.specs.Prefix.{prefix, prefix-void, refused, Stop, sound}
-use Rattle.jvms.specs.Derive.{strictType}
+use Rattle.jvms.specs.Derive.{strict_type}
 
 -- ---- the place of a type stands for the type
 
@@ -38,17 +38,17 @@ unfolding finish
 finish-end s dims b next e = rw (eq-eqb next (length s) e, e)
 
 -- where bytes up to the end end
-to_end : (s xs : List ℕ) (at : ℕ) → drop at s ≡ xs → at ≤ length s → at + length xs ≡ length s
-to_end s xs at e l = rw (← e, length-drop) (omega arith)
+to-end : (s xs : List ℕ) (at : ℕ) → drop at s ≡ xs → at ≤ length s → at + length xs ≡ length s
+to-end s xs at e l = rw (← e, length-drop) (omega arith)
 
 -- A RETURN DESCRIPTOR FROM AN OFFSET TO THE END IS READ, WITH ITS DIMENSIONS AND THE PLACE OF ITS NAME
 pub end-found : {xs : List ℕ} {t : JavaType} → ReturnDescriptor AnyName xs t → (s : List ℕ) (at : ℕ) → drop at s ≡ xs → at ≤ length s → dimensions t ≤ 255
-    → finish s (readType (drop at s) at true 0) ≡ Found (dimensions t) (placed at t) (length s)
+    → finish s (read_type (drop at s) at true 0) ≡ Found (dimensions t) (placed at t) (length s)
 unfolding dimensions placed
 end-found (field {bs} {t} f) s at e l h =
-    let read : readType bs at true 0 ≡ Found (dimensions t) (placed at t) (at + length bs) = rw (append-nil, zero-add) at (prefix f [] at true 0 (omega arith)) in
-    rw (e, read) (finish-end s (dimensions t) (placed at t) (at + length bs) (to_end s bs at e l))
-end-found void s at e l h = rw (e, prefix-void [] at 0) (finish-end s 0 (Simple 0) (at + 1) (to_end s (86 ∷ []) at e l))
+    let read : read_type bs at true 0 ≡ Found (dimensions t) (placed at t) (at + length bs) = rw (append-nil, zero-add) at (prefix f [] at true 0 (omega arith)) in
+    rw (e, read) (finish-end s (dimensions t) (placed at t) (at + length bs) (to-end s bs at e l))
+end-found void s at e l h = rw (e, prefix-void [] at 0) (finish-end s 0 (Simple 0) (at + 1) (to-end s (86 ∷ []) at e l))
 
 -- a return descriptor stands from the offset `at` of s to the end, and this is what is read
 pub record End (s : List ℕ) (at dims : ℕ) (b : Base) (next : ℕ) : Type 0 where
@@ -59,8 +59,8 @@ pub record End (s : List ℕ) (at dims : ℕ) (b : Base) (next : ℕ) : Type 0 w
   pub place : b ≡ placed at type
   pub end : next ≡ length s
 
-end_of : (s : List ℕ) (at dims : ℕ) (b : Base) (next : ℕ) → at ≤ length s → next ≡ length s → Stop true (drop at s) at 0 dims b next → End s at dims b next
-end_of s at dims b next l e r = record {
+end-of : (s : List ℕ) (at dims : ℕ) (b : Base) (next : ℕ) → at ≤ length s → next ≡ length s → Stop true (drop at s) at 0 dims b next → End s at dims b next
+end-of s at dims b next l e r = record {
   type = r.type;
   derived = subst (λ (x : List ℕ). ReturnDescriptor AnyName x r.type) (sym all) r.taken;
   limit = omega (arith, r.depth, r.limit);
@@ -73,26 +73,26 @@ end_of s at dims b next l e r = record {
     nil [] z = refl
     nil (y ∷ ys) z = absurd (let f : ⊥ = omega arith in f)
 
-    none_left : length r.rest ≡ 0
-    none_left = omega (arith, sym (length-append r.bytes r.rest) ∙ sym (ap length r.whole) ∙ length-drop at s, r.stop)
+    none-left : length r.rest ≡ 0
+    none-left = omega (arith, sym (length-append r.bytes r.rest) ∙ sym (ap length r.whole) ∙ length-drop at s, r.stop)
 
     all : drop at s ≡ r.bytes
-    all = r.whole ∙ ap (λ (x : List ℕ). r.bytes ++ x) (nil r.rest none_left) ∙ append-nil r.bytes
+    all = r.whole ∙ ap (λ (x : List ℕ). r.bytes ++ x) (nil r.rest none-left) ∙ append-nil r.bytes
 
 -- WHAT IS READ FROM AN OFFSET TO THE END IS A RETURN DESCRIPTOR
-pub end-sound : (s : List ℕ) (at dims : ℕ) (b : Base) (next : ℕ) → at ≤ length s → finish s (readType (drop at s) at true 0) ≡ Found dims b next → End s at dims b next
+pub end-sound : (s : List ℕ) (at dims : ℕ) (b : Base) (next : ℕ) → at ≤ length s → finish s (read_type (drop at s) at true 0) ≡ Found dims b next → End s at dims b next
 unfolding finish
-end-sound s at dims b next l e = go (readType (drop at s) at true 0) refl e
+end-sound s at dims b next l e = go (read_type (drop at s) at true 0) refl e
   where
-    whole : (d n : ℕ) (c : Base) → readType (drop at s) at true 0 ≡ Found d c n → (t : Bool) → eqb n (length s) ≡ t
+    whole : (d n : ℕ) (c : Base) → read_type (drop at s) at true 0 ≡ Found d c n → (t : Bool) → eqb n (length s) ≡ t
         → pick_r t (Found d c n) (Refused 15 n 0) ≡ Found dims b next → End s at dims b next
     whole d n c read true same f =
-        let r : readType (drop at s) at true 0 ≡ Found dims b next = read ∙ f in
+        let r : read_type (drop at s) at true 0 ≡ Found dims b next = read ∙ f in
         let ends : next ≡ length s = cc (eqb-true n (length s) same) in
-        end_of s at dims b next l ends (sound (drop at s) at true 0 dims b next (omega arith) r)
+        end-of s at dims b next l ends (sound (drop at s) at true 0 dims b next (omega arith) r)
     whole d n c read false same f = absurd (refused f)
 
-    go : (r : Read) → readType (drop at s) at true 0 ≡ r → finish s r ≡ Found dims b next → End s at dims b next
+    go : (r : Read) → read_type (drop at s) at true 0 ≡ r → finish s r ≡ Found dims b next → End s at dims b next
     go (Found d c n) read f = whole d n c read (eqb n (length s)) refl f
     go (Refused code o byte) read f = absurd (refused f)
 
@@ -106,15 +106,15 @@ pub end-type : {s : List ℕ} {at dims : ℕ} {b : Base} {next : ℕ} (r : End s
 end-type {s} {at} r = rw (r.depth, r.place) (stands-return r.derived s [] at (sym (append-nil (drop at s))))
 
 -- READING FROM AN OFFSET TO THE END FINDS EXACTLY THE TYPES OF RETURN DESCRIPTORS
-pub end_reads : (s : List ℕ) (at : ℕ) (t : JavaType) → at ≤ length s
-    → (typeRead s (finish s (readType (drop at s) at true 0)) ≡ some t) ↔ (ReturnDescriptor AnyName (drop at s) t × (dimensions t ≤ 255))
-unfolding typeRead
-end_reads s at t l = (λ e. found (finish s (readType (drop at s) at true 0)) refl e, derived)
+pub end-reads : (s : List ℕ) (at : ℕ) (t : JavaType) → at ≤ length s
+    → (type_read s (finish s (read_type (drop at s) at true 0)) ≡ some t) ↔ (ReturnDescriptor AnyName (drop at s) t × (dimensions t ≤ 255))
+unfolding type_read
+end-reads s at t l = (λ e. found (finish s (read_type (drop at s) at true 0)) refl e, derived)
   where
-    derived : ReturnDescriptor AnyName (drop at s) t × (dimensions t ≤ 255) → typeRead s (finish s (readType (drop at s) at true 0)) ≡ some t
+    derived : ReturnDescriptor AnyName (drop at s) t × (dimensions t ≤ 255) → type_read s (finish s (read_type (drop at s) at true 0)) ≡ some t
     derived p = rw (end-found p.0 s at refl l p.1) (ap some (stands-return p.0 s [] at (sym (append-nil (drop at s)))))
 
-    found : (r : Read) → finish s (readType (drop at s) at true 0) ≡ r → typeRead s r ≡ some t → ReturnDescriptor AnyName (drop at s) t × (dimensions t ≤ 255)
+    found : (r : Read) → finish s (read_type (drop at s) at true 0) ≡ r → type_read s r ≡ some t → ReturnDescriptor AnyName (drop at s) t × (dimensions t ≤ 255)
     found (Found dims b next) read e =
         let r = end-sound s at dims b next l read in
         let same : r.type ≡ t = sym (end-type r) ∙ let f : type_at s dims b ≡ t = cc in f in
@@ -123,35 +123,35 @@ end_reads s at t l = (λ e. found (finish s (readType (drop at s) at true 0)) re
 
 -- ---- strict reading
 
-strict_place : (s : List ℕ) (dims : ℕ) (b : Base) → strictType (type_at s dims b) ≡ strictType (type_at s 0 b)
-unfolding strictType type_at
-strict_place s zero b = refl
-strict_place s (suc dims) b = strict_place s dims b
+strict-place : (s : List ℕ) (dims : ℕ) (b : Base) → strict_type (type_at s dims b) ≡ strict_type (type_at s 0 b)
+unfolding strict_type type_at
+strict-place s zero b = refl
+strict-place s (suc dims) b = strict-place s dims b
 
 -- a strict name stays
-pub strict-keeps : (s : List ℕ) (dims : ℕ) (b : Base) (next : ℕ) → strictType (type_at s dims b) ≡ true → strictly s (Found dims b next) ≡ Found dims b next
-unfolding strictly strictType type_at
+pub strict-keeps : (s : List ℕ) (dims : ℕ) (b : Base) (next : ℕ) → strict_type (type_at s dims b) ≡ true → strictly s (Found dims b next) ≡ Found dims b next
+unfolding strictly strict_type type_at
 strict-keeps s dims (Simple k) next e = refl
 strict-keeps s dims (Class at n) next e =
-    let named : strictName (take n (drop at s)) ≡ true = sym (strict_place s dims (Class at n)) ∙ e in
+    let named : strict_name (take n (drop at s)) ≡ true = sym (strict-place s dims (Class at n)) ∙ e in
     rw named
 
 -- any other is refused
-pub strict-drops : (s : List ℕ) (dims : ℕ) (b : Base) (next : ℕ) → strictType (type_at s dims b) ≡ false → (o : ℕ) × (strictly s (Found dims b next) ≡ Refused 24 o 0)
-unfolding strictly strictType type_at
-strict-drops s dims (Simple k) next e = absurd (false≢true (sym e ∙ strict_place s dims (Simple k)))
+pub strict-drops : (s : List ℕ) (dims : ℕ) (b : Base) (next : ℕ) → strict_type (type_at s dims b) ≡ false → (o : ℕ) × (strictly s (Found dims b next) ≡ Refused 24 o 0)
+unfolding strictly strict_type type_at
+strict-drops s dims (Simple k) next e = absurd (false≢true (sym e ∙ strict-place s dims (Simple k)))
 strict-drops s dims (Class at n) next e =
-    let named : strictName (take n (drop at s)) ≡ false = sym (strict_place s dims (Class at n)) ∙ e in
+    let named : strict_name (take n (drop at s)) ≡ false = sym (strict-place s dims (Class at n)) ∙ e in
     (at - 1, rw named)
 
 -- A STRICT READING FINDS WHAT THE ORDINARY ONE DOES, IF THE TYPE'S NAME IS STRICT
-pub strict-read : (s : List ℕ) (r : Read) (t : JavaType) → (typeRead s (strictly s r) ≡ some t) ↔ ((typeRead s r ≡ some t) × (strictType t ≡ true))
-unfolding typeRead strictly
-strict-read s (Found dims b next) t = by (strictType (type_at s dims b)) refl
+pub strict-read : (s : List ℕ) (r : Read) (t : JavaType) → (type_read s (strictly s r) ≡ some t) ↔ ((type_read s r ≡ some t) × (strict_type t ≡ true))
+unfolding type_read strictly
+strict-read s (Found dims b next) t = by (strict_type (type_at s dims b)) refl
   where
-    by : (test : Bool) → strictType (type_at s dims b) ≡ test
-        → (typeRead s (strictly s (Found dims b next)) ≡ some t) ↔ ((some (type_at s dims b) ≡ some t) × (strictType t ≡ true))
-    by true e = rw (strict-keeps s dims b next e) (λ q. (q, ap strictType (let f : t ≡ type_at s dims b = cc in f) ∙ e), λ q. q.0)
+    by : (test : Bool) → strict_type (type_at s dims b) ≡ test
+        → (type_read s (strictly s (Found dims b next)) ≡ some t) ↔ ((some (type_at s dims b) ≡ some t) × (strict_type t ≡ true))
+    by true e = rw (strict-keeps s dims b next e) (λ q. (q, ap strict_type (let f : t ≡ type_at s dims b = cc in f) ∙ e), λ q. q.0)
     by false e = rw (strict-drops s dims b next e).1
-        (λ q. absurd (nothing q), λ q. absurd (false≢true (sym e ∙ ap strictType (let f : type_at s dims b ≡ t = cc q.0 in f) ∙ q.1)))
+        (λ q. absurd (nothing q), λ q. absurd (false≢true (sym e ∙ ap strict_type (let f : type_at s dims b ≡ t = cc q.0 in f) ∙ q.1)))
 strict-read s (Refused code o byte) t = (λ e. absurd (nothing e), λ e. e.0)

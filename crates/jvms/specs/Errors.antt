@@ -57,8 +57,8 @@ told (TooDeep at) = 0
 told (TooMany at) = 0
 told (NotStrict at) = 0
 
-abbrev pub typeError : ParseError → Read
-typeError e = Refused (number e) (offset e) (told e)
+abbrev pub type_error : ParseError → Read
+type_error e = Refused (number e) (offset e) (told e)
 
-abbrev pub methodError : ParseError → Method
-methodError e = Broken (number e) (offset e) (told e)
+abbrev pub method_error : ParseError → Method
+method_error e = Broken (number e) (offset e) (told e)

@@ -23,8 +23,8 @@ dimensions (Array t) = suc (dimensions t)
 
 -- one code point or more, none of them among these ASCII characters; in UTF-8 a character's byte is no part of another one
 pub record NameWithout (characters name : List ℕ) : Type 0 where
-  pub notEmpty : 0 < length name
-  pub wellFormed : WellFormed name
+  pub not_empty : 0 < length name
+  pub well_formed : WellFormed name
   pub without : (c : ℕ) → Memᴰ c characters → Memᴰ c name → ⊥
 
 -- 4.2.2: an unqualified name has at least one code point and none of  . ; [ /

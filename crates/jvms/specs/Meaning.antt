@@ -6,7 +6,7 @@ use Rattle.descriptor.specs.declared.Base.{Base}
 use Rattle.descriptor.specs.declared.Base.TheVariants.{Simple, Class}
 use Rattle.descriptor.specs.declared.Read.{Read}
 use Rattle.descriptor.specs.declared.Read.TheVariants.{Found, Refused}
-use Rattle.descriptor.specs.Read.{readType}
+use Rattle.descriptor.specs.Read.{read_type}
 use Rattle.methods.specs.Method.{Method, Whole, Broken}
 use Rattle.jvms.specs.Jvms.{JavaType, Primitive, Object, Array, dimensions, Parameter, Signature}
 
@@ -19,9 +19,9 @@ type_at s zero (Class at n) = Object (take n (drop at s))
 type_at s (suc dims) base = Array (type_at s dims base)
 
 -- the type that was read from s
-unfoldable pub typeRead : List ℕ → Read → Option JavaType
-typeRead s (Found dims base next) = some (type_at s dims base)
-typeRead s (Refused code at byte) = none
+unfoldable pub type_read : List ℕ → Read → Option JavaType
+type_read s (Found dims base next) = some (type_at s dims base)
+type_read s (Refused code at byte) = none
 
 -- ---- a method
 
@@ -36,10 +36,10 @@ up_to [] close = close
 up_to (at ∷ offsets) close = at
 
 -- the parameters at the offsets: each has the type that is read there, and its bytes go up to the next one, the last one's up to the ')'
-unfoldable pub parametersAt : List ℕ → List ℕ → ℕ → Option (List Parameter)
-parametersAt s [] close = some []
-parametersAt s (at ∷ offsets) close =
-    joined (take (up_to offsets close - at) (drop at s)) (typeRead s (readType (drop at s) at false 0)) (parametersAt s offsets close)
+unfoldable pub parameters_at : List ℕ → List ℕ → ℕ → Option (List Parameter)
+parameters_at s [] close = some []
+parameters_at s (at ∷ offsets) close =
+    joined (take (up_to offsets close - at) (drop at s)) (type_read s (read_type (drop at s) at false 0)) (parameters_at s offsets close)
 
 abbrev pub signed : Option (List Parameter) → Option JavaType → Option Signature
 signed none t = none
@@ -47,9 +47,9 @@ signed (some ps) none = none
 signed (some ps) (some t) = some (record { parameters = ps; result = t })
 
 -- the signature that was read from s; the ')' stands before the return type
-unfoldable pub methodRead : List ℕ → Method → Option Signature
-methodRead s (Whole offsets at result) = signed (parametersAt s offsets (at - 1)) (typeRead s result)
-methodRead s (Broken code at byte) = none
+unfoldable pub method_read : List ℕ → Method → Option Signature
+method_read s (Whole offsets at result) = signed (parameters_at s offsets (at - 1)) (type_read s result)
+method_read s (Broken code at byte) = none
 
 -- the limits of reading
 pub record Limits (m : Signature) : Type 0 where

@@ -10,7 +10,7 @@ use Rattle.std.proofs.Math.Seq.{drop-append_seam}
 use Rattle.text.specs.Text.{byte}
 use Rattle.jvms.specs.Jvms.{JavaType, Primitive, Object, Array, BaseType, B, C, D, F, I, BaseType.J, S, Z, FieldType, FieldType.base, FieldType.object, FieldType.array, ReturnDescriptor, ReturnDescriptor.field, ReturnDescriptor.void, Parameter, Parameters, Parameters.none, Parameters.more, Signature, MethodDescriptor, MethodDescriptor.method}
 use Rattle.jvms.specs.Derive.{Ended}
-use Rattle.jvms.specs.JvmsTheorem.{one_type, one_signature}
+use Rattle.jvms.specs.JvmsTheorem.{one-type, one-signature}
 
 -- two proofs that something is a name are equal
 abbrev pub OneName : (List ℕ → Type 0) → Type 0
@@ -34,23 +34,23 @@ same-letter Z Z = refl
 stays : (P : List ℕ → Type 0) {xs : List ℕ} (f : xs ≡ xs) (x : P xs) → subst P f x ≡ x
 stays P {xs} f x = ap (λ (p : xs ≡ xs). subst P p x) (is_set ℕ_set xs xs f refl) ∙ subst_refl P x
 
-head_of : {x y : ℕ} {xs ys : List ℕ} → x ∷ xs ≡ y ∷ ys → x ≡ y
-head_of e = cc
+head-of : {x y : ℕ} {xs ys : List ℕ} → x ∷ xs ≡ y ∷ ys → x ≡ y
+head-of e = cc
 
-tail_of : {x y : ℕ} {xs ys : List ℕ} → x ∷ xs ≡ y ∷ ys → xs ≡ ys
-tail_of e = cc
+tail-of : {x y : ℕ} {xs ys : List ℕ} → x ∷ xs ≡ y ∷ ys → xs ≡ ys
+tail-of e = cc
 
-rest_of : (bs : List ℕ) {xs ys : List ℕ} → bs ++ xs ≡ bs ++ ys → xs ≡ ys
-rest_of bs {xs} {ys} e = sym (drop-append_seam bs xs) ∙ ap (drop (length bs)) e ∙ drop-append_seam bs ys
+rest-of : (bs : List ℕ) {xs ys : List ℕ} → bs ++ xs ≡ bs ++ ys → xs ≡ ys
+rest-of bs {xs} {ys} e = sym (drop-append_seam bs xs) ∙ ap (drop (length bs)) e ∙ drop-append_seam bs ys
 
 module _ {Name : List ℕ → Type 0} (one : OneName Name) where
   -- a derivation m of some bytes for a type, moved to the bytes of another one's, is that one; by the type's constructor
   abbrev At : JavaType → List ℕ → Type 0
   At t xs = FieldType Name xs t
 
-  at_base : {xs : List ℕ} {b k : ℕ} (m : FieldType Name xs (Primitive k)) (l : BaseType b k) (f : xs ≡ b ∷ []) → subst (At (Primitive k)) f m ≡ base l
-  at_base {k = k} (base {b = c} m) l f =
-      subst (λ (x : ℕ). (l : BaseType x k) (f : c ∷ [] ≡ x ∷ []) → subst (At (Primitive k)) f (base m) ≡ base l) (head_of f)
+  at-base : {xs : List ℕ} {b k : ℕ} (m : FieldType Name xs (Primitive k)) (l : BaseType b k) (f : xs ≡ b ∷ []) → subst (At (Primitive k)) f m ≡ base l
+  at-base {k = k} (base {b = c} m) l f =
+      subst (λ (x : ℕ). (l : BaseType x k) (f : c ∷ [] ≡ x ∷ []) → subst (At (Primitive k)) f (base m) ≡ base l) (head-of f)
       (λ l f. stays (At (Primitive k)) f (base m) ∙ ap base (same-letter m l)) l f
 
   at-object : {xs name : List ℕ} (m : FieldType Name xs (Object name)) (a : Name name) (f : xs ≡ byte "L" ∷ name ++ byte ";" ∷ []) → subst (At (Object name)) f m ≡ object a
@@ -59,12 +59,12 @@ module _ {Name : List ℕ → Type 0} (one : OneName Name) where
   at-array : {xs bs : List ℕ} {t : JavaType} (m : FieldType Name xs (Array t)) (l : FieldType Name bs t) → ((k : FieldType Name bs t) → l ≡ k)
       → (f : xs ≡ byte "[" ∷ bs) → subst (At (Array t)) f m ≡ array l
   at-array {t = t} (array {bs = cs} m) l ih f =
-      subst (λ (ys : List ℕ). (l : FieldType Name ys t) → ((k : FieldType Name ys t) → l ≡ k) → (f : byte "[" ∷ cs ≡ byte "[" ∷ ys) → subst (At (Array t)) f (array m) ≡ array l) (tail_of f)
+      subst (λ (ys : List ℕ). (l : FieldType Name ys t) → ((k : FieldType Name ys t) → l ≡ k) → (f : byte "[" ∷ cs ≡ byte "[" ∷ ys) → subst (At (Array t)) f (array m) ≡ array l) (tail-of f)
       (λ l ih f. stays (At (Array t)) f (array m) ∙ ap array (sym (ih m))) l ih f
 
   -- TWO DERIVATIONS OF A FIELD TYPE FROM THE SAME BYTES ARE EQUAL
   pub same-field : {xs : List ℕ} {t : JavaType} (l m : FieldType Name xs t) → l ≡ m
-  same-field (base {k} l) m = sym (sym (subst_refl (At (Primitive k)) m) ∙ at_base m l refl)
+  same-field (base {k} l) m = sym (sym (subst_refl (At (Primitive k)) m) ∙ at-base m l refl)
   same-field (object {name} a) m = sym (sym (subst_refl (At (Object name)) m) ∙ at-object m a refl)
   same-field (array {t} l) m = sym (sym (subst_refl (At (Array t)) m) ∙ at-array m l (λ k. same-field l k) refl)
 
@@ -80,20 +80,20 @@ module _ {Name : List ℕ → Type 0} (one : OneName Name) where
   abbrev Ps : List Parameter → List ℕ → Type 0
   Ps ps xs = Parameters Name xs ps
 
-  at_none : {xs : List ℕ} (m : Parameters Name xs []) (f : xs ≡ []) → subst (Ps []) f m ≡ none
-  at_none none f = stays (Ps []) f none
+  at-none : {xs : List ℕ} (m : Parameters Name xs []) (f : xs ≡ []) → subst (Ps []) f m ≡ none
+  at-none none f = stays (Ps []) f none
 
-  at_more : {xs bs rest : List ℕ} {t : JavaType} {ps : List Parameter} (m : Parameters Name xs (record { bytes = bs; type = t } ∷ ps)) (g : FieldType Name bs t)
+  at-more : {xs bs rest : List ℕ} {t : JavaType} {ps : List Parameter} (m : Parameters Name xs (record { bytes = bs; type = t } ∷ ps)) (g : FieldType Name bs t)
       (r : Parameters Name rest ps) → ((k : Parameters Name rest ps) → r ≡ k) → (f : xs ≡ bs ++ rest)
       → subst (Ps (record { bytes = bs; type = t } ∷ ps)) f m ≡ more g r
-  at_more {bs = bs} {t = t} {ps = ps} (more {rest = cs} h q) g r ih f =
+  at-more {bs = bs} {t = t} {ps = ps} (more {rest = cs} h q) g r ih f =
       let P = Ps (record { bytes = bs; type = t } ∷ ps) in
-      subst (λ (ys : List ℕ). (r : Parameters Name ys ps) → ((k : Parameters Name ys ps) → r ≡ k) → (f : bs ++ cs ≡ bs ++ ys) → subst P f (more h q) ≡ more g r) (rest_of bs f)
+      subst (λ (ys : List ℕ). (r : Parameters Name ys ps) → ((k : Parameters Name ys ps) → r ≡ k) → (f : bs ++ cs ≡ bs ++ ys) → subst P f (more h q) ≡ more g r) (rest-of bs f)
       (λ r ih f. stays P f (more h q) ∙ ap₂ more (same-field h g) (sym (ih q))) r ih f
 
   pub same-list : {xs : List ℕ} {ps : List Parameter} (l m : Parameters Name xs ps) → l ≡ m
-  same-list none m = sym (sym (subst_refl (Ps []) m) ∙ at_none m refl)
-  same-list (more {bs} {rest} {t} {ps} g r) m = sym (sym (subst_refl (Ps (record { bytes = bs; type = t } ∷ ps)) m) ∙ at_more m g r (λ k. same-list r k) refl)
+  same-list none m = sym (sym (subst_refl (Ps []) m) ∙ at-none m refl)
+  same-list (more {bs} {rest} {t} {ps} g r) m = sym (sym (subst_refl (Ps (record { bytes = bs; type = t } ∷ ps)) m) ∙ at-more m g r (λ k. same-list r k) refl)
 
   -- ---- methods
 
@@ -118,7 +118,7 @@ module _ {Name : List ℕ → Type 0} (one : OneName Name) where
       (are-bytes h ∙ sym (are-bytes l))
       (λ l f.
       subst (λ (ys : List ℕ). (r : ReturnDescriptor Name ys t) (f : byte "(" ∷ cs ++ byte ")" ∷ stop ≡ byte "(" ∷ cs ++ byte ")" ∷ ys) → subst P f (method h q) ≡ method l r)
-      (tail_of (rest_of cs (tail_of f)))
+      (tail-of (rest-of cs (tail-of f)))
       (λ r f. stays P f (method h q) ∙ ap₂ method (same-list h l) (same-return q r)) r f)
       l f
 
@@ -131,9 +131,9 @@ module _ {Name : List ℕ → Type 0} (one : OneName Name) where
   -- TWO DERIVATIONS OF THE SAME BYTES ARE OF ONE TYPE AND EQUAL
   pub unique-return : Ended Name → {s : List ℕ} {t u : JavaType} (l : ReturnDescriptor Name s t) (m : ReturnDescriptor Name s u)
       → (e : t ≡ u) × (subst (ReturnDescriptor Name s) e l ≡ m)
-  unique-return ended {s} l m = let e = one_type ended l m in (e, same-return (subst (ReturnDescriptor Name s) e l) m)
+  unique-return ended {s} l m = let e = one-type ended l m in (e, same-return (subst (ReturnDescriptor Name s) e l) m)
 
   -- TWO OF A METHOD, OF ONE SIGNATURE AND EQUAL
   pub unique-method : Ended Name → {s : List ℕ} {m n : Signature} (l : MethodDescriptor Name s m) (r : MethodDescriptor Name s n)
       → (e : m ≡ n) × (subst (MethodDescriptor Name s) e l ≡ r)
-  unique-method ended {s} l r = let e = one_signature ended l r in (e, same-method (subst (MethodDescriptor Name s) e l) r)
+  unique-method ended {s} l r = let e = one-signature ended l r in (e, same-method (subst (MethodDescriptor Name s) e l) r)

@@ -1,11 +1,11 @@
 -- Worked examples of ranks and keys, by computation.
 use Rattle.std.specs.Prelude.{◌≡◌, refl, List, [], ◌∷◌, map, ℕ, replicate}
-use Rattle.order.specs.Compare.{compareNumbers, compareLists}
+use Rattle.order.specs.Compare.{compare_numbers, compare_lists}
 use Rattle.order.specs.declared.Order.{Order}
 use Rattle.order.specs.declared.Order.TheVariants.{Less}
 use Rattle.ty.specs.Types.{ArgType, Primitive, Object, Array, Unknown, Void, Boolean, Int, arrays, compare}
 use Rattle.ty.specs.Words.{pack, unpack}
-use Rattle.keys.specs.Rank.{deeper, digitsOf, rank, trim, members_of, knownBase, unrank, key, keyComponent, keyKind, keyType}
+use Rattle.keys.specs.Rank.{deeper, digits_of, rank, trim, members_of, known_base, unrank, key, key_component, key_kind, key_type}
 
 -- ascending: Boolean, class 0, [Int, [[Int, and Unknown with no member in an array, with none, Void, Boolean and Int, Int
 abbrev pub types : List ArgType
@@ -35,7 +35,7 @@ ranks =
     ∷ []
 
 pub rank-examples : (map rank types ≡ ranks) × (map unrank ranks ≡ types)
-unfolding rank deeper digitsOf pack unrank knownBase members_of trim unpack arrays
+unfolding rank deeper digits_of pack unrank known_base members_of trim unpack arrays
 rank-examples = (refl, refl)
 
 -- each compared with the next
@@ -44,15 +44,15 @@ neighbours f [] = []
 neighbours f (x ∷ []) = []
 neighbours f (x ∷ y ∷ ys) = f x y ∷ neighbours f (y ∷ ys)
 
-pub order-examples : (neighbours compare types ≡ replicate 8 Less) × (neighbours compareNumbers ranks ≡ replicate 8 Less)
-unfolding compare compareNumbers compareLists
+pub order-examples : (neighbours compare types ≡ replicate 8 Less) × (neighbours compare_numbers ranks ≡ replicate 8 Less)
+unfolding compare compare_numbers compare_lists
 order-examples = (refl, refl)
 
 -- [Int of kind 2 on component 3
 pub key-example :
     (key 3 2 (Array (Primitive Int)) ≡ 0x01a0000000000805)
-    × (keyComponent 0x01a0000000000805 ≡ 3)
-    × (keyKind 0x01a0000000000805 ≡ 2)
-    × (keyType 0x01a0000000000805 ≡ Array (Primitive Int))
-unfolding key keyType rank deeper unrank knownBase arrays
+    × (key_component 0x01a0000000000805 ≡ 3)
+    × (key_kind 0x01a0000000000805 ≡ 2)
+    × (key_type 0x01a0000000000805 ≡ Array (Primitive Int))
+unfolding key key_type rank deeper unrank known_base arrays
 key-example = (refl, refl, refl, refl)

@@ -14,15 +14,15 @@ unfoldable pub deeper : ℕ → ℕ
 deeper r = cond (ltb r (2 ^ 19)) (r + 2 ^ 11) (r - 2 ^ 44)
 
 -- eleven hex digits: category + 1 for each member and 0 after the last, so that a prefix comes first
-unfoldable pub digitsOf : List ℕ → ℕ
-digitsOf cs = pack 11 (map suc cs)
+unfoldable pub digits_of : List ℕ → ℕ
+digits_of cs = pack 11 (map suc cs)
 
 -- the number of a type: of two types the lower one comes first
 unfoldable pub rank : ArgType → ℕ
 rank (Primitive k) = k
 rank (Object c) = 2 ^ 10 + c
 rank (Array t) = deeper (rank t)
-rank (Unknown cs) = 2 ^ 19 + (255 * 2 ^ 44 + digitsOf cs)
+rank (Unknown cs) = 2 ^ 19 + (255 * 2 ^ 44 + digits_of cs)
 
 -- ---- the type of a rank
 
@@ -37,13 +37,13 @@ unfoldable pub members_of : ℕ → List ℕ
 members_of digits = trim (unpack 11 digits)
 
 -- what is no array, from its number below 2 ^ 11
-unfoldable pub knownBase : ℕ → ArgType
-knownBase b = cond (ltb b (2 ^ 10)) (Primitive b) (Object (b - 2 ^ 10))
+unfoldable pub known_base : ℕ → ArgType
+known_base b = cond (ltb b (2 ^ 10)) (Primitive b) (Object (b - 2 ^ 10))
 
 -- a rank's type; of a number that is no rank, some type
 unfoldable pub unrank : ℕ → ArgType
 unrank r =
-    cond (ltb r (2 ^ 19)) (arrays (r / 2 ^ 11) (knownBase (r % 2 ^ 11)))
+    cond (ltb r (2 ^ 19)) (arrays (r / 2 ^ 11) (known_base (r % 2 ^ 11)))
     (arrays (255 - (r - 2 ^ 19) / 2 ^ 44) (Unknown (members_of ((r - 2 ^ 19) % 2 ^ 44))))
 
 -- ---- the key of a bound: component (9 bits), kind (3), rank of the type (52)
@@ -53,11 +53,11 @@ unfoldable pub key : ℕ → ℕ → ArgType → ℕ
 key component kind t = component * 2 ^ 55 + (kind * 2 ^ 52 + rank t)
 
 -- its parts
-abbrev pub keyComponent : ℕ → ℕ
-keyComponent k = k / 2 ^ 55
+abbrev pub key_component : ℕ → ℕ
+key_component k = k / 2 ^ 55
 
-abbrev pub keyKind : ℕ → ℕ
-keyKind k = k / 2 ^ 52 % 8
+abbrev pub key_kind : ℕ → ℕ
+key_kind k = k / 2 ^ 52 % 8
 
-unfoldable pub keyType : ℕ → ArgType
-keyType k = unrank (k % 2 ^ 52)
+unfoldable pub key_type : ℕ → ArgType
+key_type k = unrank (k % 2 ^ 52)

@@ -2,8 +2,8 @@
 ghost use Rattle.std.specs.Prelude.{◌≡◌, ◌-◌, ◌*◌, ◌/◌, ◌%◌, ◌^◌, ◌<◌, replicate};
 ghost use Rattle.ty.specs.Types.{compare};
 ghost use Rattle.ty.specs.Words.{Legal, pack, type_of, word_of};
-ghost use Rattle.ty.specs.Round.{listLoad};
-ghost use Rattle.keys.specs.Rank.{rank, unrank, members_of, key, keyComponent, keyKind, keyType};
+ghost use Rattle.ty.specs.Round.{list_load};
+ghost use Rattle.keys.specs.Rank.{rank, unrank, members_of, key, key_component, key_kind, key_type};
 
 use order::Order;
 use ty::{DIMENSION, LENGTH, TAG, TypeWord, digit};
@@ -55,7 +55,7 @@ pub fn rank_of(t: TypeWord) -> u64
 
 // The payload of the Unknown that has these digits in its rank.
 fn members_load(digits: u64) -> u64
-    ensures { result ≡ listLoad (members_of digits) }
+    ensures { result ≡ list_load (members_of digits) }
 {
     let mut sum: u64 = 0;
     let mut i: u64 = 0;
@@ -111,19 +111,19 @@ pub fn key_of(component: u64, kind: u64, t: TypeWord) -> u64
 
 // The parts of a key: component, kind and type.
 pub fn key_component(k: u64) -> u64
-    ensures { result ≡ keyComponent k }
+    ensures { result ≡ key_component k }
 {
     k / COMPONENT
 }
 
 pub fn key_kind(k: u64) -> u64
-    ensures { result ≡ keyKind k }
+    ensures { result ≡ key_kind k }
 {
     k / KIND % 8
 }
 
 pub fn key_type(k: u64) -> TypeWord
-    ensures { result.word ≡ word_of (keyType k) }
+    ensures { result.word ≡ word_of (key_type k) }
 {
     type_of_rank(k % KIND)
 }

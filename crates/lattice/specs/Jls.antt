@@ -3,12 +3,12 @@
 use Rattle.std.specs.Prelude.{◌≡◌, refl, Bool, true, false, cond, not, ◌&&◌, ◌||◌, List, [], ◌∷◌, ℕ, ◌<◌, eqb}
 use Rattle.std.proofs.Common.{◌∙◌, ne_eqb}
 use Rattle.order.specs.Lists.{elem}
-use Rattle.order.specs.Tests.{same, same-eq, testBelow, tested-below}
-use Rattle.order.specs.Compare.{compareNumbers, compareLists}
+use Rattle.order.specs.Tests.{same, same-eq, test_below, tested-below}
+use Rattle.order.specs.Compare.{compare_numbers, compare_lists}
 use Rattle.ty.specs.Types.{ArgType, Primitive, Unknown, compare, Boolean, Byte, Short, Char, Int, Long, Float, Double}
-use Rattle.lattice.specs.Lattice.{World, sameType, primitiveAssignable, narrow, underDouble, joinPrimitive, join}
+use Rattle.lattice.specs.Lattice.{World, same_type, primitive_assignable, narrow, under_double, join_primitive, join}
 use Rattle.lattice.specs.References.{same-exactly}
-use Rattle.lattice.specs.JoinTable.{joinCategories, join-categories}
+use Rattle.lattice.specs.JoinTable.{join_categories, join-categories}
 
 -- "byte to short, int, long, float, or double", and so on: what each widens to
 pub record Widening : Type 0 where
@@ -25,25 +25,25 @@ widenings =
     ∷ record { source = Float; targets = Double ∷ [] }
     ∷ []
 
-unfoldable pub widensIn : List Widening → ℕ → ℕ → Bool
-widensIn [] value expected = false
-widensIn (w ∷ ws) value expected = (eqb w.source value && elem expected w.targets) || widensIn ws value expected
+unfoldable pub widens_in : List Widening → ℕ → ℕ → Bool
+widens_in [] value expected = false
+widens_in (w ∷ ws) value expected = (eqb w.source value && elem expected w.targets) || widens_in ws value expected
 
 unfoldable pub widens : ℕ → ℕ → Bool
-widens value expected = widensIn widenings value expected
+widens value expected = widens_in widenings value expected
 
 -- ---- one computed test over the eleven categories each way
 
-tested : testBelow 11 (λ v. testBelow 11 (λ e. same (primitiveAssignable v e) (widens v e))) ≡ true
-unfolding testBelow same primitiveAssignable widens widensIn widenings elem
+tested : test_below 11 (λ v. test_below 11 (λ e. same (primitive_assignable v e) (widens v e))) ≡ true
+unfolding test_below same primitive_assignable widens widens_in widenings elem
 tested = refl
 
 -- of the eleven categories, a value's is assignable to another exactly if JLS 5.1.2 widens it: never with Void, Boolean, Object, Array
-pub assignable-widens : (value expected : ℕ) → value < 11 → expected < 11 → primitiveAssignable value expected ≡ widens value expected
+pub assignable-widens : (value expected : ℕ) → value < 11 → expected < 11 → primitive_assignable value expected ≡ widens value expected
 assignable-widens value expected v e =
-    same-eq (primitiveAssignable value expected) (widens value expected)
-    (tested-below 11 (λ k. same (primitiveAssignable value k) (widens value k)) expected e
-    (tested-below 11 (λ j. testBelow 11 (λ k. same (primitiveAssignable j k) (widens j k))) value v tested))
+    same-eq (primitive_assignable value expected) (widens value expected)
+    (tested-below 11 (λ k. same (primitive_assignable value k) (widens value k)) expected e
+    (tested-below 11 (λ j. test_below 11 (λ k. same (primitive_assignable j k) (widens j k))) value v tested))
 
 -- ---- JLS 5.6.2
 
@@ -58,30 +58,30 @@ promoted left right =
     (cond (eqb left Float || eqb right Float) Float (cond (eqb left Long || eqb right Long) Long Int))
 
 -- the one pair of numeric types that lattice.rs does not promote: Long and Float
-unfoldable pub longFloat : ℕ → ℕ → Bool
-longFloat left right = (eqb left Long && eqb right Float) || (eqb left Float && eqb right Long)
+unfoldable pub long_float : ℕ → ℕ → Bool
+long_float left right = (eqb left Long && eqb right Float) || (eqb left Float && eqb right Long)
 
 -- a join of two primitives by the JLS: of equal ones that one, of two numeric ones but Long and Float the promotion; Boolean with Int is
 -- Unknown[Boolean, Int], and all others are the Unknown of both
-unfoldable pub byJls : ℕ → ℕ → ArgType
-byJls left right =
+unfoldable pub by_jls : ℕ → ℕ → ArgType
+by_jls left right =
     cond (eqb left right) (Primitive left)
-    (cond ((numeric left && numeric right) && not (longFloat left right)) (Primitive (promoted left right))
+    (cond ((numeric left && numeric right) && not (long_float left right)) (Primitive (promoted left right))
     (cond ((eqb left Boolean && eqb right Int) || (eqb left Int && eqb right Boolean)) (Unknown (Boolean ∷ Int ∷ [])) (Unknown (left ∷ right ∷ []))))
 
-tested-joins : testBelow 11 (λ l. testBelow 11 (λ r. sameType (joinCategories l r) (byJls l r))) ≡ true
-unfolding testBelow elem compareNumbers compareLists compare sameType narrow underDouble joinPrimitive joinCategories numeric promoted longFloat byJls
+tested-joins : test_below 11 (λ l. test_below 11 (λ r. same_type (join_categories l r) (by_jls l r))) ≡ true
+unfolding test_below elem compare_numbers compare_lists compare same_type narrow under_double join_primitive join_categories numeric promoted long_float by_jls
 tested-joins = refl
 
-pub join-by-jls : (w : World) (left right : ℕ) → left < 11 → right < 11 → join w (Primitive left) (Primitive right) ≡ byJls left right
+pub join-by-jls : (w : World) (left right : ℕ) → left < 11 → right < 11 → join w (Primitive left) (Primitive right) ≡ by_jls left right
 join-by-jls w left right l r =
     join-categories w left right
-    ∙ (same-exactly (joinCategories left right) (byJls left right)).0
-    (tested-below 11 (λ k. sameType (joinCategories left k) (byJls left k)) right r
-    (tested-below 11 (λ j. testBelow 11 (λ k. sameType (joinCategories j k) (byJls j k))) left l tested-joins))
+    ∙ (same-exactly (join_categories left right) (by_jls left right)).0
+    (tested-below 11 (λ k. same_type (join_categories left k) (by_jls left k)) right r
+    (tested-below 11 (λ j. test_below 11 (λ k. same_type (join_categories j k) (by_jls j k))) left l tested-joins))
 
 -- NUMERIC PROMOTION is the join of two different numeric types, Long with Float apart
 pub join-promotes : (w : World) (left right : ℕ) → left < 11 → right < 11 → (left ≡ right → ⊥) → numeric left ≡ true → numeric right ≡ true
-    → longFloat left right ≡ false → join w (Primitive left) (Primitive right) ≡ Primitive (promoted left right)
-unfolding byJls
+    → long_float left right ≡ false → join w (Primitive left) (Primitive right) ≡ Primitive (promoted left right)
+unfolding by_jls
 join-promotes w left right l r apart n m f = join-by-jls w left right l r ∙ rw (ne_eqb left right apart, n, m, f)

@@ -5,7 +5,7 @@ use Rattle.std.proofs.Common.{sym, ap, ◌∙◌, true≢false, eq-eqb, eqb-true
 use Rattle.order.specs.Lists.{elem}
 use Rattle.ty.specs.Words.{distinct}
 use Rattle.ty.specs.Distinct.{distinct-fresh, distinct-rest}
-use Rattle.lattice.specs.Lattice.{inBoth}
+use Rattle.lattice.specs.Lattice.{in_both}
 
 -- the one list is the other with some left out, the order kept
 pub data Within : List ℕ → List ℕ → Type 0 where
@@ -14,18 +14,18 @@ pub data Within : List ℕ → List ℕ → Type 0 where
   kept : {c : ℕ} {ks cs : List ℕ} → Within ks cs → Within (c ∷ ks) (c ∷ cs)
 
 -- IN THE LEFT ONE'S ORDER
-pub both-within : (cs ds : List ℕ) → Within (inBoth cs ds) cs
-unfolding inBoth
+pub both-within : (cs ds : List ℕ) → Within (in_both cs ds) cs
+unfolding in_both
 both-within [] ds = ended
 both-within (c ∷ cs) ds = go (elem c ds) (both-within cs ds)
   where
-    go : (b : Bool) → Within (inBoth cs ds) cs → Within (cond b (c ∷ inBoth cs ds) (inBoth cs ds)) (c ∷ cs)
+    go : (b : Bool) → Within (in_both cs ds) cs → Within (cond b (c ∷ in_both cs ds) (in_both cs ds)) (c ∷ cs)
     go true w = kept w
     go false w = passed w
 
 -- WHAT BOTH HAVE
-pub both-elem : (cs ds : List ℕ) (k : ℕ) → elem k (inBoth cs ds) ≡ (elem k cs && elem k ds)
-unfolding inBoth elem
+pub both-elem : (cs ds : List ℕ) (k : ℕ) → elem k (in_both cs ds) ≡ (elem k cs && elem k ds)
+unfolding in_both elem
 both-elem [] ds k = refl
 both-elem (c ∷ cs) ds k = go (elem c ds) refl (eqb c k) refl (both-elem cs ds k)
   where
@@ -36,8 +36,8 @@ both-elem (c ∷ cs) ds k = go (elem c ds) refl (eqb c k) refl (both-elem cs ds 
     here : (b : Bool) → elem c ds ≡ b → eqb c k ≡ true → elem k ds ≡ b
     here b e q = ap (λ (x : ℕ). elem x ds) (sym (eqb-true c k q)) ∙ e
 
-    go : (b : Bool) → elem c ds ≡ b → (a : Bool) → eqb c k ≡ a → elem k (inBoth cs ds) ≡ (elem k cs && elem k ds)
-        → elem k (cond b (c ∷ inBoth cs ds) (inBoth cs ds)) ≡ ((a || elem k cs) && elem k ds)
+    go : (b : Bool) → elem c ds ≡ b → (a : Bool) → eqb c k ≡ a → elem k (in_both cs ds) ≡ (elem k cs && elem k ds)
+        → elem k (cond b (c ∷ in_both cs ds) (in_both cs ds)) ≡ ((a || elem k cs) && elem k ds)
     go true e true q ih = rw (q, here true e q)
     go true e false q ih = rw q ih
     go false e true q ih = ih ∙ ap (λ (x : Bool). elem k cs && x) (here false e q) ∙ and-false (elem k cs) ∙ sym (here false e q)

@@ -15,12 +15,12 @@ unfoldable pub present : ℕ → Option ℕ
 present n = cond (eqb n (2 ^ 64 - 1)) none (some n)
 
 -- of a view
-abbrev pub worldWith : View → Option ℕ → Option ℕ → World
-worldWith v cloneable serializable =
+abbrev pub world_with : View → Option ℕ → Option ℕ → World
+world_with v cloneable serializable =
     record { names = v.names; object = v.object; relation = relation v; supertype = supertype v; cloneable = cloneable; serializable = serializable }
 
 -- and it is lawful
-pub with-lawful : (v : View) (cloneable serializable : Option ℕ) → Good v → Lawful (worldWith v cloneable serializable)
+pub with-lawful : (v : View) (cloneable serializable : Option ℕ) → Good v → Lawful (world_with v cloneable serializable)
 with-lawful v cloneable serializable g = record {
   object-in = g.object-in;
   self = λ c. (relation-yes v c c).1 (ancestor-self v c);
@@ -31,5 +31,5 @@ with-lawful v cloneable serializable g = record {
 }
 
 -- THE WORLD of the tables
-abbrev pub worldOf : List ℕ → List ℕ → Tables → World
-worldOf pairs marks t = worldWith (view_of pairs marks t) (present t.cloneable) (present t.serializable)
+abbrev pub world_of : List ℕ → List ℕ → Tables → World
+world_of pairs marks t = world_with (view_of pairs marks t) (present t.cloneable) (present t.serializable)

@@ -5,23 +5,23 @@ use Rattle.std.proofs.Common.{sym, ap, ap₂, ◌∙◌, subst, arith, ne_eqb, e
 use Rattle.std.proofs.Math.Bool.{true, false, cond}
 use Rattle.std.proofs.Math.Decide.{ℕ_discrete}
 use Rattle.std.proofs.lemmas.Bool.{eqb-false}
-use Rattle.rows.specs.Rows.{State, state_of, recordRefusal, recordRow}
+use Rattle.rows.specs.Rows.{State, state_of, record_refusal, record_row}
 use Rattle.rows.specs.Keys.{take-filled, length-filled}
 use Rattle.rows.specs.Laws.{Sound, record-refused, good-record}
 use Rattle.layers.specs.declared.StackTables.{StackTables}
 use Rattle.layers.specs.declared.StackOutcome.{StackOutcome}
-use Rattle.layers.specs.Layers.{layersRoom, Layered, layerKeys, layerRefusal, layerRow, opened}
+use Rattle.layers.specs.Layers.{layers_room, Layered, layer_keys, layer_refusal, layer_row, opened}
 use Rattle.layers.specs.Laws.{Stands, layer-refused, inside-none, stands-first, stands-next, stands-row}
-use Rattle.layers.specs.Stacks.{Stack, ground, topKeys, stackRefusal, stackRow, openRefusal, openRow, StackRan, Upright, stack_of, Holds, numbersOf, FillsStack, openedTables}
+use Rattle.layers.specs.Stacks.{Stack, ground, top_keys, stack_refusal, stack_row, open_refusal, open_row, StackRan, Upright, stack_of, Holds, numbers_of, FillsStack, opened_tables}
 
 -- ---- the keys of the topmost layer
 
-pub top-lowest : (s : Stack) → s.under ≡ 0 → topKeys s ≡ s.top.shown.keys
-unfolding topKeys
+pub top-lowest : (s : Stack) → s.under ≡ 0 → top_keys s ≡ s.top.shown.keys
+unfolding top_keys
 top-lowest s e = rw e
 
-pub top-layer : (s : Stack) → (s.under ≡ 0 → ⊥) → topKeys s ≡ layerKeys s.top
-unfolding topKeys
+pub top-layer : (s : Stack) → (s.under ≡ 0 → ⊥) → top_keys s ≡ layer_keys s.top
+unfolding top_keys
 top-layer s n = rw (ne_eqb s.under 0 n)
 
 -- ---- the lowest layer is a plain table, and one above it stands on it
@@ -53,7 +53,7 @@ upright-stands s n g =
     }
 
 sound-upright : (t : Layered) → Sound t.shown → t.own ≡ replicate 16 0 → Upright (record { top = t; under = 0 })
-unfolding topKeys
+unfolding top_keys
 sound-upright t g e = record {
   few = g.few;
   short = g.short;
@@ -91,37 +91,37 @@ pub upright-ground : (s : State) → Sound s → Upright (ground s)
 upright-ground s g = sound-upright (opened s) g refl
 
 -- ONE LAYER IS A PLAIN TABLE, row by row
-pub ground-row : (s : State) (flags class : ℕ) (parents : List ℕ) → stackRow (ground s) flags class parents ≡ ground (recordRow s flags class parents)
-unfolding stackRow
+pub ground-row : (s : State) (flags class : ℕ) (parents : List ℕ) → stack_row (ground s) flags class parents ≡ ground (record_row s flags class parents)
+unfolding stack_row
 ground-row s flags class parents = refl
 
-pub ground-refusal : (s : State) (flags class : ℕ) (parents : List ℕ) → stackRefusal (ground s) flags class parents ≡ recordRefusal s.tables.names s.keys flags class parents
-unfolding stackRefusal
+pub ground-refusal : (s : State) (flags class : ℕ) (parents : List ℕ) → stack_refusal (ground s) flags class parents ≡ record_refusal s.tables.names s.keys flags class parents
+unfolding stack_refusal
 ground-refusal s flags class parents = refl
 
 -- what a row comes to on the lowest layer, and on one above
 module _ (s : Stack) (flags class : ℕ) (parents : List ℕ) where
-  pub row-lowest : s.under ≡ 0 → stackRow s flags class parents ≡ record { top = record { shown = recordRow s.top.shown flags class parents; own = s.top.own }; under = 0 }
-  unfolding stackRow
+  pub row-lowest : s.under ≡ 0 → stack_row s flags class parents ≡ record { top = record { shown = record_row s.top.shown flags class parents; own = s.top.own }; under = 0 }
+  unfolding stack_row
   row-lowest e = rw e
 
-  pub row-layer : (s.under ≡ 0 → ⊥) → stackRow s flags class parents ≡ record { top = layerRow s.top flags class parents; under = s.under }
-  unfolding stackRow
+  pub row-layer : (s.under ≡ 0 → ⊥) → stack_row s flags class parents ≡ record { top = layer_row s.top flags class parents; under = s.under }
+  unfolding stack_row
   row-layer n = rw (ne_eqb s.under 0 n)
 
-  pub refusal-lowest : s.under ≡ 0 → stackRefusal s flags class parents ≡ recordRefusal s.top.shown.tables.names s.top.shown.keys flags class parents
-  unfolding stackRefusal
+  pub refusal-lowest : s.under ≡ 0 → stack_refusal s flags class parents ≡ record_refusal s.top.shown.tables.names s.top.shown.keys flags class parents
+  unfolding stack_refusal
   refusal-lowest e = rw e
 
-  pub refusal-layer : (s.under ≡ 0 → ⊥) → stackRefusal s flags class parents ≡ layerRefusal s.top flags class parents
-  unfolding stackRefusal
+  pub refusal-layer : (s.under ≡ 0 → ⊥) → stack_refusal s flags class parents ≡ layer_refusal s.top flags class parents
+  unfolding stack_refusal
   refusal-layer n = rw (ne_eqb s.under 0 n)
 
   -- A REFUSED RECORD CHANGES NO LAYER
-  pub row-refused : (stackRefusal s flags class parents ≡ 0 → ⊥) → stackRow s flags class parents ≡ s
+  pub row-refused : (stack_refusal s flags class parents ≡ 0 → ⊥) → stack_row s flags class parents ≡ s
   row-refused n = go (ℕ_discrete s.under 0)
     where
-      go : Dec (s.under ≡ 0) → stackRow s flags class parents ≡ s
+      go : Dec (s.under ≡ 0) → stack_row s flags class parents ≡ s
       go (yes z) =
           let same = record-refused s.top.shown flags class parents (λ q. n (refusal-lowest z ∙ q)) in
           row-lowest z ∙ (λ i. record { top = record { shown = same i; own = s.top.own }; under = sym z i })
@@ -130,20 +130,20 @@ module _ (s : Stack) (flags class : ℕ) (parents : List ℕ) where
           row-layer z ∙ (λ i. record { top = same i; under = s.under })
 
   -- A RECORD IS REFUSED AS OVER THE KEYS OF THE TOPMOST LAYER ALONE
-  pub refusal-top : stackRefusal s flags class parents ≡ recordRefusal s.top.shown.tables.names (topKeys s) flags class parents
-  unfolding stackRefusal topKeys layerRefusal
+  pub refusal-top : stack_refusal s flags class parents ≡ record_refusal s.top.shown.tables.names (top_keys s) flags class parents
+  unfolding stack_refusal top_keys layer_refusal
   refusal-top = go (eqb s.under 0)
     where
-      go : (t : Bool) → cond t (recordRefusal s.top.shown.tables.names s.top.shown.keys flags class parents) (recordRefusal s.top.shown.tables.names (layerKeys s.top) flags class parents)
-          ≡ recordRefusal s.top.shown.tables.names (cond t s.top.shown.keys (layerKeys s.top)) flags class parents
+      go : (t : Bool) → cond t (record_refusal s.top.shown.tables.names s.top.shown.keys flags class parents) (record_refusal s.top.shown.tables.names (layer_keys s.top) flags class parents)
+          ≡ record_refusal s.top.shown.tables.names (cond t s.top.shown.keys (layer_keys s.top)) flags class parents
       go true = refl
       go false = refl
 
   -- AND STAYS SO after a record
-  pub upright-row : Upright s → Upright (stackRow s flags class parents)
+  pub upright-row : Upright s → Upright (stack_row s flags class parents)
   upright-row g = go (eqb s.under 0) refl
     where
-      go : (t : Bool) → eqb s.under 0 ≡ t → Upright (stackRow s flags class parents)
+      go : (t : Bool) → eqb s.under 0 ≡ t → Upright (stack_row s flags class parents)
       go true e =
           let z = eqb-true s.under 0 e in
           subst Upright (sym (row-lowest z)) (sound-upright _ (good-record s.top.shown flags class parents (upright-sound s z g)) (g.own-none z))
@@ -152,8 +152,8 @@ module _ (s : Stack) (flags class : ℕ) (parents : List ℕ) where
           subst Upright (sym (row-layer n)) (stands-upright _ s.under n g.low (stands-row s.under s.top flags class parents (upright-stands s n g)))
 
 -- and where a layer is opened
-pub upright-open : (s : Stack) → Upright s → Upright (openRow s)
-unfolding openRow
+pub upright-open : (s : Stack) → Upright s → Upright (open_row s)
+unfolding open_row
 upright-open s g = go (leb 3 s.under) refl (eqb s.under 0) refl
   where
     go : (t : Bool) → leb 3 s.under ≡ t → (b : Bool) → eqb s.under 0 ≡ b → Upright (cond t s (record { top = opened s.top.shown; under = s.under + 1 }))
@@ -168,7 +168,7 @@ upright-open s g = go (leb 3 s.under) refl (eqb s.under 0) refl
 -- ---- in slices
 
 -- WHAT SLICES HOLD AFTER A ROW IS THE STACK AFTER IT
-module _ (after : StackRan) (pairs pairs' marks' : List ℕ) (r : StackOutcome) (f : FillsStack after pairs pairs' marks' r) (u : Upright after.state) (w : length pairs ≡ layersRoom) where
+module _ (after : StackRan) (pairs pairs' marks' : List ℕ) (r : StackOutcome) (f : FillsStack after pairs pairs' marks' r) (u : Upright after.state) (w : length pairs ≡ layers_room) where
   filled-stack : stack_of pairs' marks' r.stack ≡ after.state
   filled-stack =
       ap (λ (n : StackTables). stack_of pairs' marks' n) (ap (λ (o : StackOutcome). o.stack) f.outcome-is)
@@ -179,18 +179,18 @@ module _ (after : StackRan) (pairs pairs' marks' : List ℕ) (r : StackOutcome) 
   fits : length after.state.top.shown.keys ≤ length pairs
   fits = omega (arith, u.room, u.top-room, u.low, w)
 
-  pub holds_after : Holds pairs' marks' r.stack × (stack_of pairs' marks' r.stack ≡ after.state)
-  holds_after = (
+  pub holds-after : Holds pairs' marks' r.stack × (stack_of pairs' marks' r.stack ≡ after.state)
+  holds-after = (
     record {
       long = ap length f.pairs-are ∙ length-filled after.state.top.shown.keys pairs fits ∙ w;
       upright = subst Upright (sym filled-stack) u;
-      layer-counted = ap (λ (o : StackOutcome). o.stack.layer.keys) f.outcome-is ∙ ap (λ (s : Stack). length (layerKeys s.top)) (sym filled-stack);
+      layer-counted = ap (λ (o : StackOutcome). o.stack.layer.keys) f.outcome-is ∙ ap (λ (s : Stack). length (layer_keys s.top)) (sym filled-stack);
     },
     filled-stack,
   )
 
-opened-stack : (pairs marks : List ℕ) (n : StackTables) → stack_of pairs marks (openedTables n).stack ≡ openRow (stack_of pairs marks n)
-unfolding openedTables openRow
+opened-stack : (pairs marks : List ℕ) (n : StackTables) → stack_of pairs marks (opened_tables n).stack ≡ open_row (stack_of pairs marks n)
+unfolding opened_tables open_row
 opened-stack pairs marks n = go (leb 3 n.under)
   where
     more : StackTables
@@ -203,8 +203,8 @@ opened-stack pairs marks n = go (leb 3 n.under)
 
 -- AND AFTER A LAYER IS OPENED, which changes no slice
 module _ (pairs marks : List ℕ) (n : StackTables) (g : Holds pairs marks n) where
-  pub opened-is : openedTables n ≡ record { refusal = openRefusal (stack_of pairs marks n); stack = numbersOf (openRow (stack_of pairs marks n)) }
-  unfolding openedTables openRefusal openRow
+  pub opened-is : opened_tables n ≡ record { refusal = open_refusal (stack_of pairs marks n); stack = numbers_of (open_row (stack_of pairs marks n)) }
+  unfolding opened_tables open_refusal open_row
   opened-is = go (leb 3 n.under)
     where
       next : Stack
@@ -212,22 +212,22 @@ module _ (pairs marks : List ℕ) (n : StackTables) (g : Holds pairs marks n) wh
 
       go : (t : Bool)
           → cond {A = StackOutcome} t (record { refusal = 8; stack = n }) (record { refusal = 0; stack = record { tables = n.tables; layer = record { own = record { words = replicate 16 0 }; keys = 0 }; under = n.under + 1 } })
-          ≡ record { refusal = cond t 8 0; stack = numbersOf (cond t (stack_of pairs marks n) next) }
+          ≡ record { refusal = cond t 8 0; stack = numbers_of (cond t (stack_of pairs marks n) next) }
       go true = λ i. record { refusal = 8; stack = record { tables = n.tables; layer = record { own = n.layer.own; keys = g.layer-counted i }; under = n.under } }
       go false = λ i. record {
         refusal = 0;
         stack = record { tables = n.tables; layer = record { own = record { words = replicate 16 0 }; keys = (ap length (sym (inside-none (take n.tables.pairs pairs)))) i }; under = n.under + 1 };
       }
 
-  pub holds-open : Holds pairs marks (openedTables n).stack × (stack_of pairs marks (openedTables n).stack ≡ openRow (stack_of pairs marks n))
+  pub holds-open : Holds pairs marks (opened_tables n).stack × (stack_of pairs marks (opened_tables n).stack ≡ open_row (stack_of pairs marks n))
   holds-open = (
     record {
       long = g.long;
       upright = subst Upright (sym same) (upright-open (stack_of pairs marks n) g.upright);
-      layer-counted = ap (λ (o : StackOutcome). o.stack.layer.keys) opened-is ∙ ap (λ (s : Stack). length (layerKeys s.top)) (sym same);
+      layer-counted = ap (λ (o : StackOutcome). o.stack.layer.keys) opened-is ∙ ap (λ (s : Stack). length (layer_keys s.top)) (sym same);
     },
     same,
   )
     where
-      same : stack_of pairs marks (openedTables n).stack ≡ openRow (stack_of pairs marks n)
+      same : stack_of pairs marks (opened_tables n).stack ≡ open_row (stack_of pairs marks n)
       same = opened-stack pairs marks n

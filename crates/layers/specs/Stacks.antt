@@ -4,11 +4,11 @@ use Rattle.std.specs.Prelude.{◌≡◌, true, cond, List, ℕ, ◌+◌, ◌*◌
 use Rattle.order.specs.Lists.{elem}
 use Rattle.sorted.specs.Sorted.{Sorted}
 use Rattle.tables.specs.declared.Tables.{Tables}
-use Rattle.tables.specs.Table.{namesRoom, pairsRoom, marksRoom}
-use Rattle.rows.specs.Rows.{State, recordRefusal, recordRow, filled}
+use Rattle.tables.specs.Table.{names_room, pairs_room, marks_room}
+use Rattle.rows.specs.Rows.{State, record_refusal, record_row, filled}
 use Rattle.layers.specs.declared.StackTables.{StackTables}
 use Rattle.layers.specs.declared.StackOutcome.{StackOutcome}
-use Rattle.layers.specs.Layers.{layersRoom, Layered, layerKeys, layerRefusal, layerRow, opened, layeredOf}
+use Rattle.layers.specs.Layers.{layers_room, Layered, layer_keys, layer_refusal, layer_row, opened, layered_of}
 
 -- the topmost layer and what all show, and how many layers lie below it
 pub record Stack : Type 0 where
@@ -20,81 +20,81 @@ abbrev pub ground : State → Stack
 ground s = record { top = opened s; under = 0 }
 
 -- the layers with other numbers of their names
-abbrev pub withNames : Stack → Tables → Stack
-withNames s t = record { top = record { shown = record { tables = t; keys = s.top.shown.keys; marks = s.top.shown.marks }; own = s.top.own }; under = s.under }
+abbrev pub with_names : Stack → Tables → Stack
+with_names s t = record { top = record { shown = record { tables = t; keys = s.top.shown.keys; marks = s.top.shown.marks }; own = s.top.own }; under = s.under }
 
 -- the keys of the topmost layer
-unfoldable pub topKeys : Stack → List ℕ
-topKeys s = cond (eqb s.under 0) s.top.shown.keys (layerKeys s.top)
+unfoldable pub top_keys : Stack → List ℕ
+top_keys s = cond (eqb s.under 0) s.top.shown.keys (layer_keys s.top)
 
-unfoldable pub stackRefusal : Stack → ℕ → ℕ → List ℕ → ℕ
-stackRefusal s flags class parents =
-    cond (eqb s.under 0) (recordRefusal s.top.shown.tables.names s.top.shown.keys flags class parents) (layerRefusal s.top flags class parents)
+unfoldable pub stack_refusal : Stack → ℕ → ℕ → List ℕ → ℕ
+stack_refusal s flags class parents =
+    cond (eqb s.under 0) (record_refusal s.top.shown.tables.names s.top.shown.keys flags class parents) (layer_refusal s.top flags class parents)
 
 -- after a record: a refused one changes nothing
-unfoldable pub stackRow : Stack → ℕ → ℕ → List ℕ → Stack
-stackRow s flags class parents =
-    cond (eqb s.under 0) (record { top = record { shown = recordRow s.top.shown flags class parents; own = s.top.own }; under = s.under })
-    (record { top = layerRow s.top flags class parents; under = s.under })
+unfoldable pub stack_row : Stack → ℕ → ℕ → List ℕ → Stack
+stack_row s flags class parents =
+    cond (eqb s.under 0) (record { top = record { shown = record_row s.top.shown flags class parents; own = s.top.own }; under = s.under })
+    (record { top = layer_row s.top flags class parents; under = s.under })
 
 -- a fifth layer is refused
-unfoldable pub openRefusal : Stack → ℕ
-openRefusal s = cond (leb 3 s.under) 8 0
+unfoldable pub open_refusal : Stack → ℕ
+open_refusal s = cond (leb 3 s.under) 8 0
 
-unfoldable pub openRow : Stack → Stack
-openRow s = cond (leb 3 s.under) s (record { top = opened s.top.shown; under = s.under + 1 })
+unfoldable pub open_row : Stack → Stack
+open_row s = cond (leb 3 s.under) s (record { top = opened s.top.shown; under = s.under + 1 })
 
 -- a refusal, and the stack after it
 pub record StackRan : Type 0 where
   pub refusal : ℕ
   pub state : Stack
 
-abbrev pub stackRan : Stack → ℕ → ℕ → List ℕ → StackRan
-stackRan s flags class parents = record { refusal = stackRefusal s flags class parents; state = stackRow s flags class parents }
+abbrev pub stack_ran : Stack → ℕ → ℕ → List ℕ → StackRan
+stack_ran s flags class parents = record { refusal = stack_refusal s flags class parents; state = stack_row s flags class parents }
 
-abbrev pub openRan : Stack → StackRan
-openRan s = record { refusal = openRefusal s; state = openRow s }
+abbrev pub open_ran : Stack → StackRan
+open_ran s = record { refusal = open_refusal s; state = open_row s }
 
 -- what every stack is that rows have made
 pub record Upright (s : Stack) : Type 0 where
-  pub few : s.top.shown.tables.names ≤ namesRoom
+  pub few : s.top.shown.tables.names ≤ names_room
   pub short : s.top.shown.tables.bytes ≤ 24576
   pub ordered : Sorted s.top.shown.keys
   pub counted : s.top.shown.tables.pairs ≡ length s.top.shown.keys
   -- both classes of a pair are in the table
-  pub classes : (z : ℕ) → elem z s.top.shown.keys ≡ true → (z / namesRoom < s.top.shown.tables.names) × (z % namesRoom < s.top.shown.tables.names)
-  pub wide : length s.top.shown.marks ≡ marksRoom
+  pub classes : (z : ℕ) → elem z s.top.shown.keys ≡ true → (z / names_room < s.top.shown.tables.names) × (z % names_room < s.top.shown.tables.names)
+  pub wide : length s.top.shown.marks ≡ marks_room
   pub own-wide : length s.top.own ≡ 16
   pub low : s.under ≤ 3
   -- the lowest layer keeps no set of its own
   pub own-none : s.under ≡ 0 → s.top.own ≡ replicate 16 0
   -- the room of one layer, and of those below
-  pub top-room : length (topKeys s) ≤ pairsRoom
-  pub room : length s.top.shown.keys ≤ pairsRoom * s.under + length (topKeys s)
+  pub top-room : length (top_keys s) ≤ pairs_room
+  pub room : length s.top.shown.keys ≤ pairs_room * s.under + length (top_keys s)
 
 -- ---- in slices
 
 abbrev pub stack_of : List ℕ → List ℕ → StackTables → Stack
-stack_of pairs marks n = record { top = layeredOf pairs marks n.tables n.layer; under = n.under }
+stack_of pairs marks n = record { top = layered_of pairs marks n.tables n.layer; under = n.under }
 
 -- slices with room for four layers that hold such a stack, the keys of its topmost layer counted
 pub record Holds (pairs marks : List ℕ) (n : StackTables) : Type 0 where
-  pub long : length pairs ≡ layersRoom
+  pub long : length pairs ≡ layers_room
   pub upright : Upright (stack_of pairs marks n)
-  pub layer-counted : n.layer.keys ≡ length (layerKeys (stack_of pairs marks n).top)
+  pub layer-counted : n.layer.keys ≡ length (layer_keys (stack_of pairs marks n).top)
 
 -- the numbers of a stack
-abbrev pub numbersOf : Stack → StackTables
-numbersOf s = record { tables = s.top.shown.tables; layer = record { own = record { words = s.top.own }; keys = length (layerKeys s.top) }; under = s.under }
+abbrev pub numbers_of : Stack → StackTables
+numbers_of s = record { tables = s.top.shown.tables; layer = record { own = record { words = s.top.own }; keys = length (layer_keys s.top) }; under = s.under }
 
 -- what a result and two slices hold after a row: the keys in front of the pairs as they came
 pub record FillsStack (after : StackRan) (pairs pairs' marks' : List ℕ) (r : StackOutcome) : Type 0 where
-  pub outcome-is : r ≡ record { refusal = after.refusal; stack = numbersOf after.state }
+  pub outcome-is : r ≡ record { refusal = after.refusal; stack = numbers_of after.state }
   pub pairs-are : pairs' ≡ filled after.state.top.shown.keys pairs
   pub marks-are : marks' ≡ after.state.top.shown.marks
 
 -- a layer more, by the numbers alone
-unfoldable pub openedTables : StackTables → StackOutcome
-openedTables n =
+unfoldable pub opened_tables : StackTables → StackOutcome
+opened_tables n =
     cond (leb 3 n.under) (record { refusal = 8; stack = n })
     (record { refusal = 0; stack = record { tables = n.tables; layer = record { own = record { words = replicate 16 0 }; keys = 0 }; under = n.under + 1 } })

@@ -2,10 +2,10 @@
 // classes that the topmost layer records and how many keys are theirs. The first record of a class takes the keys of the layers below away.
 ghost use Rattle.std.specs.Prelude.{◌≡◌, ◌++◌, ◌-◌, ◌≤◌, ◌<◌, ltb, length, take, drop, replicate};
 ghost use Rattle.sorted.specs.Sorted.{Sorted};
-ghost use Rattle.tables.specs.Table.{namesRoom, pairsRoom};
-ghost use Rattle.rows.specs.Rows.{Below, put_all, recordRefusal, filled, freshIn};
-ghost use Rattle.layers.specs.Layers.{keysInside, keysWithout, keysLeft, layerRan, layeredOf, Roomy, FillsLayer};
-ghost use Rattle.layers.specs.Stacks.{stackRan, stack_of, Holds, FillsStack, openedTables};
+ghost use Rattle.tables.specs.Table.{names_room, pairs_room};
+ghost use Rattle.rows.specs.Rows.{Below, put_all, record_refusal, filled, fresh_in};
+ghost use Rattle.layers.specs.Layers.{keys_inside, keys_without, keys_left, layer_ran, layered_of, Roomy, FillsLayer};
+ghost use Rattle.layers.specs.Stacks.{stack_ran, stack_of, Holds, FillsStack, opened_tables};
 
 use rows::{add_record, check_numbers, fresh, put_marks, put_pairs};
 use sets::Set;
@@ -58,8 +58,8 @@ fn move_down(s: &mut [u64], k: usize, n: usize)
 
 // Takes the keys of a class away, and tells how many are left.
 fn take_away(pairs: &mut [u64], n: usize, class: u64) -> usize
-    requires { (class < namesRoom) × (n ≤ length pairs.old) × Sorted (take n pairs.old) }
-    ensures { (result ≡ length (keysWithout class (take n pairs.old))) × (pairs.new ≡ filled (keysWithout class (take n pairs.old)) pairs.old) }
+    requires { (class < names_room) × (n ≤ length pairs.old) × Sorted (take n pairs.old) }
+    ensures { (result ≡ length (keys_without class (take n pairs.old))) × (pairs.new ≡ filled (keys_without class (take n pairs.old)) pairs.old) }
 {
     let run = sorted::run(pairs, n, NAMES, class);
     let first = run.first;
@@ -70,8 +70,8 @@ fn take_away(pairs: &mut [u64], n: usize, class: u64) -> usize
 
 // Takes the keys away that lie below a record of a class.
 fn uncover(pairs: &mut [u64], n: usize, class: u64, own: Set) -> usize
-    requires { (class < namesRoom) × (n ≤ length pairs.old) × Sorted (take n pairs.old) }
-    ensures { (result ≡ length (keysLeft own.words class (take n pairs.old))) × (pairs.new ≡ filled (keysLeft own.words class (take n pairs.old)) pairs.old) }
+    requires { (class < names_room) × (n ≤ length pairs.old) × Sorted (take n pairs.old) }
+    ensures { (result ≡ length (keys_left own.words class (take n pairs.old))) × (pairs.new ≡ filled (keys_left own.words class (take n pairs.old)) pairs.old) }
 {
     if own.has(class) {
         return n;
@@ -81,8 +81,8 @@ fn uncover(pairs: &mut [u64], n: usize, class: u64, own: Set) -> usize
 
 // The parents whose pair the layer has not yet.
 fn fresh_in_layer(pairs: &[u64], n: usize, class: u64, parents: &[u64], own: Set) -> Set
-    requires { (class < namesRoom) × Below namesRoom parents.now × Sorted (take n pairs.now) }
-    ensures { result.words ≡ freshIn (keysInside own.words (take n pairs.now)) class parents.now (replicate 16 0) }
+    requires { (class < names_room) × Below names_room parents.now × Sorted (take n pairs.now) }
+    ensures { result.words ≡ fresh_in (keys_inside own.words (take n pairs.now)) class parents.now (replicate 16 0) }
 {
     if own.has(class) {
         return fresh(pairs, n, class, parents);
@@ -92,8 +92,8 @@ fn fresh_in_layer(pairs: &[u64], n: usize, class: u64, parents: &[u64], own: Set
 
 // Whether the layer has no room for the new pairs. They are counted only where a pair for each parent might not fit.
 fn is_full(pairs: &[u64], n: usize, class: u64, parents: &[u64], layer: Layer) -> bool
-    requires { (class < namesRoom) × Below namesRoom parents.now × Sorted (take n pairs.now) × (layer.keys ≡ length (keysInside layer.own.words (take n pairs.now))) × (layer.keys ≤ pairsRoom) }
-    ensures { result ≡ ltb pairsRoom (length (put_all class parents.now (keysInside layer.own.words (take n pairs.now)))) }
+    requires { (class < names_room) × Below names_room parents.now × Sorted (take n pairs.now) × (layer.keys ≡ length (keys_inside layer.own.words (take n pairs.now))) × (layer.keys ≤ pairs_room) }
+    ensures { result ≡ ltb pairs_room (length (put_all class parents.now (keys_inside layer.own.words (take n pairs.now)))) }
 {
     let room = PAIRS - layer.keys;
     if parents.len() <= room {
@@ -112,8 +112,8 @@ fn check_record(
     t: Tables,
     layer: Layer,
 ) -> u64
-    requires { (t.names ≤ namesRoom) × Sorted (take t.pairs pairs.now) × (layer.keys ≡ length (keysInside layer.own.words (take t.pairs pairs.now))) × (layer.keys ≤ pairsRoom) }
-    ensures { result ≡ recordRefusal t.names (keysInside layer.own.words (take t.pairs pairs.now)) flags class parents.now }
+    requires { (t.names ≤ names_room) × Sorted (take t.pairs pairs.now) × (layer.keys ≡ length (keys_inside layer.own.words (take t.pairs pairs.now))) × (layer.keys ≤ pairs_room) }
+    ensures { result ≡ record_refusal t.names (keys_inside layer.own.words (take t.pairs pairs.now)) flags class parents.now }
 {
     let refusal = check_numbers(flags, class, parents, t.names);
     if refusal != 0 {
@@ -136,7 +136,7 @@ pub fn add_layer_record(
     layer: Layer,
 ) -> LayerOutcome
     requires { Roomy pairs.old marks.old t layer }
-    ensures { FillsLayer (layerRan (layeredOf pairs.old marks.old t layer) flags class parents.now) pairs.old pairs.new marks.new result }
+    ensures { FillsLayer (layer_ran (layered_of pairs.old marks.old t layer) flags class parents.now) pairs.old pairs.new marks.new result }
 {
     let refusal = check_record(flags, class, parents, pairs, t, layer);
     if refusal != 0 {
@@ -178,7 +178,7 @@ fn add_to_lowest(
     s: StackTables,
 ) -> StackOutcome
     requires { Holds pairs.old marks.old s × (s.under ≡ 0) }
-    ensures { FillsStack (stackRan (stack_of pairs.old marks.old s) flags class parents.now) pairs.old pairs.new marks.new result }
+    ensures { FillsStack (stack_ran (stack_of pairs.old marks.old s) flags class parents.now) pairs.old pairs.new marks.new result }
 {
     let o = add_record(flags, class, parents, &mut pairs[0..PAIRS], marks, s.tables);
     let with = o.tables;
@@ -204,7 +204,7 @@ fn add_to_layer(
     s: StackTables,
 ) -> StackOutcome
     requires { Holds pairs.old marks.old s × (1 ≤ s.under) }
-    ensures { FillsStack (stackRan (stack_of pairs.old marks.old s) flags class parents.now) pairs.old pairs.new marks.new result }
+    ensures { FillsStack (stack_ran (stack_of pairs.old marks.old s) flags class parents.now) pairs.old pairs.new marks.new result }
 {
     let o = add_layer_record(flags, class, parents, pairs, marks, s.tables, s.layer);
     let with = o.tables;
@@ -230,7 +230,7 @@ pub fn add_to_stack(
     s: StackTables,
 ) -> StackOutcome
     requires { Holds pairs.old marks.old s }
-    ensures { FillsStack (stackRan (stack_of pairs.old marks.old s) flags class parents.now) pairs.old pairs.new marks.new result }
+    ensures { FillsStack (stack_ran (stack_of pairs.old marks.old s) flags class parents.now) pairs.old pairs.new marks.new result }
 {
     if s.under == 0 {
         return add_to_lowest(flags, class, parents, pairs, marks, s);
@@ -240,7 +240,7 @@ pub fn add_to_stack(
 
 // A layer more, without a record; a fifth is refused.
 pub fn open_layer(s: StackTables) -> StackOutcome
-    ensures { result ≡ openedTables s }
+    ensures { result ≡ opened_tables s }
 {
     if 3 <= s.under {
         return StackOutcome {

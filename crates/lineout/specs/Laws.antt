@@ -9,45 +9,45 @@ use native.Mathlib.Omega.{arith}
 use Rattle.std.proofs.Math.ListN.{length}
 use Rattle.std.proofs.lemmas.List.{length-map, set_split}
 use Rattle.ty.specs.Words.{unpack}
-use Rattle.lineout.specs.Printed.{decimalFrom, decimal, hexDigit, hexDigits, wordText, numberText, printed, variableLine, variableLines, Puts}
+use Rattle.lineout.specs.Printed.{decimal_from, decimal, hex_digit, hex_digits, word_text, number_text, printed, variable_line, variable_lines, Puts}
 
 -- ---- decimal
 
-from-append : (fuel n : ℕ) (ds : List ℕ) → decimalFrom fuel n ds ≡ decimalFrom fuel n [] ++ ds
-unfolding decimalFrom
+from-append : (fuel n : ℕ) (ds : List ℕ) → decimal_from fuel n ds ≡ decimal_from fuel n [] ++ ds
+unfolding decimal_from
 from-append zero n ds = refl
 from-append (suc fuel) n ds = go (ltb n 10) (from-append fuel (n / 10) (d ∷ ds)) (from-append fuel (n / 10) (d ∷ []))
   where
     d : ℕ
     d = 48 + n % 10
 
-    go : (b : Bool) → decimalFrom fuel (n / 10) (d ∷ ds) ≡ decimalFrom fuel (n / 10) [] ++ (d ∷ ds) → decimalFrom fuel (n / 10) (d ∷ []) ≡ decimalFrom fuel (n / 10) [] ++ (d ∷ [])
-        → cond b ((48 + n) ∷ ds) (decimalFrom fuel (n / 10) (d ∷ ds)) ≡ cond b ((48 + n) ∷ []) (decimalFrom fuel (n / 10) (d ∷ [])) ++ ds
+    go : (b : Bool) → decimal_from fuel (n / 10) (d ∷ ds) ≡ decimal_from fuel (n / 10) [] ++ (d ∷ ds) → decimal_from fuel (n / 10) (d ∷ []) ≡ decimal_from fuel (n / 10) [] ++ (d ∷ [])
+        → cond b ((48 + n) ∷ ds) (decimal_from fuel (n / 10) (d ∷ ds)) ≡ cond b ((48 + n) ∷ []) (decimal_from fuel (n / 10) (d ∷ [])) ++ ds
     go true x y = refl
-    go false x y = x ∙ sym (append_assoc (decimalFrom fuel (n / 10) []) (d ∷ []) ds) ∙ ap (λ (l : List ℕ). l ++ ds) (sym y)
+    go false x y = x ∙ sym (append_assoc (decimal_from fuel (n / 10) []) (d ∷ []) ds) ∙ ap (λ (l : List ℕ). l ++ ds) (sym y)
 
 -- enough fuel is enough
-from_more : (f g n : ℕ) (ds : List ℕ) → n < f → n < g → decimalFrom f n ds ≡ decimalFrom g n ds
-unfolding decimalFrom
-from_more zero g n ds h k = absurd (omega arith)
-from_more (suc f) zero n ds h k = absurd (omega arith)
-from_more (suc f) (suc g) n ds h k = go (ltb n 10) refl (λ a b. from_more f g (n / 10) ((48 + n % 10) ∷ ds) a b)
+from-more : (f g n : ℕ) (ds : List ℕ) → n < f → n < g → decimal_from f n ds ≡ decimal_from g n ds
+unfolding decimal_from
+from-more zero g n ds h k = absurd (omega arith)
+from-more (suc f) zero n ds h k = absurd (omega arith)
+from-more (suc f) (suc g) n ds h k = go (ltb n 10) refl (λ a b. from-more f g (n / 10) ((48 + n % 10) ∷ ds) a b)
   where
-    go : (b : Bool) → ltb n 10 ≡ b → (n / 10 < f → n / 10 < g → decimalFrom f (n / 10) ((48 + n % 10) ∷ ds) ≡ decimalFrom g (n / 10) ((48 + n % 10) ∷ ds))
-        → cond b ((48 + n) ∷ ds) (decimalFrom f (n / 10) ((48 + n % 10) ∷ ds)) ≡ cond b ((48 + n) ∷ ds) (decimalFrom g (n / 10) ((48 + n % 10) ∷ ds))
+    go : (b : Bool) → ltb n 10 ≡ b → (n / 10 < f → n / 10 < g → decimal_from f (n / 10) ((48 + n % 10) ∷ ds) ≡ decimal_from g (n / 10) ((48 + n % 10) ∷ ds))
+        → cond b ((48 + n) ∷ ds) (decimal_from f (n / 10) ((48 + n % 10) ∷ ds)) ≡ cond b ((48 + n) ∷ ds) (decimal_from g (n / 10) ((48 + n % 10) ∷ ds))
     go true e ih = refl
     go false e ih = let l = ltb-false n 10 e in ih (omega arith) (omega arith)
 
 module _ (n : ℕ) where
   pub decimal-small : n < 10 → decimal n ≡ (48 + n) ∷ []
-  unfolding decimal decimalFrom
-  decimal-small h = ap (λ (b : Bool). cond b ((48 + n) ∷ []) (decimalFrom n (n / 10) ((48 + n % 10) ∷ []))) (lt-ltb n 10 h)
+  unfolding decimal decimal_from
+  decimal-small h = ap (λ (b : Bool). cond b ((48 + n) ∷ []) (decimal_from n (n / 10) ((48 + n % 10) ∷ []))) (lt-ltb n 10 h)
 
   pub decimal-more : 10 ≤ n → decimal n ≡ decimal (n / 10) ++ ((48 + n % 10) ∷ [])
-  unfolding decimal decimalFrom
+  unfolding decimal decimal_from
   decimal-more h =
-      ap (λ (b : Bool). cond b ((48 + n) ∷ []) (decimalFrom n (n / 10) ((48 + n % 10) ∷ []))) (le-ltb n 10 h)
-      ∙ from_more n (suc (n / 10)) (n / 10) ((48 + n % 10) ∷ []) (omega arith) (omega arith)
+      ap (λ (b : Bool). cond b ((48 + n) ∷ []) (decimal_from n (n / 10) ((48 + n % 10) ∷ []))) (le-ltb n 10 h)
+      ∙ from-more n (suc (n / 10)) (n / 10) ((48 + n % 10) ∷ []) (omega arith) (omega arith)
       ∙ from-append (suc (n / 10)) (n / 10) ((48 + n % 10) ∷ [])
 
   pub decimal-longer : 10 ≤ n → length (decimal n) ≡ length (decimal (n / 10)) + 1
@@ -73,55 +73,55 @@ decimal-short n h = short 19 n (omega arith)
 -- ---- hex
 
 module _ (w k : ℕ) where
-  pub hex-step : k < 16 → hexDigits (16 - k) w ≡ hexDigit (w / 2 ^ (4 * (15 - k)) % 16) ∷ hexDigits (16 - (k + 1)) w
-  unfolding hexDigits unpack
+  pub hex-step : k < 16 → hex_digits (16 - k) w ≡ hex_digit (w / 2 ^ (4 * (15 - k)) % 16) ∷ hex_digits (16 - (k + 1)) w
+  unfolding hex_digits unpack
   hex-step h =
-      ap (λ (m : ℕ). map hexDigit (unpack m w)) (let e : 16 - k ≡ suc (15 - k) = omega arith in e)
-      ∙ ap (λ (m : ℕ). hexDigit (w / 2 ^ (4 * (15 - k)) % 16) ∷ map hexDigit (unpack m w)) (let e : 15 - k ≡ 16 - (k + 1) = omega arith in e)
+      ap (λ (m : ℕ). map hex_digit (unpack m w)) (let e : 16 - k ≡ suc (15 - k) = omega arith in e)
+      ∙ ap (λ (m : ℕ). hex_digit (w / 2 ^ (4 * (15 - k)) % 16) ∷ map hex_digit (unpack m w)) (let e : 15 - k ≡ 16 - (k + 1) = omega arith in e)
 
-  pub hex-end : 16 ≤ k → hexDigits (16 - k) w ≡ []
-  unfolding hexDigits unpack
-  hex-end h = ap (λ (m : ℕ). map hexDigit (unpack m w)) (let e : 16 - k ≡ 0 = omega arith in e)
+  pub hex-end : 16 ≤ k → hex_digits (16 - k) w ≡ []
+  unfolding hex_digits unpack
+  hex-end h = ap (λ (m : ℕ). map hex_digit (unpack m w)) (let e : 16 - k ≡ 0 = omega arith in e)
 
 length-unpack : (n x : ℕ) → length (unpack n x) ≡ n
 unfolding unpack
 length-unpack zero x = refl
 length-unpack (suc n) x = ap suc (length-unpack n x)
 
-pub hex-length : (n w : ℕ) → length (hexDigits n w) ≡ n
-unfolding hexDigits
-hex-length n w = length-map (unpack n w) hexDigit ∙ length-unpack n w
+pub hex-length : (n w : ℕ) → length (hex_digits n w) ≡ n
+unfolding hex_digits
+hex-length n w = length-map (unpack n w) hex_digit ∙ length-unpack n w
 
 -- ---- a word or a dash, a number or a dash
 
 module _ (w : ℕ) where
-  pub word_none : w ≡ 2 ^ 64 - 1 → wordText w ≡ 45 ∷ []
-  unfolding wordText
-  word_none h = ap (λ (b : Bool). cond b (45 ∷ []) (hexDigits 16 w)) (eq-eqb w (2 ^ 64 - 1) h)
+  pub word-none : w ≡ 2 ^ 64 - 1 → word_text w ≡ 45 ∷ []
+  unfolding word_text
+  word-none h = ap (λ (b : Bool). cond b (45 ∷ []) (hex_digits 16 w)) (eq-eqb w (2 ^ 64 - 1) h)
 
-  pub word_some : (w ≡ 2 ^ 64 - 1 → ⊥) → wordText w ≡ hexDigits 16 w
-  unfolding wordText
-  word_some h = ap (λ (b : Bool). cond b (45 ∷ []) (hexDigits 16 w)) (ne_eqb w (2 ^ 64 - 1) h)
+  pub word-some : (w ≡ 2 ^ 64 - 1 → ⊥) → word_text w ≡ hex_digits 16 w
+  unfolding word_text
+  word-some h = ap (λ (b : Bool). cond b (45 ∷ []) (hex_digits 16 w)) (ne_eqb w (2 ^ 64 - 1) h)
 
-  pub number-none : w ≡ 2 ^ 64 - 1 → numberText w ≡ 45 ∷ []
-  unfolding numberText
+  pub number-none : w ≡ 2 ^ 64 - 1 → number_text w ≡ 45 ∷ []
+  unfolding number_text
   number-none h = ap (λ (b : Bool). cond b (45 ∷ []) (decimal w)) (eq-eqb w (2 ^ 64 - 1) h)
 
-  pub number-some : (w ≡ 2 ^ 64 - 1 → ⊥) → numberText w ≡ decimal w
-  unfolding numberText
+  pub number-some : (w ≡ 2 ^ 64 - 1 → ⊥) → number_text w ≡ decimal w
+  unfolding number_text
   number-some h = ap (λ (b : Bool). cond b (45 ∷ []) (decimal w)) (ne_eqb w (2 ^ 64 - 1) h)
 
-  pub word-short : length (wordText w) ≤ 16
-  unfolding wordText
+  pub word-short : length (word_text w) ≤ 16
+  unfolding word_text
   word-short = go (eqb w (2 ^ 64 - 1))
     where
-      go : (b : Bool) → length (cond b (45 ∷ []) (hexDigits 16 w)) ≤ 16
+      go : (b : Bool) → length (cond b (45 ∷ []) (hex_digits 16 w)) ≤ 16
       go true = omega arith
       go false = let e = hex-length 16 w in omega arith
 
-  pub number_short : w < 2 ^ 64 → length (numberText w) ≤ 20
-  unfolding numberText
-  number_short h = go (eqb w (2 ^ 64 - 1))
+  pub number-short : w < 2 ^ 64 → length (number_text w) ≤ 20
+  unfolding number_text
+  number-short h = go (eqb w (2 ^ 64 - 1))
     where
       go : (b : Bool) → length (cond b (45 ∷ []) (decimal w)) ≤ 20
       go true = omega arith
@@ -129,22 +129,22 @@ module _ (w : ℕ) where
 
 -- ---- one text after another
 
-pub puts_none : (f : ℕ) (o : List ℕ) → Puts [] f o o f
-puts_none f o = record { filled_is = omega arith; out-is = sym (ap (λ (n : ℕ). take f o ++ drop n o) (let e : f + 0 ≡ f = omega arith in e) ∙ take-append-drop f o) }
+pub puts-none : (f : ℕ) (o : List ℕ) → Puts [] f o o f
+puts-none f o = record { filled-is = omega arith; out-is = sym (ap (λ (n : ℕ). take f o ++ drop n o) (let e : f + 0 ≡ f = omega arith in e) ∙ take-append-drop f o) }
 
-pub puts_one : (f : ℕ) (o : List ℕ) (b : ℕ) → f < length o → Puts (b ∷ []) f o (set o f b) (f + 1)
-puts_one f o b h = record { filled_is = refl; out-is = set_split o f b h ∙ ap (λ (n : ℕ). take f o ++ (b ∷ drop n o)) (sym (add-one f)) }
+pub puts-one : (f : ℕ) (o : List ℕ) (b : ℕ) → f < length o → Puts (b ∷ []) f o (set o f b) (f + 1)
+puts-one f o b h = record { filled-is = refl; out-is = set_split o f b h ∙ ap (λ (n : ℕ). take f o ++ (b ∷ drop n o)) (sym (add-one f)) }
 
 module _ (s t : List ℕ) (f m r : ℕ) (o o₁ o₂ : List ℕ) where
-  pub puts_then : f + length s ≤ length o → Puts s f o o₁ m → Puts t m o₁ o₂ r → Puts (s ++ t) f o o₂ r
-  puts_then h p q =
+  pub puts-then : f + length s ≤ length o → Puts s f o o₁ m → Puts t m o₁ o₂ r → Puts (s ++ t) f o o₂ r
+  puts-then h p q =
       let n = length-append s t in
-      let m-is = p.filled_is in
-      let r-is = q.filled_is in
+      let m-is = p.filled-is in
+      let r-is = q.filled-is in
       let front : length (take f o ++ s) ≡ m = (let a = length-append (take f o) s in let b = length-take-le f o (omega arith) in omega arith) in
       let o_is : o₁ ≡ (take f o ++ s) ++ drop (f + length s) o = p.out-is ∙ sym (append_assoc (take f o) s (drop (f + length s) o)) in
       record {
-        filled_is = omega arith;
+        filled-is = omega arith;
         out-is =
             q.out-is
             ∙ ap₂ (λ (x y : List ℕ). x ++ (t ++ y))
@@ -163,36 +163,36 @@ puts-as s t f r o o' e p = rw e at p
 -- ---- a text written piece by piece: what stands so far, and what is left
 
 pub record Writing (whole left : List ℕ) (f at : ℕ) (o o₁ : List ℕ) : Type 0 where
-  pub so_far : List ℕ
-  pub whole_is : whole ≡ so_far ++ left
-  pub put : Puts so_far f o o₁ at
+  pub so-far : List ℕ
+  pub whole-is : whole ≡ so-far ++ left
+  pub put : Puts so-far f o o₁ at
 
-pub writing_start : (whole : List ℕ) (f : ℕ) (o : List ℕ) → Writing whole whole f f o o
-writing_start whole f o = record { so_far = []; whole_is = refl; put = puts_none f o }
+pub writing-start : (whole : List ℕ) (f : ℕ) (o : List ℕ) → Writing whole whole f f o o
+writing-start whole f o = record { so-far = []; whole-is = refl; put = puts-none f o }
 
 module _ (whole : List ℕ) where
   -- one more piece, where the whole fits
-  pub writing_more : (piece left : List ℕ) (f at r : ℕ) (o o₁ o₂ : List ℕ) → f + length whole ≤ length o → Writing whole (piece ++ left) f at o o₁ → Puts piece at o₁ o₂ r → Writing whole left f r o o₂
-  writing_more piece left f at r o o₁ o₂ h w p =
-      let n = ap length w.whole_is ∙ length-append w.so_far (piece ++ left) in
+  pub writing-more : (piece left : List ℕ) (f at r : ℕ) (o o₁ o₂ : List ℕ) → f + length whole ≤ length o → Writing whole (piece ++ left) f at o o₁ → Puts piece at o₁ o₂ r → Writing whole left f r o o₂
+  writing-more piece left f at r o o₁ o₂ h w p =
+      let n = ap length w.whole-is ∙ length-append w.so-far (piece ++ left) in
       record {
-        so_far = w.so_far ++ piece;
-        whole_is = w.whole_is ∙ sym (append_assoc w.so_far piece left);
-        put = puts_then w.so_far piece f at r o o₁ o₂ (omega arith) w.put p;
+        so-far = w.so-far ++ piece;
+        whole-is = w.whole-is ∙ sym (append_assoc w.so-far piece left);
+        put = puts-then w.so-far piece f at r o o₁ o₂ (omega arith) w.put p;
       }
 
   pub writing-end : (f at : ℕ) (o o₁ : List ℕ) → Writing whole [] f at o o₁ → Puts whole f o o₁ at
-  writing-end f at o o₁ w = puts-as w.so_far whole f at o o₁ (sym (w.whole_is ∙ append-nil w.so_far)) w.put
+  writing-end f at o o₁ w = puts-as w.so-far whole f at o o₁ (sym (w.whole-is ∙ append-nil w.so-far)) w.put
 
   -- one more byte of a text of n bytes
-  pub writing_step : (b : ℕ) (left : List ℕ) (f at r : ℕ) (o o₁ o₂ : List ℕ) {n : ℕ} → length whole ≡ n → f + n ≤ length o → Writing whole (b ∷ left) f at o o₁ → Puts (b ∷ []) at o₁ o₂ r → Writing whole left f r o o₂
-  writing_step b left f at r o o₁ o₂ e h w p = writing_more (b ∷ []) left f at r o o₁ o₂ (omega arith) w p
+  pub writing-step : (b : ℕ) (left : List ℕ) (f at r : ℕ) (o o₁ o₂ : List ℕ) {n : ℕ} → length whole ≡ n → f + n ≤ length o → Writing whole (b ∷ left) f at o o₁ → Puts (b ∷ []) at o₁ o₂ r → Writing whole left f r o o₂
+  writing-step b left f at r o o₁ o₂ e h w p = writing-more (b ∷ []) left f at r o o₁ o₂ (omega arith) w p
 
 -- ---- lines
 
 module _ (letter : ℕ) (a : List ℕ) (f m₁ m₂ r : ℕ) (o o₁ o₂ o₃ : List ℕ) where
   pub line-one : f + (3 + length a) ≤ length o → Puts (letter ∷ 32 ∷ []) f o o₁ m₁ → Puts a m₁ o₁ o₂ m₂ → Puts (10 ∷ []) m₂ o₂ o₃ r → Puts (printed letter a) f o o₃ r
-  line-one h p q t = puts_then (letter ∷ 32 ∷ a) (10 ∷ []) f m₂ r o o₂ o₃ (omega arith) (puts_then (letter ∷ 32 ∷ []) a f m₁ m₂ o o₁ o₂ (omega arith) p q) t
+  line-one h p q t = puts-then (letter ∷ 32 ∷ a) (10 ∷ []) f m₂ r o o₂ o₃ (omega arith) (puts-then (letter ∷ 32 ∷ []) a f m₁ m₂ o o₁ o₂ (omega arith) p q) t
 
 module _ (letter : ℕ) (a b : List ℕ) (f m₁ m₂ m₃ m₄ r : ℕ) (o o₁ o₂ o₃ o₄ o₅ : List ℕ) where
   pub line-two : f + (4 + length a + length b) ≤ length o → Puts (letter ∷ 32 ∷ []) f o o₁ m₁ → Puts a m₁ o₁ o₂ m₂ → Puts (32 ∷ []) m₂ o₂ o₃ m₃ → Puts b m₃ o₃ o₄ m₄ → Puts (10 ∷ []) m₄ o₄ o₅ r
@@ -202,34 +202,34 @@ module _ (letter : ℕ) (a b : List ℕ) (f m₁ m₂ m₃ m₄ r : ℕ) (o o₁
       let y = length-append (a ++ (32 ∷ [])) b in
       puts-as (letter ∷ 32 ∷ (((a ++ (32 ∷ [])) ++ b) ++ (10 ∷ []))) (printed letter (a ++ (32 ∷ b))) f r o o₅
       (ap (λ (l : List ℕ). letter ∷ 32 ∷ (l ++ (10 ∷ []))) (append_assoc a (32 ∷ []) b))
-      (puts_then (letter ∷ 32 ∷ ((a ++ (32 ∷ [])) ++ b)) (10 ∷ []) f m₄ r o o₄ o₅ (omega arith)
-      (puts_then (letter ∷ 32 ∷ (a ++ (32 ∷ []))) b f m₃ m₄ o o₃ o₄ (omega arith)
-      (puts_then (letter ∷ 32 ∷ a) (32 ∷ []) f m₂ m₃ o o₂ o₃ (omega arith)
-      (puts_then (letter ∷ 32 ∷ []) a f m₁ m₂ o o₁ o₂ (omega arith) p q) s) t) u)
+      (puts-then (letter ∷ 32 ∷ ((a ++ (32 ∷ [])) ++ b)) (10 ∷ []) f m₄ r o o₄ o₅ (omega arith)
+      (puts-then (letter ∷ 32 ∷ (a ++ (32 ∷ []))) b f m₃ m₄ o o₃ o₄ (omega arith)
+      (puts-then (letter ∷ 32 ∷ a) (32 ∷ []) f m₂ m₃ o o₂ o₃ (omega arith)
+      (puts-then (letter ∷ 32 ∷ []) a f m₁ m₂ o o₁ o₂ (omega arith) p q) s) t) u)
 
 -- the lines of what is left, where variable i is the next
-pub lines_step : (i : ℕ) (ws : List ℕ) → i < length ws → variableLines i (drop i ws) ≡ variableLine i (get_or ws i 0) ++ variableLines (i + 1) (drop (i + 1) ws)
-unfolding variableLines
-lines_step i ws h = ap (variableLines i) (drop-cons ws i 0 h ∙ ap (λ (n : ℕ). get_or ws i 0 ∷ drop n ws) (sym (add-one i)))
+pub lines-step : (i : ℕ) (ws : List ℕ) → i < length ws → variable_lines i (drop i ws) ≡ variable_line i (get_or ws i 0) ++ variable_lines (i + 1) (drop (i + 1) ws)
+unfolding variable_lines
+lines-step i ws h = ap (variable_lines i) (drop-cons ws i 0 h ∙ ap (λ (n : ℕ). get_or ws i 0 ∷ drop n ws) (sym (add-one i)))
 
-pub lines_end : (i : ℕ) (ws : List ℕ) → length ws ≤ i → variableLines i (drop i ws) ≡ []
-unfolding variableLines
-lines_end i ws h = ap (variableLines i) (drop_of_length-le ws h)
+pub lines-end : (i : ℕ) (ws : List ℕ) → length ws ≤ i → variable_lines i (drop i ws) ≡ []
+unfolding variable_lines
+lines-end i ws h = ap (variable_lines i) (drop_of_length-le ws h)
 
 -- a line has at most 40 bytes
-pub line-short : (i w : ℕ) → i < 2 ^ 64 → length (variableLine i w) ≤ 40
+pub line-short : (i w : ℕ) → i < 2 ^ 64 → length (variable_line i w) ≤ 40
 line-short i w h =
     let a = decimal-short i h in
     let b = word-short w in
-    let c = length-append (decimal i) (32 ∷ wordText w) in
-    let d = length-append (decimal i ++ (32 ∷ wordText w)) (10 ∷ []) in
+    let c = length-append (decimal i) (32 ∷ word_text w) in
+    let d = length-append (decimal i ++ (32 ∷ word_text w)) (10 ∷ []) in
     omega arith
 
-pub lines-short : (i : ℕ) (ws : List ℕ) → i + length ws ≤ 2 ^ 64 → length (variableLines i ws) ≤ 40 * length ws
-unfolding variableLines
+pub lines-short : (i : ℕ) (ws : List ℕ) → i + length ws ≤ 2 ^ 64 → length (variable_lines i ws) ≤ 40 * length ws
+unfolding variable_lines
 lines-short i [] h = omega arith
 lines-short i (w ∷ ws) h =
     let a = line-short i w (omega arith) in
     let b = lines-short (i + 1) ws (omega arith) in
-    let c = length-append (variableLine i w) (variableLines (i + 1) ws) in
+    let c = length-append (variable_line i w) (variable_lines (i + 1) ws) in
     omega arith

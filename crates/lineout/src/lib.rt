@@ -1,7 +1,7 @@
 // What is printed, into a lent buffer of which the first `filled` bytes wait to be written: numbers in decimal, words as 16 hex digits, lines.
 // Each function answers how many bytes wait after it.
 ghost use Rattle.std.specs.Prelude.{◌≡◌, [], ◌∷◌, ◌+◌, ◌*◌, ◌≤◌, ◌<◌, length};
-ghost use Rattle.lineout.specs.Printed.{decimal, hexDigit, hexDigits, wordText, numberText, printed, variableLine, variableLines, refusalLine, Puts};
+ghost use Rattle.lineout.specs.Printed.{decimal, hex_digit, hex_digits, word_text, number_text, printed, variable_line, variable_lines, refusal_line, Puts};
 
 // One byte.
 pub fn put_byte(out: &mut [u8], filled: usize, b: u8) -> usize
@@ -35,7 +35,7 @@ pub fn put_decimal(out: &mut [u8], filled: usize, n: u64) -> usize
 // A number below 16 as a lower-case hex digit.
 fn hex_digit(d: u64) -> u8
     requires { d < 16 }
-    ensures { result ≡ hexDigit d }
+    ensures { result ≡ hex_digit d }
 {
     if d < 10 {
         return 48 + d as u8;
@@ -46,7 +46,7 @@ fn hex_digit(d: u64) -> u8
 // A word as 16 digits.
 fn put_word(out: &mut [u8], filled: usize, w: u64) -> usize
     requires { filled + 16 ≤ length out.old }
-    ensures { Puts (hexDigits 16 w) filled out.old out.new result }
+    ensures { Puts (hex_digits 16 w) filled out.old out.new result }
 {
     let mut k: u64 = 0;
     let mut at = filled;
@@ -60,7 +60,7 @@ fn put_word(out: &mut [u8], filled: usize, w: u64) -> usize
 // A word, or a dash for all ones.
 fn put_word_or_dash(out: &mut [u8], filled: usize, w: u64) -> usize
     requires { filled + 16 ≤ length out.old }
-    ensures { Puts (wordText w) filled out.old out.new result }
+    ensures { Puts (word_text w) filled out.old out.new result }
 {
     if w == u64::MAX {
         return put_byte(out, filled, b'-');
@@ -71,7 +71,7 @@ fn put_word_or_dash(out: &mut [u8], filled: usize, w: u64) -> usize
 // A number, or a dash for all ones.
 fn put_number_or_dash(out: &mut [u8], filled: usize, n: u64) -> usize
     requires { filled + 20 ≤ length out.old }
-    ensures { Puts (numberText n) filled out.old out.new result }
+    ensures { Puts (number_text n) filled out.old out.new result }
 {
     if n == u64::MAX {
         return put_byte(out, filled, b'-');
@@ -91,7 +91,7 @@ fn put_letter(out: &mut [u8], filled: usize, letter: u8) -> usize
 // A line of a letter and a number, or a dash for all ones.
 pub fn put_number(out: &mut [u8], filled: usize, letter: u8, n: u64) -> usize
     requires { filled + 23 ≤ length out.old }
-    ensures { Puts (printed letter (numberText n)) filled out.old out.new result }
+    ensures { Puts (printed letter (number_text n)) filled out.old out.new result }
 {
     let a = put_letter(out, filled, letter);
     let b = put_number_or_dash(out, a, n);
@@ -101,7 +101,7 @@ pub fn put_number(out: &mut [u8], filled: usize, letter: u8, n: u64) -> usize
 // `E`, the number of a line and its refusal.
 pub fn put_refusal(out: &mut [u8], filled: usize, line: u64, refusal: u64) -> usize
     requires { filled + 44 ≤ length out.old }
-    ensures { Puts (refusalLine line refusal) filled out.old out.new result }
+    ensures { Puts (refusal_line line refusal) filled out.old out.new result }
 {
     let a = put_letter(out, filled, b'E');
     let b = put_decimal(out, a, line);
@@ -113,7 +113,7 @@ pub fn put_refusal(out: &mut [u8], filled: usize, line: u64, refusal: u64) -> us
 // `V`, the number of a variable and its word, or a dash for all ones.
 fn put_variable(out: &mut [u8], filled: usize, i: u64, w: u64) -> usize
     requires { filled + 40 ≤ length out.old }
-    ensures { Puts (variableLine i w) filled out.old out.new result }
+    ensures { Puts (variable_line i w) filled out.old out.new result }
 {
     let a = put_letter(out, filled, b'V');
     let b = put_decimal(out, a, i);
@@ -125,7 +125,7 @@ fn put_variable(out: &mut [u8], filled: usize, i: u64, w: u64) -> usize
 // A line for each variable.
 pub fn put_variables(out: &mut [u8], filled: usize, answers: &[u64]) -> usize
     requires { filled + 40 * length answers.now ≤ length out.old }
-    ensures { Puts (variableLines 0 answers.now) filled out.old out.new result }
+    ensures { Puts (variable_lines 0 answers.now) filled out.old out.new result }
 {
     let mut i: usize = 0;
     let mut at = filled;

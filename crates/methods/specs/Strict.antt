@@ -8,25 +8,25 @@ use Rattle.descriptor.specs.declared.Base.{Base}
 use Rattle.descriptor.specs.declared.Base.TheVariants.{Simple, Class}
 use Rattle.descriptor.specs.declared.Read.{Read}
 use Rattle.descriptor.specs.declared.Read.TheVariants.{Found, Refused}
-use Rattle.descriptor.specs.Read.{pick_r, partsFrom, strictName, strictly}
+use Rattle.descriptor.specs.Read.{pick_r, parts_from, strict_name, strictly}
 use Rattle.descriptor.specs.Steps.{Placed}
 
 -- ---- strict names
 
-abbrev pub pickB : Bool → Bool → Bool → Bool
-pickB true a b = a
-pickB false a b = b
+abbrev pub pick_b : Bool → Bool → Bool → Bool
+pick_b true a b = a
+pick_b false a b = b
 
 -- whether no strict name goes on with the byte b
-unfoldable pub stopsAt : Bool → ℕ → Bool
-stopsAt begun b = pickB (eqb b 47) (not begun) (pickB (eqb b 46) true (pickB (eqb b 91) true false))
+unfoldable pub stops_at : Bool → ℕ → Bool
+stops_at begun b = pick_b (eqb b 47) (not begun) (pick_b (eqb b 46) true (pick_b (eqb b 91) true false))
 
-pub parts-step : (begun : Bool) (b : ℕ) (bs : List ℕ) → partsFrom begun (b ∷ bs) ≡ pickB (stopsAt begun b) false (partsFrom (not (eqb b 47)) bs)
-unfolding partsFrom stopsAt
+pub parts-step : (begun : Bool) (b : ℕ) (bs : List ℕ) → parts_from begun (b ∷ bs) ≡ pick_b (stops_at begun b) false (parts_from (not (eqb b 47)) bs)
+unfolding parts_from stops_at
 parts-step begun b bs = go begun (eqb b 47) (eqb b 46) (eqb b 91) refl refl refl
   where
     go : (begun slash dot bracket : Bool) → eqb b 47 ≡ slash → eqb b 46 ≡ dot → eqb b 91 ≡ bracket
-        → partsFrom begun (b ∷ bs) ≡ pickB (stopsAt begun b) false (partsFrom (not (eqb b 47)) bs)
+        → parts_from begun (b ∷ bs) ≡ pick_b (stops_at begun b) false (parts_from (not (eqb b 47)) bs)
     go true true dot bracket e f g = rw e
     go false true dot bracket e f g = rw e
     go begun false true bracket e f g = rw (e, f)
@@ -34,16 +34,16 @@ parts-step begun b bs = go begun (eqb b 47) (eqb b 46) (eqb b 91) refl refl refl
     go begun false false false e f g = rw (e, f, g)
 
 module _ (s : List ℕ) (i to : ℕ) (begun : Bool) where
-  pub parts-end : to ≤ i → partsFrom begun (take (to - i) (drop i s)) ≡ begun
-  unfolding partsFrom
-  parts-end h = ap (λ (n : ℕ). partsFrom begun (take n (drop i s))) (let e : to - i ≡ 0 = omega arith in e)
+  pub parts-end : to ≤ i → parts_from begun (take (to - i) (drop i s)) ≡ begun
+  unfolding parts_from
+  parts-end h = ap (λ (n : ℕ). parts_from begun (take n (drop i s))) (let e : to - i ≡ 0 = omega arith in e)
 
   module _ (h : i < to) (l : to ≤ length s) where
-    pub parts_at : partsFrom begun (take (to - i) (drop i s))
-        ≡ pickB (stopsAt begun (get_or s i 0)) false (partsFrom (not (eqb (get_or s i 0) 47)) (take (to - (i + 1)) (drop (i + 1) s)))
-    parts_at =
+    pub parts-at : parts_from begun (take (to - i) (drop i s))
+        ≡ pick_b (stops_at begun (get_or s i 0)) false (parts_from (not (eqb (get_or s i 0) 47)) (take (to - (i + 1)) (drop (i + 1) s)))
+    parts-at =
         rw (add-one i)
-        (ap₂ (λ (n : ℕ) (l : List ℕ). partsFrom begun (take n l)) (let e : to - i ≡ suc (to - suc i) = omega arith in e) (drop-cons s i 0 (omega arith))
+        (ap₂ (λ (n : ℕ) (l : List ℕ). parts_from begun (take n l)) (let e : to - i ≡ suc (to - suc i) = omega arith in e) (drop-cons s i 0 (omega arith))
         ∙ parts-step begun (get_or s i 0) (take (to - suc i) (drop (suc i) s)))
 
 -- ---- strict types
@@ -60,26 +60,26 @@ module _ (s : List ℕ) (t : Read) (d : ℕ) (base : Base) (next : ℕ) (f : t �
     part : take (at + n - at) (drop at s) ≡ take n (drop at s)
     part = ap (λ (k : ℕ). take k (drop at s)) (let e : at + n - at ≡ n = omega arith in e)
 
-    pub strictly-good : strictName (take (at + n - at) (drop at s)) ≡ true → Found d base next ≡ strictly s t
+    pub strictly-good : strict_name (take (at + n - at) (drop at s)) ≡ true → Found d base next ≡ strictly s t
     unfolding strictly
-    strictly-good e = rw (f, b, sym (ap strictName part) ∙ e)
+    strictly-good e = rw (f, b, sym (ap strict_name part) ∙ e)
 
-    pub strictly-bad : strictName (take (at + n - at) (drop at s)) ≡ false → Refused 24 (at - 1) 0 ≡ strictly s t
+    pub strictly-bad : strict_name (take (at + n - at) (drop at s)) ≡ false → Refused 24 (at - 1) 0 ≡ strictly s t
     unfolding strictly
-    strictly-bad e = rw (f, b, sym (ap strictName part) ∙ e)
+    strictly-bad e = rw (f, b, sym (ap strict_name part) ∙ e)
 
 -- where a refusal is; 0 for a type
-abbrev pub refusedAt : Read → ℕ
-refusedAt (Found dims base next) = 0
-refusedAt (Refused code at byte) = at
+abbrev pub refused_at : Read → ℕ
+refused_at (Found dims base next) = 0
+refused_at (Refused code at byte) = at
 
 -- the offset of the first bad name, where it was `bad` (0 for none) before the type t; the ordinary reader keeps none
-unfoldable pub firstBad : List ℕ → Bool → ℕ → Read → ℕ
-firstBad s false bad t = bad
-firstBad s true bad t = first (eqb bad 0)
+unfoldable pub first_bad : List ℕ → Bool → ℕ → Read → ℕ
+first_bad s false bad t = bad
+first_bad s true bad t = first (eqb bad 0)
   where
     first : Bool → ℕ
-    first true = refusedAt (strictly s t)
+    first true = refused_at (strictly s t)
     first false = bad
 
 -- the return type, judged after the parameters
@@ -91,16 +91,16 @@ closing s true bad (Refused code at byte) = Refused code at byte
 -- ---- the same, as the code tests
 
 module _ (s : List ℕ) (strict : Bool) (bad : ℕ) (t : Read) where
-  pub bad-kept : strict ≡ false → bad ≡ firstBad s strict bad t
-  unfolding firstBad
+  pub bad-kept : strict ≡ false → bad ≡ first_bad s strict bad t
+  unfolding first_bad
   bad-kept e = rw e
 
-  pub bad-before : strict ≡ true → (bad ≡ 0 → ⊥) → bad ≡ firstBad s strict bad t
-  unfolding firstBad
+  pub bad-before : strict ≡ true → (bad ≡ 0 → ⊥) → bad ≡ first_bad s strict bad t
+  unfolding first_bad
   bad-before e n = rw (e, ne_eqb bad 0 n)
 
-  pub bad-here : strict ≡ true → bad ≡ 0 → refusedAt (strictly s t) ≡ firstBad s strict bad t
-  unfolding firstBad
+  pub bad-here : strict ≡ true → bad ≡ 0 → refused_at (strictly s t) ≡ first_bad s strict bad t
+  unfolding first_bad
   bad-here e z = rw (e, eq-eqb bad 0 z)
 
   pub closing-plain : strict ≡ false → t ≡ closing s strict bad t

@@ -1,12 +1,12 @@
 // Method descriptors of ty.rs, read from bytes, and the strict reading of types and methods.
 ghost use Rattle.std.specs.Prelude.{◌≡◌, ◌+◌, ◌-◌, ◌≤◌, ◌<◌, eqb, length, take, drop, set};
 ghost use Rattle.descriptor.specs.declared.Read.TheVariants.{Refused};
-ghost use Rattle.descriptor.specs.Read.{strictName, strictly, readStrict};
+ghost use Rattle.descriptor.specs.Read.{strict_name, strictly, read_strict};
 ghost use Rattle.descriptor.specs.Steps.{Placed};
-ghost use Rattle.methods.specs.Strict.{stopsAt, refusedAt, firstBad, closing};
-ghost use Rattle.methods.specs.Answers.{answer_of, refusedMethod, methodOf, methodAnswer, paramsAfter};
-ghost use Rattle.methods.specs.Params.{ending, methodFrom};
-ghost use Rattle.methods.specs.Filled.{pick_l, answerFrom, Left};
+ghost use Rattle.methods.specs.Strict.{stops_at, refused_at, first_bad, closing};
+ghost use Rattle.methods.specs.Answers.{answer_of, refused_method, method_of, method_answer, params_after};
+ghost use Rattle.methods.specs.Params.{ending, method_from};
+ghost use Rattle.methods.specs.Filled.{pick_l, answer_from, Left};
 
 use descriptor::{Base, Read, read_last, read_type, read_whole};
 
@@ -40,7 +40,7 @@ pub struct MethodRead {
 
 // Whether no strict name goes on with b, after a part that has or has not begun.
 fn stops(begun: bool, b: u8) -> bool
-    ensures { result ≡ stopsAt begun b }
+    ensures { result ≡ stops_at begun b }
 {
     match b {
         b'/' => !begun,
@@ -53,7 +53,7 @@ fn stops(begun: bool, b: u8) -> bool
 // Whether the name s[from..to] is made of parts that are not empty, with a slash between them, and has no dot and no bracket.
 fn is_strict(s: &[u8], from: usize, to: usize) -> bool
     requires { (from ≤ to) × (to ≤ length s.now) }
-    ensures { result ≡ strictName (take (to - from) (drop from s.now)) }
+    ensures { result ≡ strict_name (take (to - from) (drop from s.now)) }
 {
     let mut begun = false;
     let mut i = from;
@@ -99,7 +99,7 @@ fn judged(s: &[u8], t: Read) -> Read
 
 // The same where each class name is strict; refused 24 where it is not.
 pub fn read_strict(s: &[u8]) -> Read
-    ensures { result ≡ readStrict s.now }
+    ensures { result ≡ read_strict s.now }
 {
     let t = read_whole(s);
     judged(s, t)
@@ -108,7 +108,7 @@ pub fn read_strict(s: &[u8]) -> Read
 // ---- a method
 
 fn refused(code: u64, at: usize, byte: u64) -> MethodRead
-    ensures { result ≡ refusedMethod code at byte }
+    ensures { result ≡ refused_method code at byte }
 {
     MethodRead {
         refusal: code,
@@ -141,7 +141,7 @@ fn answer(count: usize, at: usize, t: Read) -> MethodRead
 
 // Where a refusal is; 0 for a type.
 fn refused_at(t: Read) -> usize
-    ensures { result ≡ refusedAt t }
+    ensures { result ≡ refused_at t }
 {
     match t {
         Read::Found { .. } => 0,
@@ -152,7 +152,7 @@ fn refused_at(t: Read) -> usize
 // The 'L' of the first name that is not strict, 0 for none: `bad` before the type t, which may have one too. An ordinary reader keeps none.
 fn first_bad(s: &[u8], strict: bool, bad: usize, t: Read) -> usize
     requires { Placed (length s.now) t }
-    ensures { result ≡ firstBad s.now strict bad t }
+    ensures { result ≡ first_bad s.now strict bad t }
 {
     if !strict {
         return bad;
@@ -186,7 +186,7 @@ fn closed(s: &[u8], strict: bool, bad: usize, t: Read) -> Read
 // What follows the ')' at `close`, after `count` parameters.
 fn read_return(s: &[u8], close: usize, count: usize, strict: bool, bad: usize) -> MethodRead
     requires { close < length s.now }
-    ensures { result ≡ answerFrom count (ending s.now strict bad close) }
+    ensures { result ≡ answer_from count (ending s.now strict bad close) }
 {
     let at = close + 1;
     let f = read_last(s, at);
@@ -215,7 +215,7 @@ fn read_params(
     bad: usize,
 ) -> MethodRead
     requires { (255 ≤ length params.old) × (count ≤ 255) × (1 ≤ at) }
-    ensures { Left count params.old (methodFrom s.now strict bad at count) result params.new }
+    ensures { Left count params.old (method_from s.now strict bad at count) result params.new }
 {
     if s.len() <= at {
         return refused(MISSING_METHOD_END, at, 0);
@@ -240,8 +240,8 @@ fn read_params(
 
 // MethodDescriptor::from_str, the parameters' offsets into `params`.
 pub fn read_method(s: &[u8], params: &mut [u64], strict: bool) -> MethodRead
-    ensures { (result ≡ methodAnswer (methodOf strict s.now (length params.old)))
-        × (params.new ≡ paramsAfter params.old (methodOf strict s.now (length params.old))) }
+    ensures { (result ≡ method_answer (method_of strict s.now (length params.old)))
+        × (params.new ≡ params_after params.old (method_of strict s.now (length params.old))) }
 {
     if params.len() < PARAMETERS {
         return refused(SHORT, 0, 0);

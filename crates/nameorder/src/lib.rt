@@ -1,12 +1,12 @@
 // How names stand to each other, byte by byte.
 ghost use Rattle.std.specs.Prelude.{◌≡◌, not, ◌&&◌, ◌+◌, ◌≤◌, min, ltb, length, drop};
 ghost use Rattle.std.proofs.Math.Seq.{slice};
-ghost use Rattle.order.specs.Compare.{compareNumbers, compareLists, isLess, isEqual};
+ghost use Rattle.order.specs.Compare.{compare_numbers, compare_lists, is_less, is_equal};
 
 use order::Order;
 
 fn compare_numbers(a: u64, b: u64) -> Order
-    ensures { result ≡ compareNumbers a b }
+    ensures { result ≡ compare_numbers a b }
 {
     if a < b {
         return Order::Less;
@@ -34,7 +34,7 @@ fn smaller(a: usize, b: usize) -> usize
 
 // How two names stand to each other: byte by byte, a prefix first.
 pub fn compare_names(a: &[u8], b: &[u8]) -> Order
-    ensures { result ≡ compareLists a.now b.now }
+    ensures { result ≡ compare_lists a.now b.now }
 {
     let n = smaller(a.len(), b.len());
     let mut i: usize = 0;
@@ -50,7 +50,7 @@ pub fn compare_names(a: &[u8], b: &[u8]) -> Order
 // Whether the names differ in the eight bytes from i on. None ends the loop early, so that the machine compares them at once.
 fn differ_in_block(a: &[u8], b: &[u8], i: usize) -> bool
     requires { (i + 8 ≤ length a.now) × (i + 8 ≤ length b.now) }
-    ensures { result ≡ not (isEqual (compareLists (slice i (i + 8) a.now) (slice i (i + 8) b.now))) }
+    ensures { result ≡ not (is_equal (compare_lists (slice i (i + 8) a.now) (slice i (i + 8) b.now))) }
 {
     let mut differ = false;
     let mut k = 0;
@@ -67,7 +67,7 @@ fn differ_in_block(a: &[u8], b: &[u8], i: usize) -> bool
 fn skip_same(a: &[u8], b: &[u8], n: usize) -> usize
     requires { (n ≤ length a.now) × (n ≤ length b.now) }
     ensures { (result ≤ n)
-        × (compareLists a.now b.now ≡ compareLists (drop result a.now) (drop result b.now)) }
+        × (compare_lists a.now b.now ≡ compare_lists (drop result a.now) (drop result b.now)) }
 {
     let mut i: usize = 0;
     while 8 <= n - i {
@@ -81,7 +81,7 @@ fn skip_same(a: &[u8], b: &[u8], n: usize) -> usize
 
 // The same, of what is left after that.
 fn rest_is_not_above(last: &[u8], name: &[u8], count: u64) -> bool
-    ensures { result ≡ (ltb 0 count && not (isLess (compareLists last.now name.now))) }
+    ensures { result ≡ (ltb 0 count && not (is_less (compare_lists last.now name.now))) }
 {
     if count == 0 {
         return false;
@@ -96,7 +96,7 @@ fn rest_is_not_above(last: &[u8], name: &[u8], count: u64) -> bool
 
 // Whether the name is not above the last of `count`: past what the two have in common: names of a table often begin alike.
 pub fn is_not_above(last: &[u8], name: &[u8], count: u64) -> bool
-    ensures { result ≡ (ltb 0 count && not (isLess (compareLists last.now name.now))) }
+    ensures { result ≡ (ltb 0 count && not (is_less (compare_lists last.now name.now))) }
 {
     let i = skip_same(last, name, smaller(last.len(), name.len()));
     rest_is_not_above(&last[i..], &name[i..], count)

@@ -3,20 +3,20 @@ use Rattle.std.specs.Prelude.{◌≡◌, refl, true, false, cond, List, [], ◌�
 use Rattle.std.proofs.Common.{sym, ap, ◌∙◌, arith}
 use Rattle.std.proofs.Math.Option.{Option, some, none}
 use Rattle.order.specs.Laws.{lists-same, lists-equal}
-use Rattle.order.specs.Compare.{compareLists, isEqual}
+use Rattle.order.specs.Compare.{compare_lists, is_equal}
 use Rattle.order.specs.declared.Order.{Order}
 use Rattle.order.specs.declared.Order.TheVariants.{Less, Equal, Greater}
 use Rattle.names.specs.declared.LookedUp.{LookedUp}
-use Rattle.names.specs.Names.{name_of, name_at, next, checkNames, lookup, found, lookUp}
+use Rattle.names.specs.Names.{name_of, name_at, next, check_names, lookup, found, look_up}
 use Rattle.names.specs.Table.{Checked, number-of-name}
 
-same_bytes : (a b : List ℕ) → a ≡ b → isEqual (compareLists a b) ≡ true
-same_bytes a b e = ap (λ (l : List ℕ). isEqual (compareLists a l)) (sym e) ∙ ap isEqual (lists-same a)
+same-bytes : (a b : List ℕ) → a ≡ b → is_equal (compare_lists a b) ≡ true
+same-bytes a b e = ap (λ (l : List ℕ). is_equal (compare_lists a l)) (sym e) ∙ ap is_equal (lists-same a)
 
-other-bytes : (a b : List ℕ) → (a ≡ b → ⊥) → isEqual (compareLists a b) ≡ false
-other-bytes a b ne = go (compareLists a b) refl
+other-bytes : (a b : List ℕ) → (a ≡ b → ⊥) → is_equal (compare_lists a b) ≡ false
+other-bytes a b ne = go (compare_lists a b) refl
   where
-    go : (o : Order) → compareLists a b ≡ o → isEqual o ≡ false
+    go : (o : Order) → compare_lists a b ≡ o → is_equal o ≡ false
     go Less e = refl
     go Equal e = absurd (ne (lists-equal a b e))
     go Greater e = refl
@@ -36,7 +36,7 @@ pub lookup-some : (bytes ats lens key : List ℕ) (i : ℕ) → length ats ≡ l
 unfolding lookup
 lookup-some bytes [] lens key i e h here absent = absurd (omega arith)
 lookup-some bytes (at ∷ ats) [] key i e h here absent = absurd (omega arith)
-lookup-some bytes (at ∷ ats) (len ∷ lens) key zero e h here absent = rw (same_bytes (name_of bytes at len) key here)
+lookup-some bytes (at ∷ ats) (len ∷ lens) key zero e h here absent = rw (same-bytes (name_of bytes at len) key here)
 lookup-some bytes (at ∷ ats) (len ∷ lens) key (suc i) e h here absent =
     rw (
       other-bytes (name_of bytes at len) key (absent 0 (omega arith)),
@@ -60,17 +60,17 @@ pub lookup-told : (bytes ats lens key : List ℕ) (i : ℕ) → lookup bytes ats
 unfolding lookup
 lookup-told bytes [] lens key i h = absurd (none-not-some i h)
 lookup-told bytes (at ∷ ats) [] key i h = absurd (none-not-some i h)
-lookup-told bytes (at ∷ ats) (len ∷ lens) key zero h = go (compareLists (name_of bytes at len) key) refl h
+lookup-told bytes (at ∷ ats) (len ∷ lens) key zero h = go (compare_lists (name_of bytes at len) key) refl h
   where
-    go : (o : Order) → compareLists (name_of bytes at len) key ≡ o → cond (isEqual o) (some 0) (next (lookup bytes ats lens key)) ≡ some 0
+    go : (o : Order) → compare_lists (name_of bytes at len) key ≡ o → cond (is_equal o) (some 0) (next (lookup bytes ats lens key)) ≡ some 0
         → (0 < suc (length ats)) × (name_of bytes at len ≡ key)
     go Less e h = absurd (next-not-zero (lookup bytes ats lens key) h)
     go Equal e h = (omega arith, lists-equal (name_of bytes at len) key e)
     go Greater e h = absurd (next-not-zero (lookup bytes ats lens key) h)
 lookup-told bytes (at ∷ ats) (len ∷ lens) key (suc i) h =
-    let t = lookup-told bytes ats lens key i (go (compareLists (name_of bytes at len) key) h) in (omega arith, t.1)
+    let t = lookup-told bytes ats lens key i (go (compare_lists (name_of bytes at len) key) h) in (omega arith, t.1)
   where
-    go : (o : Order) → cond (isEqual o) (some 0) (next (lookup bytes ats lens key)) ≡ some (suc i) → lookup bytes ats lens key ≡ some i
+    go : (o : Order) → cond (is_equal o) (some 0) (next (lookup bytes ats lens key)) ≡ some (suc i) → lookup bytes ats lens key ≡ some i
     go Less h = next-suc (lookup bytes ats lens key) i h
     go Equal h = let z : ◌≡◌ {A = ℕ} 0 (suc i) = cc in absurd (omega arith)
     go Greater h = next-suc (lookup bytes ats lens key) i h
@@ -87,13 +87,13 @@ lookup-is bytes ats lens key c i = (
 
 -- ---- the whole answer
 
-pub look-refused : (bytes ats lens key : List ℕ) (k : ℕ) → k ≡ checkNames bytes ats lens → (k ≡ 0 → ⊥)
-    → lookUp bytes ats lens key ≡ record { refusal = k; class_no = 0 }
-unfolding lookUp
+pub look-refused : (bytes ats lens key : List ℕ) (k : ℕ) → k ≡ check_names bytes ats lens → (k ≡ 0 → ⊥)
+    → look_up bytes ats lens key ≡ record { refusal = k; class_no = 0 }
+unfolding look_up
 look-refused bytes ats lens key zero e z = absurd (z refl)
 look-refused bytes ats lens key (suc k) e z = rw (← e)
 
-pub look-searched : (bytes ats lens key : List ℕ) (k : ℕ) (r : LookedUp) → k ≡ checkNames bytes ats lens → k ≡ 0
-    → r ≡ found (lookup bytes ats lens key) → r ≡ lookUp bytes ats lens key
-unfolding lookUp
+pub look-searched : (bytes ats lens key : List ℕ) (k : ℕ) (r : LookedUp) → k ≡ check_names bytes ats lens → k ≡ 0
+    → r ≡ found (lookup bytes ats lens key) → r ≡ look_up bytes ats lens key
+unfolding look_up
 look-searched bytes ats lens key k r e z f = rw (← e, z) f

@@ -2,16 +2,16 @@
 -- What a place must be, the order of names, their checks, and the number of a name.
 use Rattle.std.specs.Prelude.{Bool, cond, not, ◌&&◌, ◌||◌, List, [], ◌∷◌, ℕ, zero, suc, ◌+◌, ◌-◌, eqb, leb, ltb, length, get_or, take, drop}
 use Rattle.std.proofs.Math.Option.{Option, some, none}
-use Rattle.order.specs.Compare.{isLess, isEqual, compareLists}
-use Rattle.utf8.specs.Utf8.{wellFormed}
+use Rattle.order.specs.Compare.{is_less, is_equal, compare_lists}
+use Rattle.utf8.specs.Utf8.{well_formed}
 use Rattle.names.specs.declared.LookedUp.{LookedUp}
-use Rattle.checks.specs.Checks.{Check, check, firstRefusal, or_else}
+use Rattle.checks.specs.Checks.{Check, check, first_refusal, or_else}
 
 -- ---- places
 
 -- 1 to 255 bytes, all inside the slice; the difference does not overflow where the sum would
-unfoldable pub placeGood : ℕ → ℕ → ℕ → Bool
-placeGood size at len = leb 1 len && (leb len 255 && (leb at size && leb len (size - at)))
+unfoldable pub place_good : ℕ → ℕ → ℕ → Bool
+place_good size at len = leb 1 len && (leb len 255 && (leb at size && leb len (size - at)))
 
 abbrev pub name_of : List ℕ → ℕ → ℕ → List ℕ
 name_of bytes at len = take len (drop at bytes)
@@ -24,34 +24,34 @@ name_at bytes ats lens i = name_of bytes (get_or ats i 0) (get_or lens i 0)
 
 -- what is refused of a name, in this order: LENGTH, UTF8, NAMEORDER, ROOM
 -- `last`, `count`, `total`: the name before it, how many there were, and how many bytes they have
-unfoldable pub nameChecks : List ℕ → List ℕ → ℕ → ℕ → List Check
-nameChecks last name count total =
+unfoldable pub name_checks : List ℕ → List ℕ → ℕ → ℕ → List Check
+name_checks last name count total =
     check (eqb (length name) 0 || ltb 255 (length name)) 3
-    ∷ check (not (wellFormed name)) 10
-    ∷ check (ltb 0 count && not (isLess (compareLists last name))) 5
+    ∷ check (not (well_formed name)) 10
+    ∷ check (ltb 0 count && not (is_less (compare_lists last name))) 5
     ∷ check (leb 1024 count || ltb 24576 (total + length name)) 8
     ∷ []
 
-unfoldable pub checkName : List ℕ → List ℕ → ℕ → ℕ → ℕ
-checkName last name count total = firstRefusal (nameChecks last name count total)
+unfoldable pub check_name : List ℕ → List ℕ → ℕ → ℕ → ℕ
+check_name last name count total = first_refusal (name_checks last name count total)
 
 -- ---- the checks of a table
 
 -- one row: its place, then its name
-unfoldable pub checkRow : List ℕ → ℕ → ℕ → List ℕ → ℕ → ℕ → ℕ
-checkRow bytes at len last count total =
-    firstRefusal (check (not (placeGood (length bytes) at len)) 3 ∷ nameChecks last (name_of bytes at len) count total)
+unfoldable pub check_row : List ℕ → ℕ → ℕ → List ℕ → ℕ → ℕ → ℕ
+check_row bytes at len last count total =
+    first_refusal (check (not (place_good (length bytes) at len)) 3 ∷ name_checks last (name_of bytes at len) count total)
 
 -- row by row
-unfoldable pub checkRows : List ℕ → List ℕ → List ℕ → List ℕ → ℕ → ℕ → ℕ
-checkRows bytes [] lens last count total = 0
-checkRows bytes (at ∷ ats) [] last count total = 0
-checkRows bytes (at ∷ ats) (len ∷ lens) last count total =
-    or_else (checkRow bytes at len last count total) (checkRows bytes ats lens (name_of bytes at len) (suc count) (total + len))
+unfoldable pub check_rows : List ℕ → List ℕ → List ℕ → List ℕ → ℕ → ℕ → ℕ
+check_rows bytes [] lens last count total = 0
+check_rows bytes (at ∷ ats) [] last count total = 0
+check_rows bytes (at ∷ ats) (len ∷ lens) last count total =
+    or_else (check_row bytes at len last count total) (check_rows bytes ats lens (name_of bytes at len) (suc count) (total + len))
 
 -- columns of unequal length first
-unfoldable pub checkNames : List ℕ → List ℕ → List ℕ → ℕ
-checkNames bytes ats lens = cond (eqb (length ats) (length lens)) (checkRows bytes ats lens [] 0 0) 3
+unfoldable pub check_names : List ℕ → List ℕ → List ℕ → ℕ
+check_names bytes ats lens = cond (eqb (length ats) (length lens)) (check_rows bytes ats lens [] 0 0) 3
 
 -- ---- the number of a name
 
@@ -64,17 +64,17 @@ unfoldable pub lookup : List ℕ → List ℕ → List ℕ → List ℕ → Opti
 lookup bytes [] lens key = none
 lookup bytes (at ∷ ats) [] key = none
 lookup bytes (at ∷ ats) (len ∷ lens) key =
-    cond (isEqual (compareLists (name_of bytes at len) key)) (some 0) (next (lookup bytes ats lens key))
+    cond (is_equal (compare_lists (name_of bytes at len) key)) (some 0) (next (lookup bytes ats lens key))
 
 -- ABSENT, or the number
 abbrev pub found : Option ℕ → LookedUp
 found none = record { refusal = 23; class_no = 0 }
 found (some i) = record { refusal = 0; class_no = i }
 
-abbrev pub refusedOr : ℕ → LookedUp → LookedUp
-refusedOr zero r = r
-refusedOr (suc k) r = record { refusal = suc k; class_no = 0 }
+abbrev pub refused_or : ℕ → LookedUp → LookedUp
+refused_or zero r = r
+refused_or (suc k) r = record { refusal = suc k; class_no = 0 }
 
 -- the table's refusal; else what the search says
-unfoldable pub lookUp : List ℕ → List ℕ → List ℕ → List ℕ → LookedUp
-lookUp bytes ats lens key = refusedOr (checkNames bytes ats lens) (found (lookup bytes ats lens key))
+unfoldable pub look_up : List ℕ → List ℕ → List ℕ → List ℕ → LookedUp
+look_up bytes ats lens key = refused_or (check_names bytes ats lens) (found (lookup bytes ats lens key))

@@ -1,7 +1,7 @@
 // Names of classes as places in a byte slice: their checks, and the number of a name.
 ghost use Rattle.std.specs.Prelude.{◌≡◌, ◌||◌, ◌+◌, ◌-◌, ◌≤◌, leb, ltb, length};
-ghost use Rattle.order.specs.Compare.{compareLists};
-ghost use Rattle.names.specs.Names.{placeGood, name_of, checkName, checkRow, checkNames, found, lookup, lookUp};
+ghost use Rattle.order.specs.Compare.{compare_lists};
+ghost use Rattle.names.specs.Names.{place_good, name_of, check_name, check_row, check_names, found, lookup, look_up};
 
 use nameorder::{compare_names, is_not_above};
 use order::Order;
@@ -47,7 +47,7 @@ fn is_full(length: u64, count: u64, total: u64) -> bool
 
 // The refusal of a name after `count` others that have `total` bytes, the last of them `last`; 0 where there is none.
 pub fn check_name(last: &[u8], name: &[u8], count: u64, total: u64) -> u64
-    ensures { result ≡ checkName last.now name.now count total }
+    ensures { result ≡ check_name last.now name.now count total }
 {
     let n = name.len();
     if n == 0 {
@@ -70,7 +70,7 @@ pub fn check_name(last: &[u8], name: &[u8], count: u64, total: u64) -> u64
 
 // Whether len bytes from at on are 1 to 255 bytes inside a slice of that size.
 fn is_place(size: u64, at: u64, len: u64) -> bool
-    ensures { result ≡ placeGood size at len }
+    ensures { result ≡ place_good size at len }
 {
     if len == 0 {
         return false;
@@ -87,7 +87,7 @@ fn is_place(size: u64, at: u64, len: u64) -> bool
 // The refusal of one row, after `count` others that have `total` bytes; the last of them has `span` bytes at `last`.
 fn check_row(names: &[u8], last: u64, span: u64, at: u64, len: u64, count: u64, total: u64) -> u64
     requires { (last ≤ length names.now) × (span ≤ length names.now - last) }
-    ensures { result ≡ checkRow names.now at len (name_of names.now last span) count total }
+    ensures { result ≡ check_row names.now at len (name_of names.now last span) count total }
 {
     if !is_place(names.len() as u64, at, len) {
         return LENGTH;
@@ -101,7 +101,7 @@ fn check_row(names: &[u8], last: u64, span: u64, at: u64, len: u64, count: u64, 
 
 // The refusal of a table of names; 0 where there is none.
 pub fn check_names(names: &[u8], name_at: &[u64], name_len: &[u64]) -> u64
-    ensures { result ≡ checkNames names.now name_at.now name_len.now }
+    ensures { result ≡ check_names names.now name_at.now name_len.now }
 {
     if name_at.len() != name_len.len() {
         return LENGTH;
@@ -128,7 +128,7 @@ pub fn check_names(names: &[u8], name_at: &[u64], name_len: &[u64]) -> u64
 // How the name at a place stands to the key.
 fn compare_at(names: &[u8], at: u64, len: u64, key: &[u8]) -> Order
     requires { (at ≤ length names.now) × (len ≤ length names.now - at) }
-    ensures { result ≡ compareLists (name_of names.now at len) key.now }
+    ensures { result ≡ compare_lists (name_of names.now at len) key.now }
 {
     let start = at as usize;
     let end = start + len as usize;
@@ -137,7 +137,7 @@ fn compare_at(names: &[u8], at: u64, len: u64, key: &[u8]) -> Order
 
 // The number of the key among checked names, by halving.
 fn search(names: &[u8], name_at: &[u64], name_len: &[u64], key: &[u8]) -> LookedUp
-    requires { checkNames names.now name_at.now name_len.now ≡ 0 }
+    requires { check_names names.now name_at.now name_len.now ≡ 0 }
     ensures { result ≡ found (lookup names.now name_at.now name_len.now key.now) }
 {
     let mut low: usize = 0;
@@ -168,7 +168,7 @@ fn search(names: &[u8], name_at: &[u64], name_len: &[u64], key: &[u8]) -> Looked
 
 // The number of the key among names that are checked first.
 pub fn look_up(names: &[u8], name_at: &[u64], name_len: &[u64], key: &[u8]) -> LookedUp
-    ensures { result ≡ lookUp names.now name_at.now name_len.now key.now }
+    ensures { result ≡ look_up names.now name_at.now name_len.now key.now }
 {
     let refusal = check_names(names, name_at, name_len);
     if refusal != 0 {

@@ -3,15 +3,15 @@ use Rattle.std.specs.Prelude.{Bool, true, false, cond, List, [], ◌∷◌, ℕ,
 use Rattle.order.specs.declared.Order.{Order}
 use Rattle.order.specs.declared.Order.TheVariants.{Less, Equal, Greater}
 
-abbrev pub isLess : Order → Bool
-isLess Less = true
-isLess Equal = false
-isLess Greater = false
+abbrev pub is_less : Order → Bool
+is_less Less = true
+is_less Equal = false
+is_less Greater = false
 
-abbrev pub isEqual : Order → Bool
-isEqual Less = false
-isEqual Equal = true
-isEqual Greater = false
+abbrev pub is_equal : Order → Bool
+is_equal Less = false
+is_equal Equal = true
+is_equal Greater = false
 
 -- the answer for the arguments exchanged
 abbrev pub flip : Order → Order
@@ -25,18 +25,18 @@ then Less o = Less
 then Equal o = o
 then Greater o = Greater
 
-unfoldable pub compareNumbers : ℕ → ℕ → Order
-compareNumbers a b = cond (ltb a b) Less (cond (ltb b a) Greater Equal)
+unfoldable pub compare_numbers : ℕ → ℕ → Order
+compare_numbers a b = cond (ltb a b) Less (cond (ltb b a) Greater Equal)
 
 -- left to right, a shorter prefix first
-unfoldable pub compareLists : List ℕ → List ℕ → Order
-compareLists [] [] = Equal
-compareLists [] (y ∷ ys) = Less
-compareLists (x ∷ xs) [] = Greater
-compareLists (x ∷ xs) (y ∷ ys) = then (compareNumbers x y) (compareLists xs ys)
+unfoldable pub compare_lists : List ℕ → List ℕ → Order
+compare_lists [] [] = Equal
+compare_lists [] (y ∷ ys) = Less
+compare_lists (x ∷ xs) [] = Greater
+compare_lists (x ∷ xs) (y ∷ ys) = then (compare_numbers x y) (compare_lists xs ys)
 
 -- the number of each answer
-unfoldable pub orderNumber : Order → ℕ
-orderNumber Less = 0
-orderNumber Equal = 1
-orderNumber Greater = 2
+unfoldable pub order_number : Order → ℕ
+order_number Less = 0
+order_number Equal = 1
+order_number Greater = 2

@@ -20,18 +20,18 @@ same-eq false true h = absurd (false≢true h)
 same-eq false false h = refl
 
 -- whether p says true of each number below n
-unfoldable pub testBelow : ℕ → (ℕ → Bool) → Bool
-testBelow zero p = true
-testBelow (suc n) p = p n && testBelow n p
+unfoldable pub test_below : ℕ → (ℕ → Bool) → Bool
+test_below zero p = true
+test_below (suc n) p = p n && test_below n p
 
-pub tested-below : (n : ℕ) (p : ℕ → Bool) (k : ℕ) → k < n → testBelow n p ≡ true → p k ≡ true
-unfolding testBelow
+pub tested-below : (n : ℕ) (p : ℕ → Bool) (k : ℕ) → k < n → test_below n p ≡ true → p k ≡ true
+unfolding test_below
 tested-below zero p k l h = absurd (omega arith)
 tested-below (suc n) p k l h = go (ℕ_discrete k n) (tested-below n p k)
   where
-    b : (p n ≡ true) × (testBelow n p ≡ true)
-    b = both (p n) (testBelow n p) h
+    b : (p n ≡ true) × (test_below n p ≡ true)
+    b = both (p n) (test_below n p) h
 
-    go : Dec (k ≡ n) → (k < n → testBelow n p ≡ true → p k ≡ true) → p k ≡ true
+    go : Dec (k ≡ n) → (k < n → test_below n p ≡ true → p k ≡ true) → p k ≡ true
     go (yes e) ih = ap p e ∙ b.0
     go (no e) ih = ih (omega arith) b.1

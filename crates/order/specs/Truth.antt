@@ -8,18 +8,18 @@ both true true h = (refl, refl)
 both true false h = absurd (false≢true h)
 both false b h = absurd (false≢true h)
 
-pub and_left : (a b : Bool) → (a && b) ≡ true → a ≡ true
-and_left a b h = (both a b h).0
+pub and-left : (a b : Bool) → (a && b) ≡ true → a ≡ true
+and-left a b h = (both a b h).0
 
-pub and_right : (a b : Bool) → (a && b) ≡ true → b ≡ true
-and_right a b h = (both a b h).1
+pub and-right : (a b : Bool) → (a && b) ≡ true → b ≡ true
+and-right a b h = (both a b h).1
 
-pub and_both : (a b : Bool) → a ≡ true → b ≡ true → (a && b) ≡ true
-and_both a b p q = ap₂ ◌&&◌ p q
+pub and-both : (a b : Bool) → a ≡ true → b ≡ true → (a && b) ≡ true
+and-both a b p q = ap₂ ◌&&◌ p q
 
-pub and_assoc : (a b c : Bool) → (a && (b && c)) ≡ ((a && b) && c)
-and_assoc true b c = refl
-and_assoc false b c = refl
+pub and-assoc : (a b c : Bool) → (a && (b && c)) ≡ ((a && b) && c)
+and-assoc true b c = refl
+and-assoc false b c = refl
 
 -- two that imply each other are the same
 pub implied-both : (a b : Bool) → (a ≡ true → b ≡ true) → (b ≡ true → a ≡ true) → a ≡ b

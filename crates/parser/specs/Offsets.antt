@@ -12,13 +12,13 @@ pick_n true a b = a
 pick_n false a b = b
 
 -- DescriptorParser::peek
-abbrev pub byteAt : List ℕ → ℕ → Next
-byteAt s at = pick (ltb at (length s)) (Byte (get_or s at 0)) End
+abbrev pub byte_at : List ℕ → ℕ → Next
+byte_at s at = pick (ltb at (length s)) (Byte (get_or s at 0)) End
 
 -- DescriptorParser::consume: the offset after the byte b, or the same where another or none stands there
-abbrev pub consumeAt : List ℕ → ℕ → ℕ → ℕ
-consumeAt s at b = pick_n (ltb at (length s)) (pick_n (eqb (get_or s at 0) b) (at + 1) at) at
+abbrev pub consume_at : List ℕ → ℕ → ℕ → ℕ
+consume_at s at b = pick_n (ltb at (length s)) (pick_n (eqb (get_or s at 0) b) (at + 1) at) at
 
 -- DescriptorParser::finish: 15 where bytes are left
-abbrev pub finishAt : List ℕ → ℕ → ℕ
-finishAt s at = pick_n (eqb at (length s)) 0 15
+abbrev pub finish_at : List ℕ → ℕ → ℕ
+finish_at s at = pick_n (eqb at (length s)) 0 15

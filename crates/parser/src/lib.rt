@@ -1,7 +1,7 @@
 // DescriptorParser of ty.rs: the caller's bytes with an offset, and thin functions over it.
 ghost use Rattle.std.specs.Prelude.{◌≡◌, true, drop};
-ghost use Rattle.descriptor.specs.Read.{readType};
-ghost use Rattle.parser.specs.Offsets.{byteAt, consumeAt, finishAt};
+ghost use Rattle.descriptor.specs.Read.{read_type};
+ghost use Rattle.parser.specs.Offsets.{byte_at, consume_at, finish_at};
 
 use descriptor::Read;
 
@@ -20,7 +20,7 @@ pub enum Next {
 // ---- the work, on a slice and an offset
 
 fn byte_at(s: &[u8], at: usize) -> Next
-    ensures { result ≡ byteAt s.now at }
+    ensures { result ≡ byte_at s.now at }
 {
     if at < s.len() {
         Next::Byte(s[at])
@@ -31,7 +31,7 @@ fn byte_at(s: &[u8], at: usize) -> Next
 
 // The offset after the byte b, if it stands there; the same offset if not.
 fn consume_at(s: &[u8], at: usize, b: u8) -> usize
-    ensures { result ≡ consumeAt s.now at b }
+    ensures { result ≡ consume_at s.now at b }
 {
     if s.len() <= at {
         return at;
@@ -43,14 +43,14 @@ fn consume_at(s: &[u8], at: usize, b: u8) -> usize
 }
 
 fn type_at(s: &[u8], at: usize, void: bool) -> Read
-    ensures { result ≡ readType (drop at s.now) at void 0 }
+    ensures { result ≡ read_type (drop at s.now) at void 0 }
 {
     descriptor::read_type(s, at, void)
 }
 
 // Refusal 15 where bytes are left.
 fn finish_at(s: &[u8], at: usize) -> u64
-    ensures { result ≡ finishAt s.now at }
+    ensures { result ≡ finish_at s.now at }
 {
     if at == s.len() {
         return 0;
@@ -77,32 +77,32 @@ pub fn moved<'a>(p: DescriptorParser<'a>, to: usize) -> DescriptorParser<'a>
 }
 
 pub fn peek<'a>(p: DescriptorParser<'a>) -> Next
-    ensures { result ≡ byteAt p.entry.bytes.now p.entry.offset }
+    ensures { result ≡ byte_at p.entry.bytes.now p.entry.offset }
 {
     byte_at(p.bytes, p.offset)
 }
 
 pub fn consume<'a>(p: DescriptorParser<'a>, expected: u8) -> usize
-    ensures { result ≡ consumeAt p.entry.bytes.now p.entry.offset expected }
+    ensures { result ≡ consume_at p.entry.bytes.now p.entry.offset expected }
 {
     consume_at(p.bytes, p.offset, expected)
 }
 
 pub fn ty<'a>(p: DescriptorParser<'a>, void: bool) -> Read
-    ensures { result ≡ readType (drop p.entry.offset p.entry.bytes.now) p.entry.offset void 0 }
+    ensures { result ≡ read_type (drop p.entry.offset p.entry.bytes.now) p.entry.offset void 0 }
 {
     type_at(p.bytes, p.offset, void)
 }
 
 pub fn finish<'a>(p: DescriptorParser<'a>) -> u64
-    ensures { result ≡ finishAt p.entry.bytes.now p.entry.offset }
+    ensures { result ≡ finish_at p.entry.bytes.now p.entry.offset }
 {
     finish_at(p.bytes, p.offset)
 }
 
 // The type at the front of the bytes: plain parameters, so who calls it need not know the parser.
 pub fn first_type(s: &[u8]) -> Read
-    ensures { result ≡ readType s.now 0 true 0 }
+    ensures { result ≡ read_type s.now 0 true 0 }
 {
     ty(new(s), true)
 }

@@ -4,10 +4,10 @@ ghost use Rattle.std.specs.Prelude.{◌≡◌, map, ◌<◌};
 ghost use Rattle.sorted.specs.Sorted.{Sorted};
 ghost use Rattle.keys.specs.Rank.{unrank};
 ghost use Rattle.solving.specs.Queue.{Below};
-ghost use Rattle.solving.specs.Solving.{partners, toOne, toEach, arrayRules};
-ghost use Rattle.solving.specs.Steps.{arrayRule};
+ghost use Rattle.solving.specs.Solving.{partners, to_one, to_each, array_rules};
+ghost use Rattle.solving.specs.Steps.{array_rule};
 ghost use Rattle.solving.specs.LinkKeys.{pair_of};
-ghost use Rattle.inserting.specs.Store.{store, put_all, sentTypes, AllRanked, Sendable, Ready};
+ghost use Rattle.inserting.specs.Store.{store, put_all, sent_types, AllRanked, Sendable, Ready};
 ghost use Rattle.passing.specs.Passes.{seconds};
 
 use inserting::{Sent, State, insert_bound, insert_sent};
@@ -15,7 +15,7 @@ use inserting::{Sent, State, insert_bound, insert_sent};
 // What is sent, to the second of each link.
 fn send_each(a: &mut [u64], ring: &mut [u64], s: State, links: &[u64], kind: u64, t: Sent) -> State
     requires { Ready (store a.old ring.old s) × (kind < 5) × Sendable t }
-    ensures { store a.new ring.new result ≡ put_all (toEach 0 kind (sentTypes t) (seconds links.now)) (store a.old ring.old s) }
+    ensures { store a.new ring.new result ≡ put_all (to_each 0 kind (sent_types t) (seconds links.now)) (store a.old ring.old s) }
 {
     let mut state = s;
     let mut i: usize = 0;
@@ -40,7 +40,7 @@ pub fn send(
     t: Sent,
 ) -> State
     requires { Ready (store a.old ring.old s) × (kind < 5) × Sendable t × Sorted links.now }
-    ensures { store a.new ring.new result ≡ put_all (toEach 0 kind (sentTypes t) (partners root (map pair_of links.now))) (store a.old ring.old s) }
+    ensures { store a.new ring.new result ≡ put_all (to_each 0 kind (sent_types t) (partners root (map pair_of links.now))) (store a.old ring.old s) }
 {
     let of = sorted::run(links, links.len(), 512, root);
     let first = of.first;
@@ -58,7 +58,7 @@ fn send_ranks_to(
     kind: u64,
 ) -> State
     requires { Ready (store a.old ring.old s) × (component < 512) × (kind < 5) × AllRanked ranks.now }
-    ensures { store a.new ring.new result ≡ put_all (toOne 0 kind (map unrank ranks.now) component) (store a.old ring.old s) }
+    ensures { store a.new ring.new result ≡ put_all (to_one 0 kind (map unrank ranks.now) component) (store a.old ring.old s) }
 {
     let mut state = s;
     let mut i: usize = 0;
@@ -82,7 +82,7 @@ fn send_ranks_each(
     ranks: &[u64],
 ) -> State
     requires { Ready (store a.old ring.old s) × (kind < 5) × AllRanked ranks.now }
-    ensures { store a.new ring.new result ≡ put_all (toEach 0 kind (map unrank ranks.now) (seconds links.now)) (store a.old ring.old s) }
+    ensures { store a.new ring.new result ≡ put_all (to_each 0 kind (map unrank ranks.now) (seconds links.now)) (store a.old ring.old s) }
 {
     let mut state = s;
     let mut i: usize = 0;
@@ -107,7 +107,7 @@ pub fn send_ranks(
     ranks: &[u64],
 ) -> State
     requires { Ready (store a.old ring.old s) × (kind < 5) × AllRanked ranks.now × Sorted links.now }
-    ensures { store a.new ring.new result ≡ put_all (toEach 0 kind (map unrank ranks.now) (partners root (map pair_of links.now))) (store a.old ring.old s) }
+    ensures { store a.new ring.new result ≡ put_all (to_each 0 kind (map unrank ranks.now) (partners root (map pair_of links.now))) (store a.old ring.old s) }
 {
     let of = sorted::run(links, links.len(), 512, root);
     let first = of.first;
@@ -127,7 +127,7 @@ fn send_array(
     array: Sent,
 ) -> State
     requires { Ready (store a.old ring.old s) × (link < 262144) × (kind < 5) × Sendable element × Sendable array }
-    ensures { store a.new ring.new result ≡ put_all (arrayRule 0 kind (sentTypes element) 0 (sentTypes array) root (pair_of link)) (store a.old ring.old s) }
+    ensures { store a.new ring.new result ≡ put_all (array_rule 0 kind (sent_types element) 0 (sent_types array) root (pair_of link)) (store a.old ring.old s) }
 {
     if link / 512 == root {
         return insert_sent(a, ring, s, link % 512, kind, element);
@@ -150,7 +150,7 @@ pub fn send_arrays(
     array: Sent,
 ) -> State
     requires { Ready (store a.old ring.old s) × Below 262144 links.now × (kind < 5) × Sendable element × Sendable array }
-    ensures { store a.new ring.new result ≡ put_all (arrayRules 0 kind (sentTypes element) 0 (sentTypes array) root (map pair_of links.now)) (store a.old ring.old s) }
+    ensures { store a.new ring.new result ≡ put_all (array_rules 0 kind (sent_types element) 0 (sent_types array) root (map pair_of links.now)) (store a.old ring.old s) }
 {
     let mut state = s;
     let mut i: usize = 0;

@@ -4,8 +4,8 @@ ghost use Rattle.std.specs.Prelude.{◌≡◌, true, ◌≤◌, ◌<◌, length,
 ghost use Rattle.std.proofs.Math.Seq.{paste};
 ghost use Rattle.sets.specs.Sets.{MembersBelow};
 ghost use Rattle.view.specs.View.{reached, reach, relation};
-ghost use Rattle.tables.specs.Table.{namesRoom, pairsRoom, view_of};
-ghost use Rattle.prepared.specs.Prepared.{tableRoom, has_row, Prepared, Laid};
+ghost use Rattle.tables.specs.Table.{names_room, pairs_room, view_of};
+ghost use Rattle.prepared.specs.Prepared.{table_room, has_row, Prepared, Laid};
 
 use ancestry::{fill, is_in, row_of, spread};
 use hierarchy::recorded;
@@ -45,7 +45,7 @@ pub fn reached_from(pairs: &[u64], marks: &[u64], t: Tables, x: u64) -> Set
 
 // Whether y is reached from x.
 pub fn reaches(pairs: &[u64], marks: &[u64], t: Tables, x: u64, y: u64) -> bool
-    requires { Prepared pairs.now marks.now t × (y < namesRoom) }
+    requires { Prepared pairs.now marks.now t × (y < names_room) }
     ensures { result ≡ reach (view_of pairs.now marks.now t) x y }
 {
     if has_row(pairs, t, x) {
@@ -101,7 +101,7 @@ fn copy_front(from: &[u64], n: usize, into: &mut [u64])
 
 // Into an empty table: the keys, and a row for each class that is reached from s.
 pub fn prepare(pairs: &[u64], marks: &[u64], t: Tables, s: Set, table: &mut [u64])
-    requires { (t.names ≤ namesRoom) × (t.object < t.names) × (t.pairs ≤ pairsRoom) × (t.pairs ≤ length pairs.now) × MembersBelow t.names s.words × (table.old ≡ replicate tableRoom 0) }
+    requires { (t.names ≤ names_room) × (t.object < t.names) × (t.pairs ≤ pairs_room) × (t.pairs ≤ length pairs.now) × MembersBelow t.names s.words × (table.old ≡ replicate table_room 0) }
     ensures { Laid (view_of pairs.now marks.now t) s.words t.pairs pairs.now table.new }
 {
     let above = spread(pairs, marks, t, s);

@@ -29,7 +29,7 @@ build-entries-one κs a r₁ r₂ x₁ x₂ p q = (
   p.flows-are ∙ sym q.flows-are,
   p.uppers-are ∙ sym q.uppers-are,
   p.reads-are ∙ sym q.reads-are,
-  p.writes_are ∙ sym q.writes_are,
+  p.writes-are ∙ sym q.writes-are,
 )
 
 pub build-problem-one : (κs : Lfts 17) (a : Dens κs build-problem-kinds.ps) (r₁ r₂ : (res_t build-problem-kinds.r κs).Denot)
@@ -46,5 +46,5 @@ build-problem-one κs a r₁ r₂ x₁ x₂ p q = (
   p.flows-are ∙ sym q.flows-are,
   p.uppers-are ∙ sym q.uppers-are,
   p.reads-are ∙ sym q.reads-are,
-  p.writes_are ∙ sym q.writes_are,
+  p.writes-are ∙ sym q.writes-are,
 )

@@ -2,30 +2,30 @@
 use Rattle.std.specs.Prelude.{◌≡◌, cond, List, [], ◌∷◌, ℕ, ◌-◌, eqb, length}
 use Rattle.rows.specs.Rows.{filled}
 use Rattle.problems.specs.Problems.{Columns}
-use Rattle.problemrows.specs.ProblemRows.{Ran, refused, taken, countRefusal, variableRow, pairRow, boundRow}
+use Rattle.problemrows.specs.ProblemRows.{Ran, refused, taken, count_refusal, variable_row, pair_row, bound_row}
 use Rattle.problemcolumns.specs.declared.ProblemCounts.{ProblemCounts}
 use Rattle.lending.specs.Lending.{Slice, came, became}
 
 -- row by row; the first refusal ends
-unfoldable pub variableRun : ℕ → List ℕ → List ℕ → Ran
-variableRun components [] l = taken l
-variableRun components (c ∷ cs) l = cond (eqb (variableRow components c l).refusal 0) (variableRun components cs (variableRow components c l).entries) (variableRow components c l)
+unfoldable pub variable_run : ℕ → List ℕ → List ℕ → Ran
+variable_run components [] l = taken l
+variable_run components (c ∷ cs) l = cond (eqb (variable_row components c l).refusal 0) (variable_run components cs (variable_row components c l).entries) (variable_row components c l)
 
-unfoldable pub boundRun : ℕ → ℕ → List ℕ → List ℕ → List ℕ → List ℕ → Ran
-boundRun names components [] ks ws l = taken l
-boundRun names components (c ∷ cs) [] ws l = taken l
-boundRun names components (c ∷ cs) (k ∷ ks) [] l = taken l
-boundRun names components (c ∷ cs) (k ∷ ks) (w ∷ ws) l =
-    cond (eqb (boundRow names components c k w l).refusal 0) (boundRun names components cs ks ws (boundRow names components c k w l).entries) (boundRow names components c k w l)
+unfoldable pub bound_run : ℕ → ℕ → List ℕ → List ℕ → List ℕ → List ℕ → Ran
+bound_run names components [] ks ws l = taken l
+bound_run names components (c ∷ cs) [] ws l = taken l
+bound_run names components (c ∷ cs) (k ∷ ks) [] l = taken l
+bound_run names components (c ∷ cs) (k ∷ ks) (w ∷ ws) l =
+    cond (eqb (bound_row names components c k w l).refusal 0) (bound_run names components cs ks ws (bound_row names components c k w l).entries) (bound_row names components c k w l)
 
-unfoldable pub pairRun : ℕ → ℕ → List ℕ → List ℕ → List ℕ → Ran
-pairRun components room [] ys l = taken l
-pairRun components room (x ∷ xs) [] l = taken l
-pairRun components room (x ∷ xs) (y ∷ ys) l = cond (eqb (pairRow components room x y l).refusal 0) (pairRun components room xs ys (pairRow components room x y l).entries) (pairRow components room x y l)
+unfoldable pub pair_run : ℕ → ℕ → List ℕ → List ℕ → List ℕ → Ran
+pair_run components room [] ys l = taken l
+pair_run components room (x ∷ xs) [] l = taken l
+pair_run components room (x ∷ xs) (y ∷ ys) l = cond (eqb (pair_row components room x y l).refusal 0) (pair_run components room xs ys (pair_row components room x y l).entries) (pair_row components room x y l)
 
 -- the count, and the variables after it
-unfoldable pub headRefusal : ℕ → List ℕ → ℕ
-headRefusal components variables = cond (eqb (countRefusal components) 0) (variableRun components variables []).refusal (countRefusal components)
+unfoldable pub head_refusal : ℕ → List ℕ → ℕ
+head_refusal components variables = cond (eqb (count_refusal components) 0) (variable_run components variables []).refusal (count_refusal components)
 
 -- one kind after others: no row is read where one of those was refused
 unfoldable pub after : ℕ → Ran → Ran
@@ -33,36 +33,36 @@ after refusal s = cond (eqb refusal 0) s (refused refusal [])
 
 -- ---- kind after kind
 
-unfoldable pub boundsRan : ℕ → Columns → Ran
-boundsRan names c = boundRun names c.components c.boundComponents c.boundKinds c.boundWords []
+unfoldable pub bounds_ran : ℕ → Columns → Ran
+bounds_ran names c = bound_run names c.components c.bound_components c.bound_kinds c.bound_words []
 
-unfoldable pub flowsRan : ℕ → Columns → Ran
-flowsRan names c = after (boundsRan names c).refusal (pairRun c.components 2048 c.flowSources c.flowTargets [])
+unfoldable pub flows_ran : ℕ → Columns → Ran
+flows_ran names c = after (bounds_ran names c).refusal (pair_run c.components 2048 c.flow_sources c.flow_targets [])
 
-unfoldable pub uppersRan : ℕ → Columns → Ran
-uppersRan names c = after (flowsRan names c).refusal (pairRun c.components 1024 c.upperSources c.upperTargets [])
+unfoldable pub uppers_ran : ℕ → Columns → Ran
+uppers_ran names c = after (flows_ran names c).refusal (pair_run c.components 1024 c.upper_sources c.upper_targets [])
 
-unfoldable pub readsRan : ℕ → Columns → Ran
-readsRan names c = after (uppersRan names c).refusal (pairRun c.components 1024 c.readArrays c.readResults [])
+unfoldable pub reads_ran : ℕ → Columns → Ran
+reads_ran names c = after (uppers_ran names c).refusal (pair_run c.components 1024 c.read_arrays c.read_results [])
 
-unfoldable pub writesRan : ℕ → Columns → Ran
-writesRan names c = after (readsRan names c).refusal (pairRun c.components (1024 - length (readsRan names c).entries) c.writeArrays c.writeValues [])
+unfoldable pub writes_ran : ℕ → Columns → Ran
+writes_ran names c = after (reads_ran names c).refusal (pair_run c.components (1024 - length (reads_ran names c).entries) c.write_arrays c.write_values [])
 
 -- what they leave
 pub record Enters (names : ℕ) (c : Columns) (bounds bounds' flows flows' uppers uppers' reads reads' writes writes' : List ℕ) (r : ProblemCounts) : Type 0 where
   pub counts-are : r ≡ record {
-    refusal = (writesRan names c).refusal;
-    bounds = length (boundsRan names c).entries;
-    flows = length (flowsRan names c).entries;
-    uppers = length (uppersRan names c).entries;
-    reads = length (readsRan names c).entries;
-    writes = length (writesRan names c).entries;
+    refusal = (writes_ran names c).refusal;
+    bounds = length (bounds_ran names c).entries;
+    flows = length (flows_ran names c).entries;
+    uppers = length (uppers_ran names c).entries;
+    reads = length (reads_ran names c).entries;
+    writes = length (writes_ran names c).entries;
   }
-  pub bounds-are : bounds' ≡ filled (boundsRan names c).entries bounds
-  pub flows-are : flows' ≡ filled (flowsRan names c).entries flows
-  pub uppers-are : uppers' ≡ filled (uppersRan names c).entries uppers
-  pub reads-are : reads' ≡ filled (readsRan names c).entries reads
-  pub writes_are : writes' ≡ filled (writesRan names c).entries writes
+  pub bounds-are : bounds' ≡ filled (bounds_ran names c).entries bounds
+  pub flows-are : flows' ≡ filled (flows_ran names c).entries flows
+  pub uppers-are : uppers' ≡ filled (uppers_ran names c).entries uppers
+  pub reads-are : reads' ≡ filled (reads_ran names c).entries reads
+  pub writes-are : writes' ≡ filled (writes_ran names c).entries writes
 
 -- of the slices that a function is lent
 abbrev pub EntersBy : ℕ → Columns → (bounds flows uppers reads writes : Slice) → ProblemCounts → Type 0

@@ -1,10 +1,10 @@
 // A problem from columns: the count, then row by row in order of kind; the first refusal wins. Variables stay where they are: where nothing
 // is refused, they are the column itself.
 ghost use Rattle.std.specs.Prelude.{◌≡◌, true, [], ◌≤◌, length};
-ghost use Rattle.problems.specs.Problems.{evenProblem};
+ghost use Rattle.problems.specs.Problems.{even_problem};
 ghost use Rattle.problemrows.specs.ProblemRows.{Adds};
-ghost use Rattle.problemcolumns.specs.ProblemColumns.{evenRows, Roomy, columnsAsked, columnsBy, TakenBy};
-ghost use Rattle.problemcolumns.specs.Runs.{variableRun, headRefusal, boundRun, pairRun, after, EntersBy};
+ghost use Rattle.problemcolumns.specs.ProblemColumns.{even_rows, Roomy, columns_asked, columns_by, TakenBy};
+ghost use Rattle.problemcolumns.specs.Runs.{variable_run, head_refusal, bound_run, pair_run, after, EntersBy};
 
 use problemrows::{
     ARRAYS, Added, FLOWS, UPPER_FLOWS, add_bound, add_pair, check_count, check_variable,
@@ -35,7 +35,7 @@ pub fn is_even_problem(
     write_arr: usize,
     write_val: usize,
 ) -> bool
-    ensures { result ≡ evenRows bnd_comp bnd_kind bnd_type flow_src flow_dst up_src up_dst read_arr read_res write_arr write_val }
+    ensures { result ≡ even_rows bnd_comp bnd_kind bnd_type flow_src flow_dst up_src up_dst read_arr read_res write_arr write_val }
 {
     if bnd_comp != bnd_kind {
         return false;
@@ -57,7 +57,7 @@ pub fn is_even_problem(
 
 // The refusal of the variables.
 fn check_variables(components: u64, var_comp: &[u64]) -> u64
-    ensures { result ≡ (variableRun components var_comp.now []).refusal }
+    ensures { result ≡ (variable_run components var_comp.now []).refusal }
 {
     let mut i: usize = 0;
     while i < var_comp.len() {
@@ -72,7 +72,7 @@ fn check_variables(components: u64, var_comp: &[u64]) -> u64
 
 // The refusal of the count, or of the variables after it.
 fn check_head(components: u64, var_comp: &[u64]) -> u64
-    ensures { result ≡ headRefusal components var_comp.now }
+    ensures { result ≡ head_refusal components var_comp.now }
 {
     let refusal = check_count(components);
     if refusal != 0 {
@@ -91,7 +91,7 @@ fn add_bounds(
     bounds: &mut [u64],
 ) -> Added
     requires { (names ≤ 1024) × (components ≤ 512) × (length bnd_comp.now ≡ length bnd_kind.now) × (length bnd_comp.now ≡ length bnd_type.now) × (4096 ≤ length bounds.old) }
-    ensures { Adds (boundRun names components bnd_comp.now bnd_kind.now bnd_type.now []) bounds.old bounds.new result }
+    ensures { Adds (bound_run names components bnd_comp.now bnd_kind.now bnd_type.now []) bounds.old bounds.new result }
 {
     let mut n: usize = 0;
     let mut i: usize = 0;
@@ -126,7 +126,7 @@ fn add_pairs(
     room: usize,
 ) -> Added
     requires { (components ≤ 512) × (length firsts.now ≡ length seconds.now) × (room ≤ length pairs.old) }
-    ensures { Adds (pairRun components room firsts.now seconds.now []) pairs.old pairs.new result }
+    ensures { Adds (pair_run components room firsts.now seconds.now []) pairs.old pairs.new result }
 {
     let mut n: usize = 0;
     let mut i: usize = 0;
@@ -154,7 +154,7 @@ fn add_pairs_after(
     room: usize,
 ) -> Added
     requires { (components ≤ 512) × (length firsts.now ≡ length seconds.now) × (room ≤ length pairs.old) }
-    ensures { Adds (after refusal (pairRun components room firsts.now seconds.now [])) pairs.old pairs.new result }
+    ensures { Adds (after refusal (pair_run components room firsts.now seconds.now [])) pairs.old pairs.new result }
 {
     if refusal != 0 {
         return Added {
@@ -187,8 +187,8 @@ fn build_entries(
     reads: &mut [u64],
     writes: &mut [u64],
 ) -> ProblemCounts
-    requires { (names ≤ 1024) × (components ≤ 512) × (evenProblem (columnsAsked components var_comp bnd_comp bnd_kind bnd_type flow_src flow_dst up_src up_dst read_arr read_res write_arr write_val) ≡ true) × Roomy bounds.old flows.old uppers.old reads.old writes.old }
-    ensures { EntersBy names (columnsBy components var_comp bnd_comp bnd_kind bnd_type flow_src flow_dst up_src up_dst read_arr read_res write_arr write_val) bounds flows uppers reads writes result }
+    requires { (names ≤ 1024) × (components ≤ 512) × (even_problem (columns_asked components var_comp bnd_comp bnd_kind bnd_type flow_src flow_dst up_src up_dst read_arr read_res write_arr write_val) ≡ true) × Roomy bounds.old flows.old uppers.old reads.old writes.old }
+    ensures { EntersBy names (columns_by components var_comp bnd_comp bnd_kind bnd_type flow_src flow_dst up_src up_dst read_arr read_res write_arr write_val) bounds flows uppers reads writes result }
 {
     let b = add_bounds(names, components, bnd_comp, bnd_kind, bnd_type, bounds);
     let f = add_pairs_after(b.refusal, components, flow_src, flow_dst, flows, FLOWS);
@@ -228,8 +228,8 @@ pub fn build_problem(
     reads: &mut [u64],
     writes: &mut [u64],
 ) -> ProblemCounts
-    requires { (names ≤ 1024) × (evenProblem (columnsAsked components var_comp bnd_comp bnd_kind bnd_type flow_src flow_dst up_src up_dst read_arr read_res write_arr write_val) ≡ true) × Roomy bounds.old flows.old uppers.old reads.old writes.old }
-    ensures { TakenBy names (columnsBy components var_comp bnd_comp bnd_kind bnd_type flow_src flow_dst up_src up_dst read_arr read_res write_arr write_val) bounds flows uppers reads writes result }
+    requires { (names ≤ 1024) × (even_problem (columns_asked components var_comp bnd_comp bnd_kind bnd_type flow_src flow_dst up_src up_dst read_arr read_res write_arr write_val) ≡ true) × Roomy bounds.old flows.old uppers.old reads.old writes.old }
+    ensures { TakenBy names (columns_by components var_comp bnd_comp bnd_kind bnd_type flow_src flow_dst up_src up_dst read_arr read_res write_arr write_val) bounds flows uppers reads writes result }
 {
     let refusal = check_head(components, var_comp);
     if refusal != 0 {

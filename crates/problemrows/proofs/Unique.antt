@@ -26,15 +26,15 @@ check-variable-one κs a r₁ r₂ x₁ x₂ p q = p ∙ sym q
 pub add-variable-one : (κs : Lfts 1) (a : Dens κs add-variable-kinds.ps) (r₁ r₂ : (res_t add-variable-kinds.r κs).Denot)
     (x₁ x₂ : AtExit (ended_of 1 add-variable-kinds.ps add-variable-kinds.r) κs) → add-variable.Post κs a r₁ x₁ → add-variable.Post κs a r₂ x₂
     → (r₁ ≡ r₂) × (x₁.1.0.now ≡ x₂.1.0.now)
-add-variable-one κs a r₁ r₂ x₁ x₂ p q = (p.added_is ∙ sym q.added_is, p.entries-are ∙ sym q.entries-are)
+add-variable-one κs a r₁ r₂ x₁ x₂ p q = (p.added-is ∙ sym q.added-is, p.entries-are ∙ sym q.entries-are)
 
 pub add-pair-one : (κs : Lfts 1) (a : Dens κs add-pair-kinds.ps) (r₁ r₂ : (res_t add-pair-kinds.r κs).Denot)
     (x₁ x₂ : AtExit (ended_of 1 add-pair-kinds.ps add-pair-kinds.r) κs) → add-pair.Post κs a r₁ x₁ → add-pair.Post κs a r₂ x₂
     → (r₁ ≡ r₂) × (x₁.1.0.now ≡ x₂.1.0.now)
-add-pair-one κs a r₁ r₂ x₁ x₂ p q = (p.added_is ∙ sym q.added_is, p.entries-are ∙ sym q.entries-are)
+add-pair-one κs a r₁ r₂ x₁ x₂ p q = (p.added-is ∙ sym q.added-is, p.entries-are ∙ sym q.entries-are)
 
 -- the third
 pub add-bound-one : (κs : Lfts 1) (a : Dens κs add-bound-kinds.ps) (r₁ r₂ : (res_t add-bound-kinds.r κs).Denot)
     (x₁ x₂ : AtExit (ended_of 1 add-bound-kinds.ps add-bound-kinds.r) κs) → add-bound.Post κs a r₁ x₁ → add-bound.Post κs a r₂ x₂
     → (r₁ ≡ r₂) × (x₁.1.1.0.now ≡ x₂.1.1.0.now)
-add-bound-one κs a r₁ r₂ x₁ x₂ p q = (p.added_is ∙ sym q.added_is, p.entries-are ∙ sym q.entries-are)
+add-bound-one κs a r₁ r₂ x₁ x₂ p q = (p.added-is ∙ sym q.added-is, p.entries-are ∙ sym q.entries-are)

@@ -4,7 +4,7 @@ ghost use Rattle.std.specs.Prelude.{◌≡◌, ◌≤◌, ◌<◌, length, take}
 ghost use Rattle.sorted.specs.Sorted.{Sorted};
 ghost use Rattle.ty.specs.Words.{Legal, type_of};
 ghost use Rattle.keys.specs.Rank.{key};
-ghost use Rattle.problemrows.specs.ProblemRows.{countRefusal, variableRefusal, variableRow, entryRow, pairRow, boundRow, Adds};
+ghost use Rattle.problemrows.specs.ProblemRows.{count_refusal, variable_refusal, variable_row, entry_row, pair_row, bound_row, Adds};
 
 use keys::key_of;
 use sorted::Put;
@@ -32,7 +32,7 @@ pub struct Added {
 
 // The refusal of the count of components.
 pub fn check_count(components: u64) -> u64
-    ensures { result ≡ countRefusal components }
+    ensures { result ≡ count_refusal components }
 {
     if COMPONENTS < components {
         return 8;
@@ -42,7 +42,7 @@ pub fn check_count(components: u64) -> u64
 
 // The refusal of a variable, n being there.
 pub fn check_variable(components: u64, n: usize, component: u64) -> u64
-    ensures { result ≡ variableRefusal components n component }
+    ensures { result ≡ variable_refusal components n component }
 {
     if components <= component {
         return 6;
@@ -55,7 +55,7 @@ pub fn check_variable(components: u64, n: usize, component: u64) -> u64
 
 pub fn add_variable(components: u64, variables: &mut [u64], n: usize, component: u64) -> Added
     requires { (n ≤ length variables.old) × (2048 ≤ length variables.old) }
-    ensures { Adds (variableRow components component (take n variables.old)) variables.old variables.new result }
+    ensures { Adds (variable_row components component (take n variables.old)) variables.old variables.new result }
 {
     let refusal = check_variable(components, n, component);
     if refusal != 0 {
@@ -74,7 +74,7 @@ pub fn add_variable(components: u64, variables: &mut [u64], n: usize, component:
 // Puts x among the n entries, of which there may be `room`.
 fn put_entry(entries: &mut [u64], n: usize, room: usize, x: u64) -> Added
     requires { (n ≤ room) × (room ≤ length entries.old) × Sorted (take n entries.old) }
-    ensures { Adds (entryRow room x (take n entries.old)) entries.old entries.new result }
+    ensures { Adds (entry_row room x (take n entries.old)) entries.old entries.new result }
 {
     let p = sorted::insert(&mut entries[0..room], n, x);
     match p {
@@ -103,7 +103,7 @@ pub fn add_pair(
     second: u64,
 ) -> Added
     requires { (components ≤ 512) × (n ≤ room) × (room ≤ length pairs.old) × Sorted (take n pairs.old) }
-    ensures { Adds (pairRow components room first second (take n pairs.old)) pairs.old pairs.new result }
+    ensures { Adds (pair_row components room first second (take n pairs.old)) pairs.old pairs.new result }
 {
     if components <= first {
         return Added {
@@ -123,7 +123,7 @@ pub fn add_pair(
 // The key of a bound, put.
 fn put_bound(bounds: &mut [u64], n: usize, component: u64, kind: u64, word: u64) -> Added
     requires { (component < 512) × (kind < 8) × Legal word × (n ≤ 4096) × (4096 ≤ length bounds.old) × Sorted (take n bounds.old) }
-    ensures { Adds (entryRow 4096 (key component kind (type_of word)) (take n bounds.old)) bounds.old bounds.new result }
+    ensures { Adds (entry_row 4096 (key component kind (type_of word)) (take n bounds.old)) bounds.old bounds.new result }
 {
     let x = key_of(component, kind, TypeWord { word: word });
     put_entry(bounds, n, BOUNDS, x)
@@ -140,7 +140,7 @@ pub fn add_bound(
     word: u64,
 ) -> Added
     requires { (names ≤ 1024) × (components ≤ 512) × (n ≤ 4096) × (4096 ≤ length bounds.old) × Sorted (take n bounds.old) }
-    ensures { Adds (boundRow names components component kind word (take n bounds.old)) bounds.old bounds.new result }
+    ensures { Adds (bound_row names components component kind word (take n bounds.old)) bounds.old bounds.new result }
 {
     if components <= component {
         return Added {

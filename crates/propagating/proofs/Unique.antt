@@ -6,11 +6,11 @@ use lib.ListN.{take}
 use borrow.Fn.Kinds.{Dens, res_t, ended_of}
 use denote.Triple.Clauses.{AtExit}
 use contract.Lifetimes.{Lfts}
-use Rattle.lattice.specs.World.{worldOf}
+use Rattle.lattice.specs.World.{world_of}
 use Rattle.solving.specs.Solving.{Finish, Stopped, Ended, propagate}
-use Rattle.solving.specs.TableKeys.{boundOf}
+use Rattle.solving.specs.TableKeys.{bound_of}
 use Rattle.inserting.specs.Store.{Store, store}
-use Rattle.rules.specs.Rules.{linksIn}
+use Rattle.rules.specs.Rules.{links_in}
 use Rattle.running.specs.Running.{Leaves}
 use Rattle.propagating.proofs.propagate.Reads as propagate-reads
 use Rattle.propagating.proofs.propagate.Kinds as propagate-kinds
@@ -25,5 +25,5 @@ pub propagate-one : (κs : Lfts 11) (a : Dens κs propagate-kinds.ps) (r₁ r₂
     → (r₁.state.refusal ≡ r₂.state.refusal)
     × (r₁.state.refusal ≡ 0 → (r₁.turns ≡ r₂.turns) × (take r₁.state.count x₁.1.1.1.0.now ≡ take r₂.state.count x₂.1.1.1.0.now))
 propagate-one κs a r₁ r₂ x₁ x₂ p q =
-    leaves-one (propagate (worldOf a.0.now a.1.0.now a.1.1.0) (linksIn a.1.1.1.1.1.1.1.1.1.0.now a.1.1.1.1.1.1.1.1.1.1.0.now a.1.1.1.1.1.1.1.1.1.1.1.0.now a.1.1.1.1.1.1.1.1.1.1.1.1.0.now) a.1.1.1.1.1.1.1.1.1.1.1.1.1.0 (map boundOf (take a.1.1.1.1.0 a.1.1.1.0.now))) r₁.turns r₂.turns
+    leaves-one (propagate (world_of a.0.now a.1.0.now a.1.1.0) (links_in a.1.1.1.1.1.1.1.1.1.0.now a.1.1.1.1.1.1.1.1.1.1.0.now a.1.1.1.1.1.1.1.1.1.1.1.0.now a.1.1.1.1.1.1.1.1.1.1.1.1.0.now) a.1.1.1.1.1.1.1.1.1.1.1.1.1.0 (map bound_of (take a.1.1.1.1.0 a.1.1.1.0.now))) r₁.turns r₂.turns
     (store x₁.1.1.1.0.now x₁.1.1.1.1.1.0.now r₁.state) (store x₂.1.1.1.0.now x₂.1.1.1.1.1.0.now r₂.state) p q

@@ -5,27 +5,27 @@ use Rattle.sorted.specs.Sorted.{Sorted}
 use Rattle.tables.specs.declared.Tables.{Tables}
 use Rattle.prepared.specs.Prepared.{Prepared}
 use Rattle.view.specs.View.{numbers}
-use Rattle.lattice.specs.World.{worldOf}
+use Rattle.lattice.specs.World.{world_of}
 use Rattle.lattice.specs.Lattice.{World, Lawful}
 use Rattle.joins.specs.Joins.{Fits}
 use Rattle.solving.specs.Queue.{Below}
 use Rattle.solving.specs.Tidy.{Tidy, Among}
-use Rattle.solving.specs.TableKeys.{Holds, boundOf, tidy-keyed, table-back}
+use Rattle.solving.specs.TableKeys.{Holds, bound_of, tidy-keyed, table-back}
 use Rattle.solving.specs.Solving.{Table, Links, state_of, additions, Finish, propagate, room}
 use Rattle.inserting.specs.declared.State.{State}
 use Rattle.inserting.specs.Store.{Store, store, put_all}
-use Rattle.rules.specs.Rules.{linksIn}
-use Rattle.running.specs.Running.{started, taken, tableIn, Running, Fronted, Leaves}
+use Rattle.rules.specs.Rules.{links_in}
+use Rattle.running.specs.Running.{started, taken, table_in, Running, Fronted, Leaves}
 use Rattle.running.specs.declared.Taken.{Taken}
-use Rattle.running.specs.Laws.{ahead, run-starts, run_ends, run-pops, pop-ahead, run-goes, run-stops}
+use Rattle.running.specs.Laws.{ahead, run-starts, run-ends, run-pops, pop-ahead, run-goes, run-stops}
 use Rattle.turning.specs.Turning.{Turnable}
 
 pub record Runnable (pairs marks : List ℕ) (t : Tables) (a : List ℕ) (count : ℕ) (ring words fallbacks uppers flows incoming reads writes : List ℕ) (components : ℕ) : Type 0 where
-  pub lawful : Lawful (worldOf pairs marks t)
+  pub lawful : Lawful (world_of pairs marks t)
   pub long : Prepared pairs marks t
   pub fits : Fits t
   pub within : components ≤ 512
-  pub among : Among components (linksIn flows incoming reads writes)
+  pub among : Among components (links_in flows incoming reads writes)
   pub table : Table
   pub held : Holds a count table
   pub tidy : Tidy t.names components table (numbers 0 components)
@@ -36,37 +36,37 @@ pub record Runnable (pairs marks : List ℕ) (t : Tables) (a : List ℕ) (count 
   pub flows-sorted : Sorted flows
   pub incoming-sorted : Sorted incoming
   pub reads-below : Below 262144 reads
-  pub writes_below : Below 262144 writes
+  pub writes-below : Below 262144 writes
 
 -- the table that the cells hold is the one that is asked for
 module _ (pairs marks : List ℕ) (t : Tables) (a : List ℕ) (count : ℕ) (ring words fallbacks uppers flows incoming reads writes : List ℕ) (components : ℕ)
     (y : Runnable pairs marks t a count ring words fallbacks uppers flows incoming reads writes components) where
   abbrev pub l : Links
-  l = linksIn flows incoming reads writes
+  l = links_in flows incoming reads writes
 
   abbrev pub whole : Finish
-  whole = propagate (worldOf pairs marks t) l components (map boundOf (take count a))
+  whole = propagate (world_of pairs marks t) l components (map bound_of (take count a))
 
-  table_is : map boundOf (take count a) ≡ y.table
-  table_is = ap (map boundOf) y.held.keys ∙ table-back y.table (tidy-keyed t.names components y.table (numbers 0 components) y.fits.0 y.tidy)
+  table-is : map bound_of (take count a) ≡ y.table
+  table-is = ap (map bound_of) y.held.keys ∙ table-back y.table (tidy-keyed t.names components y.table (numbers 0 components) y.fits.0 y.tidy)
 
-  pub first : Running (worldOf pairs marks t) l components whole 0 (store a (numbers 0 components ++ drop components ring) (started count components))
+  pub first : Running (world_of pairs marks t) l components whole 0 (store a (numbers 0 components ++ drop components ring) (started count components))
   first =
-      subst (λ (x : Table). Running (worldOf pairs marks t) l components (propagate (worldOf pairs marks t) l components x) 0 (store a (numbers 0 components ++ drop components ring) (started count components)))
-      (sym table_is) (run-starts (worldOf pairs marks t) y.lawful y.fits.0 components y.within l y.among a ring count y.table y.held y.ring-room y.tidy)
+      subst (λ (x : Table). Running (world_of pairs marks t) l components (propagate (world_of pairs marks t) l components x) 0 (store a (numbers 0 components ++ drop components ring) (started count components)))
+      (sym table-is) (run-starts (world_of pairs marks t) y.lawful y.fits.0 components y.within l y.among a ring count y.table y.held y.ring-room y.tidy)
 
-  pub first_of : (r : List ℕ) (s : State) → s ≡ started count components → r ≡ numbers 0 components ++ drop components ring
-      → Running (worldOf pairs marks t) l components whole 0 (store a r s)
-  first_of r s e f =
-      subst (λ (x : State). Running (worldOf pairs marks t) l components whole 0 (store a r x)) (sym e)
-      (subst (λ (x : List ℕ). Running (worldOf pairs marks t) l components whole 0 (store a x (started count components))) (sym f) first)
+  pub first-of : (r : List ℕ) (s : State) → s ≡ started count components → r ≡ numbers 0 components ++ drop components ring
+      → Running (world_of pairs marks t) l components whole 0 (store a r s)
+  first-of r s e f =
+      subst (λ (x : State). Running (world_of pairs marks t) l components whole 0 (store a r x)) (sym e)
+      (subst (λ (x : List ℕ). Running (world_of pairs marks t) l components whole 0 (store a x (started count components))) (sym f) first)
 
   pub first-ahead : (s : State) → s ≡ started count components → 0 + ahead s ≤ 512 + room
   first-ahead s e = let z : ahead s ≡ components + (room - count) = ap ahead e in let b = y.within in omega arith
 
   -- what the front's turn asks
   pub turnable : (k root : ℕ) (s : Store) (ws fs us : List ℕ) → length ws ≡ room → length fs ≡ room → length us ≡ room
-      → Fronted (worldOf pairs marks t) l components whole k root s → Turnable pairs marks t s ws fs us flows incoming reads writes
+      → Fronted (world_of pairs marks t) l components whole k root s → Turnable pairs marks t s ws fs us flows incoming reads writes
   turnable k root s ws fs us e f g z = record {
     lawful = y.lawful;
     long = y.long;
@@ -82,15 +82,15 @@ module _ (pairs marks : List ℕ) (t : Tables) (a : List ℕ) (count : ℕ) (rin
     flows-sorted = y.flows-sorted;
     incoming-sorted = y.incoming-sorted;
     reads-below = y.reads-below;
-    writes_below = y.writes_below;
+    writes-below = y.writes-below;
   }
 
   abbrev pub w : World
-  w = worldOf pairs marks t
+  w = world_of pairs marks t
 
   module _ (k : ℕ) (s : Store) (z : Running w l components whole k s) where
     pub ends : s.state.queue.len ≡ 0 → Leaves whole k s
-    ends h = (run_ends w y.lawful y.fits.0 components y.within l y.among whole k s z h).1
+    ends h = (run-ends w y.lawful y.fits.0 components y.within l y.among whole k s z h).1
 
     module _ (r : Taken) (e : r ≡ taken s.ring s.state) (h : 0 < s.state.queue.len) where
       pub fronted : Fronted w l components whole k r.root (store s.cells s.ring r.state)
@@ -104,7 +104,7 @@ module _ (pairs marks : List ℕ) (t : Tables) (a : List ℕ) (count : ℕ) (rin
       pub less : suc (ahead r.state) ≡ ahead s.state
       less = ap (λ (x : Taken). suc (ahead x.state)) e ∙ pop-ahead w y.lawful y.fits.0 components y.within l y.among whole k s z h
 
-      module _ (s' : Store) (f : s' ≡ put_all (additions w l r.root (state_of (tableIn (store s.cells s.ring r.state)) r.root)) (store s.cells s.ring r.state)) where
+      module _ (s' : Store) (f : s' ≡ put_all (additions w l r.root (state_of (table_in (store s.cells s.ring r.state)) r.root)) (store s.cells s.ring r.state)) where
         pub goes : s'.state.refusal ≡ 0 → Running w l components whole (k + 1) s' × (ahead s'.state ≤ ahead r.state)
         goes = run-goes w y.lawful y.fits.0 components y.within l y.among whole k r.root (store s.cells s.ring r.state) fronted s' f
 

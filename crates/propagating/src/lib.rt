@@ -1,10 +1,10 @@
 // Turn by turn until nobody waits, or until a refusal.
 ghost use Rattle.std.specs.Prelude.{map, take};
-ghost use Rattle.lattice.specs.World.{worldOf};
+ghost use Rattle.lattice.specs.World.{world_of};
 ghost use Rattle.solving.specs.Solving.{propagate};
-ghost use Rattle.solving.specs.TableKeys.{boundOf};
+ghost use Rattle.solving.specs.TableKeys.{bound_of};
 ghost use Rattle.inserting.specs.Store.{store};
-ghost use Rattle.rules.specs.Rules.{linksIn};
+ghost use Rattle.rules.specs.Rules.{links_in};
 ghost use Rattle.running.specs.Running.{Leaves};
 ghost use Rattle.propagating.specs.Propagating.{Runnable};
 
@@ -38,7 +38,7 @@ pub fn propagate(
     components: u64,
 ) -> Ran
     requires { Runnable pairs.now marks.now t a.old count ring.old words.old fallbacks.old uppers.old flows.now incoming.now reads.now writes.now components }
-    ensures { Leaves (propagate (worldOf pairs.now marks.now t) (linksIn flows.now incoming.now reads.now writes.now) components (map boundOf (take count a.old))) result.turns (store a.new ring.new result.state) }
+    ensures { Leaves (propagate (world_of pairs.now marks.now t) (links_in flows.now incoming.now reads.now writes.now) components (map bound_of (take count a.old))) result.turns (store a.new ring.new result.state) }
 {
     let mut state = start(ring, count, components);
     let mut turns: u64 = 0;

@@ -3,15 +3,15 @@
 use Rattle.std.specs.Prelude.{◌≡◌, refl, Bool, true, false, cond, not, List, [], ◌∷◌, ◌↔◌, ℕ, zero, suc, ◌-◌, ◌^◌, ◌≤◌, eqb}
 use Rattle.std.proofs.Common.{sym, ◌∙◌, arith, ne_eqb, le-ltb, eqb-true}
 use Rattle.std.proofs.lemmas.Bool.{eqb-false}
-use Rattle.checks.specs.Checks.{firstRefusal, or_else}
+use Rattle.checks.specs.Checks.{first_refusal, or_else}
 use Rattle.columns.specs.Given.{Given, even}
-use Rattle.tableview.specs.TableRows.{rowsView}
-use Rattle.stackview.specs.LayerRows.{shownIn}
-use Rattle.stackview.specs.LayerRefusals.{stackRefusalOf}
+use Rattle.tableview.specs.TableRows.{rows_view}
+use Rattle.stackview.specs.LayerRows.{shown_in}
+use Rattle.stackview.specs.LayerRefusals.{stack_refusal_of}
 use Rattle.questions.specs.declared.Question.{Question}
-use Rattle.questions.specs.Questions.{ofTypes, goodNumbers, tableChecks, refusalOf, questionRefusal, ancestorsRefusal}
+use Rattle.questions.specs.Questions.{of_types, good_numbers, table_checks, refusal_of, question_refusal, ancestors_refusal}
 use Rattle.tablecheck.specs.declared.TableCheck.{TableCheck}
-use Rattle.tablecheck.specs.TableCheck.{namesRefused, nameStopped, recordsRefused, recordStopped, told, rowsCheck, tableCheck}
+use Rattle.tablecheck.specs.TableCheck.{names_refused, name_stopped, records_refused, record_stopped, told, rows_check, table_check}
 
 -- the check, by what its parts say
 abbrev parts : Bool → ℕ → ℕ → Bool → ℕ → ℕ → TableCheck
@@ -26,53 +26,53 @@ same-refusal true (suc n) r o x y = rw (ne_eqb (suc n) 0 (λ z. omega arith))
 
 module _ (g : Given) (types : Bool) (numbers : List ℕ) (room : ℕ) (h : 8192 ≤ room) where
   -- good numbers
-  asked-alike : goodNumbers types (rowsView (shownIn g)).names numbers ≡ true → refusalOf g types numbers room ≡ (tableCheck g).refusal
-  unfolding refusalOf tableChecks firstRefusal tableCheck rowsCheck stackRefusalOf
+  asked-alike : good_numbers types (rows_view (shown_in g)).names numbers ≡ true → refusal_of g types numbers room ≡ (table_check g).refusal
+  unfolding refusal_of table_checks first_refusal table_check rows_check stack_refusal_of
   asked-alike good =
       rw (le-ltb room 8192 h, good)
-      (same-refusal (even g) (namesRefused g) (recordsRefused g) (eqb (rowsView (shownIn g)).object (2 ^ 64 - 1)) (nameStopped g) (recordStopped g))
+      (same-refusal (even g) (names_refused g) (records_refused g) (eqb (rows_view (shown_in g)).object (2 ^ 64 - 1)) (name_stopped g) (record_stopped g))
 
 -- OF EVERY QUESTION ABOUT TWO CLASSES, OR TWO TYPES
-pub question-alike : (g : Given) (q : Question) (a b room : ℕ) → 8192 ≤ room → goodNumbers (ofTypes q) (rowsView (shownIn g)).names (a ∷ b ∷ []) ≡ true
-    → questionRefusal g q a b room ≡ (tableCheck g).refusal
-question-alike g q a b room h good = asked-alike g (ofTypes q) (a ∷ b ∷ []) room h good
+pub question-alike : (g : Given) (q : Question) (a b room : ℕ) → 8192 ≤ room → good_numbers (of_types q) (rows_view (shown_in g)).names (a ∷ b ∷ []) ≡ true
+    → question_refusal g q a b room ≡ (table_check g).refusal
+question-alike g q a b room h good = asked-alike g (of_types q) (a ∷ b ∷ []) room h good
 
 -- OF THE ANCESTORS OF A CLASS
-pub ancestors-alike : (g : Given) (class room : ℕ) → 8192 ≤ room → goodNumbers false (rowsView (shownIn g)).names (class ∷ []) ≡ true → ancestorsRefusal g class room ≡ (tableCheck g).refusal
+pub ancestors-alike : (g : Given) (class room : ℕ) → 8192 ≤ room → good_numbers false (rows_view (shown_in g)).names (class ∷ []) ≡ true → ancestors_refusal g class room ≡ (table_check g).refusal
 ancestors-alike g class room h good = asked-alike g false (class ∷ []) room h good
 
 -- ---- and where its columns or a row are refused, whatever the numbers are
 
-same_rows : (e : Bool) (n r : ℕ) (o : Bool) (x y : ℕ) (after : ℕ) → ((parts e n r o x y).refusal ≡ 0 → ⊥) → ((parts e n r o x y).part ≡ 3 → ⊥)
+same-rows : (e : Bool) (n r : ℕ) (o : Bool) (x y : ℕ) (after : ℕ) → ((parts e n r o x y).refusal ≡ 0 → ⊥) → ((parts e n r o x y).part ≡ 3 → ⊥)
     → cond {A = ℕ} (not e) 3 (cond (not (eqb (or_else n r) 0)) (or_else n r) after) ≡ (parts e n r o x y).refusal
-same_rows false n r o x y after k p = refl
-same_rows true zero zero true x y after k p = absurd (p refl)
-same_rows true zero zero false x y after k p = absurd (k refl)
-same_rows true zero (suc r) o x y after k p = rw (ne_eqb (suc r) 0 (λ z. omega arith))
-same_rows true (suc n) r o x y after k p = rw (ne_eqb (suc n) 0 (λ z. omega arith))
+same-rows false n r o x y after k p = refl
+same-rows true zero zero true x y after k p = absurd (p refl)
+same-rows true zero zero false x y after k p = absurd (k refl)
+same-rows true zero (suc r) o x y after k p = rw (ne_eqb (suc r) 0 (λ z. omega arith))
+same-rows true (suc n) r o x y after k p = rw (ne_eqb (suc n) 0 (λ z. omega arith))
 
 -- A TABLE THAT IS REFUSED FOR ITS ROWS IS REFUSED ALIKE WHATEVER IS ASKED
-pub rows_alike : (g : Given) (types : Bool) (numbers : List ℕ) (room : ℕ) → 8192 ≤ room → ((tableCheck g).refusal ≡ 0 → ⊥) → ((tableCheck g).part ≡ 3 → ⊥)
-    → refusalOf g types numbers room ≡ (tableCheck g).refusal
-unfolding refusalOf tableChecks firstRefusal tableCheck rowsCheck stackRefusalOf
-rows_alike g types numbers room h k p =
+pub rows-alike : (g : Given) (types : Bool) (numbers : List ℕ) (room : ℕ) → 8192 ≤ room → ((table_check g).refusal ≡ 0 → ⊥) → ((table_check g).part ≡ 3 → ⊥)
+    → refusal_of g types numbers room ≡ (table_check g).refusal
+unfolding refusal_of table_checks first_refusal table_check rows_check stack_refusal_of
+rows-alike g types numbers room h k p =
     rw (le-ltb room 8192 h)
-    (same_rows (even g) (namesRefused g) (recordsRefused g) (eqb (rowsView (shownIn g)).object (2 ^ 64 - 1)) (nameStopped g) (recordStopped g) _ k p)
+    (same-rows (even g) (names_refused g) (records_refused g) (eqb (rows_view (shown_in g)).object (2 ^ 64 - 1)) (name_stopped g) (record_stopped g) _ k p)
 
 -- ---- NOTHING IS REFUSED exactly if the columns are even, the rows are taken and a name is java/lang/Object
-pub zero-exactly : (g : Given) → ((tableCheck g).refusal ≡ 0) ↔ ((even g ≡ true) × (stackRefusalOf g ≡ 0) × ((rowsView (shownIn g)).object ≡ 2 ^ 64 - 1 → ⊥))
-unfolding tableCheck rowsCheck stackRefusalOf
+pub zero-exactly : (g : Given) → ((table_check g).refusal ≡ 0) ↔ ((even g ≡ true) × (stack_refusal_of g ≡ 0) × ((rows_view (shown_in g)).object ≡ 2 ^ 64 - 1 → ⊥))
+unfolding table_check rows_check stack_refusal_of
 zero-exactly g = (
-  λ z. to (even g) refl (eqb (stackRefusalOf g) 0) refl (eqb (rowsView (shownIn g)).object (2 ^ 64 - 1)) refl (same ∙ z),
-  λ w. sym same ∙ rw (w.0, w.1, ne_eqb (rowsView (shownIn g)).object (2 ^ 64 - 1) w.2) refl,
+  λ z. to (even g) refl (eqb (stack_refusal_of g) 0) refl (eqb (rows_view (shown_in g)).object (2 ^ 64 - 1)) refl (same ∙ z),
+  λ w. sym same ∙ rw (w.0, w.1, ne_eqb (rows_view (shown_in g)).object (2 ^ 64 - 1) w.2) refl,
 )
   where
-    same : cond {A = ℕ} (not (even g)) 3 (cond (not (eqb (stackRefusalOf g) 0)) (stackRefusalOf g) (cond (eqb (rowsView (shownIn g)).object (2 ^ 64 - 1)) 9 0)) ≡ (tableCheck g).refusal
-    same = same-refusal (even g) (namesRefused g) (recordsRefused g) (eqb (rowsView (shownIn g)).object (2 ^ 64 - 1)) (nameStopped g) (recordStopped g)
+    same : cond {A = ℕ} (not (even g)) 3 (cond (not (eqb (stack_refusal_of g) 0)) (stack_refusal_of g) (cond (eqb (rows_view (shown_in g)).object (2 ^ 64 - 1)) 9 0)) ≡ (table_check g).refusal
+    same = same-refusal (even g) (names_refused g) (records_refused g) (eqb (rows_view (shown_in g)).object (2 ^ 64 - 1)) (name_stopped g) (record_stopped g)
 
-    to : (e : Bool) → even g ≡ e → (c : Bool) → eqb (stackRefusalOf g) 0 ≡ c → (o : Bool) → eqb (rowsView (shownIn g)).object (2 ^ 64 - 1) ≡ o
-        → cond {A = ℕ} (not e) 3 (cond (not c) (stackRefusalOf g) (cond o 9 0)) ≡ 0 → (even g ≡ true) × (stackRefusalOf g ≡ 0) × ((rowsView (shownIn g)).object ≡ 2 ^ 64 - 1 → ⊥)
+    to : (e : Bool) → even g ≡ e → (c : Bool) → eqb (stack_refusal_of g) 0 ≡ c → (o : Bool) → eqb (rows_view (shown_in g)).object (2 ^ 64 - 1) ≡ o
+        → cond {A = ℕ} (not e) 3 (cond (not c) (stack_refusal_of g) (cond o 9 0)) ≡ 0 → (even g ≡ true) × (stack_refusal_of g ≡ 0) × ((rows_view (shown_in g)).object ≡ 2 ^ 64 - 1 → ⊥)
     to false ee c ec o eo q = absurd (omega arith)
-    to true ee false ec o eo q = absurd (eqb-false (stackRefusalOf g) 0 ec q)
+    to true ee false ec o eo q = absurd (eqb-false (stack_refusal_of g) 0 ec q)
     to true ee true ec true eo q = absurd (omega arith)
-    to true ee true ec false eo q = (ee, eqb-true (stackRefusalOf g) 0 ec, eqb-false (rowsView (shownIn g)).object (2 ^ 64 - 1) eo)
+    to true ee true ec false eo q = (ee, eqb-true (stack_refusal_of g) 0 ec, eqb-false (rows_view (shown_in g)).object (2 ^ 64 - 1) eo)

@@ -3,29 +3,29 @@
 use Rattle.std.specs.Prelude.{◌≡◌, refl, List, [], ◌∷◌, ℕ, ◌-◌, ◌^◌, replicate}
 use Rattle.text.specs.Text.{ascii}
 use Rattle.order.specs.Lists.{elem}
-use Rattle.order.specs.Compare.{compareNumbers, compareLists}
-use Rattle.utf8.specs.Utf8.{table, within, matches, firstMatch, sequence, scan, validPrefix, wellFormed}
+use Rattle.order.specs.Compare.{compare_numbers, compare_lists}
+use Rattle.utf8.specs.Utf8.{table, within, matches, first_match, sequence, scan, valid_prefix, well_formed}
 use Rattle.sets.specs.Sets as sets
 use Rattle.sets.specs.Sets.{bit, at, member, insert, members}
-use Rattle.sorted.specs.Sorted.{insertSorted, put}
-use Rattle.checks.specs.Checks.{firstRefusal}
+use Rattle.sorted.specs.Sorted.{insert_sorted, put}
+use Rattle.checks.specs.Checks.{first_refusal}
 use Rattle.ty.specs.Types.{arrays, compare, categories}
-use Rattle.ty.specs.Words.{unpack, pack, list_of, goodDigits, goodUnknown, base_of, type_of, word_of, legalBase, legalWord, allLegal}
-use Rattle.names.specs.Names.{placeGood, nameChecks, checkRow, checkRows}
-use Rattle.view.specs.View.{insertAll, withParents, grow, level, reached, reach, steps, distance, number_of, ancestor, allRecorded, complete, relation, relationNumber, castByFacts, cast, common, below, anyBelow, lowest, nearer, nearest, numbers, candidates, supertype}
-use Rattle.lattice.specs.Lattice.{sameType, hasAll, unknownAccepts, inEither, unknownUnion, primitiveAssignable, assignableApart, isAssignable, narrow, underDouble, joinPrimitive, joinKnown, joinApart, join, arrayParent, joinArrayClass}
-use Rattle.rows.specs.Rows.{objectName, cloneableName, serializableName, goodFlags, all_below}
+use Rattle.ty.specs.Words.{unpack, pack, list_of, good_digits, good_unknown, base_of, type_of, word_of, legal_base, legal_word, all_legal}
+use Rattle.names.specs.Names.{place_good, name_checks, check_row, check_rows}
+use Rattle.view.specs.View.{insert_all, with_parents, grow, level, reached, reach, steps, distance, number_of, ancestor, all_recorded, complete, relation, relation_number, cast_by_facts, cast, common, below, any_below, lowest, nearer, nearest, numbers, candidates, supertype}
+use Rattle.lattice.specs.Lattice.{same_type, has_all, unknown_accepts, in_either, unknown_union, primitive_assignable, assignable_apart, is_assignable, narrow, under_double, join_primitive, join_known, join_apart, join, array_parent, join_array_class}
+use Rattle.rows.specs.Rows.{object_name, cloneable_name, serializable_name, good_flags, all_below}
 use Rattle.columns.specs.Columns.{inside}
 use Rattle.columns.specs.Examples.{bytes}
-use Rattle.columns.specs.Given.{Given, given, evenLengths, even}
-use Rattle.tableview.specs.TableRows.{isRecorded, listedParents, setOf, lastDeclared, place_of, rowsView, rowsWorld, names_of, recordsOf, rowsIn}
-use Rattle.tableview.specs.RowRefusals.{listed, hasPair, different, rowChecks}
-use Rattle.stackview.specs.LayerRows.{hasRecord, recordedAbove, shownRows, shownIn}
-use Rattle.stackview.specs.LayerRefusals.{openChecks, layerRowRefusal, layersRefusal, stackRefusalOf}
+use Rattle.columns.specs.Given.{Given, given, even_lengths, even}
+use Rattle.tableview.specs.TableRows.{is_recorded, listed_parents, set_of, last_declared, place_of, rows_view, rows_world, names_of, records_of, rows_in}
+use Rattle.tableview.specs.RowRefusals.{listed, has_pair, different, row_checks}
+use Rattle.stackview.specs.LayerRows.{has_record, recorded_above, shown_rows, shown_in}
+use Rattle.stackview.specs.LayerRefusals.{open_checks, layer_row_refusal, layers_refusal, stack_refusal_of}
 use Rattle.questions.specs.declared.Question.{Question}
 use Rattle.questions.specs.declared.Question.TheVariants.{Relation, Distance, Supertype, Cast, Join, Assignable}
 use Rattle.questions.specs.declared.Answer.{Answer}
-use Rattle.questions.specs.Questions.{goodNumbers, tableChecks, refusalOf, value_of, answered, answer_of}
+use Rattle.questions.specs.Questions.{good_numbers, table_checks, refusal_of, value_of, answered, answer_of}
 
 -- the records of the given classes: a/Probe with parent 3, both others with parent 0, Object with none, from the parents 3, 0
 abbrev pub recording : List ℕ → List ℕ → List ℕ → List ℕ → Given
@@ -133,6 +133,6 @@ examples =
     ∷ []
 
 -- EVERY EXAMPLE HOLDS
-pub all_hold : All holds examples
-unfolding answer_of answered refusalOf tableChecks goodNumbers value_of stackRefusalOf layersRefusal layerRowRefusal openChecks rowChecks different hasPair listed evenLengths even rowsView rowsWorld shownIn shownRows recordedAbove hasRecord rowsIn names_of recordsOf isRecorded listedParents setOf lastDeclared place_of allLegal legalWord legalBase goodUnknown goodDigits unpack type_of arrays base_of list_of word_of pack compare categories sameType hasAll unknownAccepts inEither unknownUnion primitiveAssignable assignableApart isAssignable narrow underDouble joinPrimitive joinKnown joinApart join arrayParent joinArrayClass firstRefusal inside ascii objectName cloneableName serializableName goodFlags all_below checkRows checkRow placeGood nameChecks compareLists compareNumbers table within matches firstMatch sequence scan validPrefix wellFormed insert elem insertSorted put bit at member members sets.first insertAll withParents grow level reached reach steps distance number_of ancestor allRecorded complete relation relationNumber castByFacts cast common below anyBelow lowest nearer nearest numbers candidates supertype
-all_hold = (refl, (refl, (refl, (refl, (refl, (refl, (refl, (refl, (refl, (refl, (refl, (refl, (refl, (refl, (refl, (refl, (refl, (refl, (refl, (refl, (refl, (refl, (refl, (refl, (refl, (refl, (refl, (refl, (refl, (refl, (refl, (refl, tt))))))))))))))))))))))))))))))))
+pub all-hold : All holds examples
+unfolding answer_of answered refusal_of table_checks good_numbers value_of stack_refusal_of layers_refusal layer_row_refusal open_checks row_checks different has_pair listed even_lengths even rows_view rows_world shown_in shown_rows recorded_above has_record rows_in names_of records_of is_recorded listed_parents set_of last_declared place_of all_legal legal_word legal_base good_unknown good_digits unpack type_of arrays base_of list_of word_of pack compare categories same_type has_all unknown_accepts in_either unknown_union primitive_assignable assignable_apart is_assignable narrow under_double join_primitive join_known join_apart join array_parent join_array_class first_refusal inside ascii object_name cloneable_name serializable_name good_flags all_below check_rows check_row place_good name_checks compare_lists compare_numbers table within matches first_match sequence scan valid_prefix well_formed insert elem insert_sorted put bit at member members sets.first insert_all with_parents grow level reached reach steps distance number_of ancestor all_recorded complete relation relation_number cast_by_facts cast common below any_below lowest nearer nearest numbers candidates supertype
+all-hold = (refl, (refl, (refl, (refl, (refl, (refl, (refl, (refl, (refl, (refl, (refl, (refl, (refl, (refl, (refl, (refl, (refl, (refl, (refl, (refl, (refl, (refl, (refl, (refl, (refl, (refl, (refl, (refl, (refl, (refl, (refl, (refl, tt))))))))))))))))))))))))))))))))

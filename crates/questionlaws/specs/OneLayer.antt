@@ -2,58 +2,58 @@
 use Rattle.std.specs.Prelude.{◌≡◌, Bool, cond, not, List, [], ◌∷◌, ℕ, ◌-◌, ◌^◌, eqb, ltb, length}
 use Rattle.std.proofs.Math.Path.{refl, ap₂}
 use Rattle.std.proofs.Math.Bool.{true, false}
-use Rattle.checks.specs.Checks.{Check, check, firstRefusal}
+use Rattle.checks.specs.Checks.{Check, check, first_refusal}
 use Rattle.view.specs.View.{ancestors}
 use Rattle.columns.specs.Given.{Given, even}
-use Rattle.layercolumns.specs.LayerColumns.{firstOpen}
-use Rattle.tableview.specs.TableRows.{Rows, rowsView, rowsWorld, rowsIn}
-use Rattle.tableview.specs.RowRefusals.{tableRefusal}
-use Rattle.stackview.specs.LayerRows.{shownIn}
-use Rattle.stackview.specs.OneLayer.{plain-refusal, plain_rows}
+use Rattle.layercolumns.specs.LayerColumns.{first_open}
+use Rattle.tableview.specs.TableRows.{Rows, rows_view, rows_world, rows_in}
+use Rattle.tableview.specs.RowRefusals.{table_refusal}
+use Rattle.stackview.specs.LayerRows.{shown_in}
+use Rattle.stackview.specs.OneLayer.{plain-refusal, plain-rows}
 use Rattle.questions.specs.declared.Question.{Question}
 use Rattle.questions.specs.declared.Answer.{Answer}
 use Rattle.questions.specs.declared.Ancestors.{Ancestors}
-use Rattle.questions.specs.Questions.{ofTypes, goodNumbers, tableChecks, refusalOf, value_of, answered, gathered, answer_of, ancestorsOf}
+use Rattle.questions.specs.Questions.{of_types, good_numbers, table_checks, refusal_of, value_of, answered, gathered, answer_of, ancestors_of}
 
 -- all rows stand before the first that opens a layer
 abbrev pub Plain : Given → Type 0
-Plain g = firstOpen g.rec_flags ≡ length g.rec_flags
+Plain g = first_open g.rec_flags ≡ length g.rec_flags
 
 -- the checks of a plain table, in the words of its own rows
-unfoldable pub plainChecks : Given → Bool → List ℕ → List Check
-plainChecks g types numbers =
+unfoldable pub plain_checks : Given → Bool → List ℕ → List Check
+plain_checks g types numbers =
     check (not (even g)) 3
-    ∷ check (not (eqb (tableRefusal g) 0)) (tableRefusal g)
-    ∷ check (not (goodNumbers types (rowsView (rowsIn g)).names numbers)) (cond types 7 6)
-    ∷ check (eqb (rowsView (rowsIn g)).object (2 ^ 64 - 1)) 9
+    ∷ check (not (eqb (table_refusal g) 0)) (table_refusal g)
+    ∷ check (not (good_numbers types (rows_view (rows_in g)).names numbers)) (cond types 7 6)
+    ∷ check (eqb (rows_view (rows_in g)).object (2 ^ 64 - 1)) 9
     ∷ []
 
-unfoldable pub plainRefusal : Given → Bool → List ℕ → ℕ → ℕ
-plainRefusal g types numbers room = firstRefusal (check (ltb room 8192) 22 ∷ plainChecks g types numbers)
+unfoldable pub plain_refusal : Given → Bool → List ℕ → ℕ → ℕ
+plain_refusal g types numbers room = first_refusal (check (ltb room 8192) 22 ∷ plain_checks g types numbers)
 
-abbrev pub plainAnswer : Given → Question → ℕ → ℕ → ℕ → Answer
-plainAnswer g q a b room = answered (plainRefusal g (ofTypes q) (a ∷ b ∷ []) room) (value_of (rowsView (rowsIn g)) (rowsWorld (rowsIn g)) q a b)
+abbrev pub plain_answer : Given → Question → ℕ → ℕ → ℕ → Answer
+plain_answer g q a b room = answered (plain_refusal g (of_types q) (a ∷ b ∷ []) room) (value_of (rows_view (rows_in g)) (rows_world (rows_in g)) q a b)
 
-abbrev pub plainAncestors : Given → ℕ → ℕ → Ancestors
-plainAncestors g class room = gathered (plainRefusal g false (class ∷ []) room) (ancestors (rowsView (rowsIn g)) class)
+abbrev pub plain_ancestors : Given → ℕ → ℕ → Ancestors
+plain_ancestors g class room = gathered (plain_refusal g false (class ∷ []) room) (ancestors (rows_view (rows_in g)) class)
 
 module _ (g : Given) (none : Plain g) where
-  same : shownIn g ≡ rowsIn g
-  same = plain_rows g none
+  same : shown_in g ≡ rows_in g
+  same = plain-rows g none
 
-  refusal-plain : (types : Bool) (numbers : List ℕ) (room : ℕ) → refusalOf g types numbers room ≡ plainRefusal g types numbers room
-  unfolding refusalOf plainRefusal tableChecks plainChecks firstRefusal
+  refusal-plain : (types : Bool) (numbers : List ℕ) (room : ℕ) → refusal_of g types numbers room ≡ plain_refusal g types numbers room
+  unfolding refusal_of plain_refusal table_checks plain_checks first_refusal
   refusal-plain types numbers room = go (even g) refl
     where
-      go : (b : Bool) → even g ≡ b → refusalOf g types numbers room ≡ plainRefusal g types numbers room
+      go : (b : Bool) → even g ≡ b → refusal_of g types numbers room ≡ plain_refusal g types numbers room
       go true e = rw (same, plain-refusal g e none)
       go false e = rw e
 
   -- A QUESTION ABOUT CLASSES OR TYPES, AND THE ANCESTORS OF A CLASS
-  pub question-plain : (q : Question) (a b room : ℕ) → answer_of g q a b room ≡ plainAnswer g q a b room
+  pub question-plain : (q : Question) (a b room : ℕ) → answer_of g q a b room ≡ plain_answer g q a b room
   unfolding answer_of
-  question-plain q a b room = ap₂ (λ (k : ℕ) (t : Rows). answered k (value_of (rowsView t) (rowsWorld t) q a b)) (refusal-plain (ofTypes q) (a ∷ b ∷ []) room) same
+  question-plain q a b room = ap₂ (λ (k : ℕ) (t : Rows). answered k (value_of (rows_view t) (rows_world t) q a b)) (refusal-plain (of_types q) (a ∷ b ∷ []) room) same
 
-  pub ancestors-plain : (class room : ℕ) → ancestorsOf g class room ≡ plainAncestors g class room
-  unfolding ancestorsOf
-  ancestors-plain class room = ap₂ (λ (k : ℕ) (t : Rows). gathered k (ancestors (rowsView t) class)) (refusal-plain false (class ∷ []) room) same
+  pub ancestors-plain : (class room : ℕ) → ancestors_of g class room ≡ plain_ancestors g class room
+  unfolding ancestors_of
+  ancestors-plain class room = ap₂ (λ (k : ℕ) (t : Rows). gathered k (ancestors (rows_view t) class)) (refusal-plain false (class ∷ []) room) same

@@ -2,17 +2,17 @@
 // local array with room for four layers; the two numbers are checked over its names, and the question is put to the crate that answers it. The work
 // may come with any words, and is zero afterwards.
 ghost use Rattle.std.specs.Prelude.{◌≡◌, true, cond, [], ◌∷◌, length};
-ghost use Rattle.checks.specs.Checks.{firstRefusal};
-ghost use Rattle.ty.specs.Words.{allLegal};
-ghost use Rattle.view.specs.View.{relationNumber};
-ghost use Rattle.tables.specs.Table.{marksRoom, view_of};
-ghost use Rattle.lattice.specs.World.{worldOf};
+ghost use Rattle.checks.specs.Checks.{first_refusal};
+ghost use Rattle.ty.specs.Words.{all_legal};
+ghost use Rattle.view.specs.View.{relation_number};
+ghost use Rattle.tables.specs.Table.{marks_room, view_of};
+ghost use Rattle.lattice.specs.World.{world_of};
 ghost use Rattle.joins.specs.Joins.{Fits};
-ghost use Rattle.rows.specs.Rows.{noTables, all_below};
-ghost use Rattle.columns.specs.Given.{evenLengths, noMarks, givenBy};
+ghost use Rattle.rows.specs.Rows.{no_tables, all_below};
+ghost use Rattle.columns.specs.Given.{even_lengths, no_marks, given_by};
 ghost use Rattle.layercolumns.specs.LayerColumns.{RoomFor};
-ghost use Rattle.questions.specs.Questions.{ofTypes, goodNumbers, value_of, gathered, Asked, Gathers};
-ghost use Rattle.questions.specs.Inside.{Builds, ranChecks, tableAnswer, tableAncestors, noAncestors, Opens, NoRows, Single, Askable, TellsOver, Tells};
+ghost use Rattle.questions.specs.Questions.{of_types, good_numbers, value_of, gathered, Asked, Gathers};
+ghost use Rattle.questions.specs.Inside.{Builds, ran_checks, table_answer, table_ancestors, no_ancestors, Opens, NoRows, Single, Askable, TellsOver, Tells};
 
 use clearing::clear;
 use layercolumns::{build_shown, first_open};
@@ -71,7 +71,7 @@ pub fn is_even(
     rec_at: usize,
     rec_len: usize,
 ) -> bool
-    ensures { result ≡ evenLengths name_at name_len rec_flags rec_class rec_at rec_len }
+    ensures { result ≡ even_lengths name_at name_len rec_flags rec_class rec_at rec_len }
 {
     if name_at != name_len {
         return false;
@@ -87,7 +87,7 @@ pub fn is_even(
 
 // Unequal columns.
 fn no_table() -> Outcome
-    ensures { result ≡ record { refusal = 3; tables = noTables } }
+    ensures { result ≡ record { refusal = 3; tables = no_tables } }
 {
     let none = Tables {
         names: 0,
@@ -116,8 +116,8 @@ pub fn build_table(
     pairs: &mut [u64],
     marks: &mut [u64],
 ) -> Outcome
-    requires { RoomFor rec_flags.now pairs.old × (marks.old ≡ noMarks) }
-    ensures { Builds (givenBy names name_at name_len rec_flags rec_class rec_at rec_len parents) pairs.new marks.new result }
+    requires { RoomFor rec_flags.now pairs.old × (marks.old ≡ no_marks) }
+    ensures { Builds (given_by names name_at name_len rec_flags rec_class rec_at rec_len parents) pairs.new marks.new result }
 {
     if is_even(
         name_at.len(),
@@ -138,7 +138,7 @@ pub fn build_table(
 
 // Whether a question is about types.
 fn of_types(q: Question) -> bool
-    ensures { result ≡ ofTypes q }
+    ensures { result ≡ of_types q }
 {
     match q {
         Question::Relation => false,
@@ -151,7 +151,7 @@ fn of_types(q: Question) -> bool
 }
 
 fn are_types(a: u64, b: u64, names: u64) -> bool
-    ensures { result ≡ allLegal names (a ∷ b ∷ []) }
+    ensures { result ≡ all_legal names (a ∷ b ∷ []) }
 {
     if is_legal(a, names) {
         return is_legal(b, names);
@@ -169,7 +169,7 @@ fn are_classes(a: u64, b: u64, names: u64) -> bool
 }
 
 fn are_good(types: bool, a: u64, b: u64, names: u64) -> bool
-    ensures { result ≡ goodNumbers types names (a ∷ b ∷ []) }
+    ensures { result ≡ good_numbers types names (a ∷ b ∷ []) }
 {
     if types {
         return are_types(a, b, names);
@@ -179,7 +179,7 @@ fn are_good(types: bool, a: u64, b: u64, names: u64) -> bool
 
 // The refusal of a table, of two numbers over it, of the lack of java/lang/Object.
 fn check_numbers(o: Outcome, types: bool, a: u64, b: u64) -> u64
-    ensures { result ≡ firstRefusal (ranChecks o.refusal o.tables types (a ∷ b ∷ [])) }
+    ensures { result ≡ first_refusal (ran_checks o.refusal o.tables types (a ∷ b ∷ [])) }
 {
     if o.refusal != 0 {
         return o.refusal;
@@ -199,7 +199,7 @@ fn check_numbers(o: Outcome, types: bool, a: u64, b: u64) -> u64
 
 // The same table, with the refusal of all these checks.
 fn with_checks(o: Outcome, types: bool, a: u64, b: u64) -> Outcome
-    ensures { (result.refusal ≡ firstRefusal (ranChecks o.refusal o.tables types (a ∷ b ∷ []))) × (result.tables ≡ o.tables) }
+    ensures { (result.refusal ≡ first_refusal (ran_checks o.refusal o.tables types (a ∷ b ∷ []))) × (result.tables ≡ o.tables) }
 {
     let refusal = check_numbers(o, types, a, b);
     let t = o.tables;
@@ -225,8 +225,8 @@ fn open_table(
     pairs: &mut [u64],
     marks: &mut [u64],
 ) -> Outcome
-    requires { RoomFor rec_flags.now pairs.old × (marks.old ≡ noMarks) }
-    ensures { Opens (givenBy names name_at name_len rec_flags rec_class rec_at rec_len parents) types a b pairs.new marks.new result }
+    requires { RoomFor rec_flags.now pairs.old × (marks.old ≡ no_marks) }
+    ensures { Opens (given_by names name_at name_len rec_flags rec_class rec_at rec_len parents) types a b pairs.new marks.new result }
 {
     let o = build_table(
         names, name_at, name_len, rec_flags, rec_class, rec_at, rec_len, parents, pairs, marks,
@@ -237,7 +237,7 @@ fn open_table(
 // ---- the answer to a question
 
 fn relation_number(r: Relation) -> u64
-    ensures { result ≡ relationNumber r }
+    ensures { result ≡ relation_number r }
 {
     match r {
         Relation::Yes => 0,
@@ -262,8 +262,8 @@ fn number(t: TypeWord) -> u64
 }
 
 fn value_of(pairs: &[u64], marks: &[u64], t: Tables, q: Question, a: u64, b: u64) -> u64
-    requires { (length marks.now ≡ marksRoom) × Fits t × (goodNumbers (ofTypes q) t.names (a ∷ b ∷ []) ≡ true) × NoRows pairs.now }
-    ensures { result ≡ value_of (view_of pairs.now marks.now t) (worldOf pairs.now marks.now t) q a b }
+    requires { (length marks.now ≡ marks_room) × Fits t × (good_numbers (of_types q) t.names (a ∷ b ∷ []) ≡ true) × NoRows pairs.now }
+    ensures { result ≡ value_of (view_of pairs.now marks.now t) (world_of pairs.now marks.now t) q a b }
 {
     let l = TypeWord { word: a };
     let r = TypeWord { word: b };
@@ -293,8 +293,8 @@ fn ask_over(
     pairs: &mut [u64],
     marks: &mut [u64],
 ) -> Answer
-    requires { RoomFor rec_flags.now pairs.old × (marks.old ≡ noMarks) }
-    ensures { result ≡ tableAnswer (givenBy names name_at name_len rec_flags rec_class rec_at rec_len parents) q a b }
+    requires { RoomFor rec_flags.now pairs.old × (marks.old ≡ no_marks) }
+    ensures { result ≡ table_answer (given_by names name_at name_len rec_flags rec_class rec_at rec_len parents) q a b }
 {
     let types = of_types(q);
     let o = open_table(
@@ -328,7 +328,7 @@ fn gather(s: Set) -> Ancestors
 }
 
 fn none_gathered(code: u64) -> Ancestors
-    ensures { result ≡ noAncestors code }
+    ensures { result ≡ no_ancestors code }
 {
     Ancestors {
         refusal: code,
@@ -352,8 +352,8 @@ fn ancestors_over(
     pairs: &mut [u64],
     marks: &mut [u64],
 ) -> Ancestors
-    requires { RoomFor rec_flags.now pairs.old × (marks.old ≡ noMarks) }
-    ensures { result ≡ tableAncestors (givenBy names name_at name_len rec_flags rec_class rec_at rec_len parents) class }
+    requires { RoomFor rec_flags.now pairs.old × (marks.old ≡ no_marks) }
+    ensures { result ≡ table_ancestors (given_by names name_at name_len rec_flags rec_class rec_at rec_len parents) class }
 {
     let o = open_table(
         names, name_at, name_len, rec_flags, rec_class, rec_at, rec_len, parents, false, class,
@@ -370,7 +370,7 @@ fn ancestors_over(
 // What an opened table tells: the ancestors of the first number, or the answer.
 fn tell(o: Outcome, pairs: &[u64], marks: &[u64], set: bool, q: Question, a: u64, b: u64) -> Told
     requires { Askable o q a b pairs.now marks.now }
-    ensures { TellsOver o (view_of pairs.now marks.now o.tables) (worldOf pairs.now marks.now o.tables) set q a b result.answer result.ancestors }
+    ensures { TellsOver o (view_of pairs.now marks.now o.tables) (world_of pairs.now marks.now o.tables) set q a b result.answer result.ancestors }
 {
     if o.refusal != 0 {
         let refused = Answer {
@@ -420,7 +420,7 @@ fn ask_layers(
     b: u64,
 ) -> Told
     requires { Single set q a b }
-    ensures { Tells (givenBy names name_at name_len rec_flags rec_class rec_at rec_len parents) set q a b result.answer result.ancestors }
+    ensures { Tells (given_by names name_at name_len rec_flags rec_class rec_at rec_len parents) set q a b result.answer result.ancestors }
 {
     let mut pairs = [0u64; SHOWN];
     let mut marks = [0u64; MARKS];
@@ -447,7 +447,7 @@ pub fn ask(
     b: u64,
     work: &mut [u64],
 ) -> Answer
-    ensures { Asked (givenBy names name_at name_len rec_flags rec_class rec_at rec_len parents) q a b work.old work.new result }
+    ensures { Asked (given_by names name_at name_len rec_flags rec_class rec_at rec_len parents) q a b work.old work.new result }
 {
     if work.len() < ROOM {
         return Answer {
@@ -496,7 +496,7 @@ pub fn ancestors_of(
     class: u64,
     work: &mut [u64],
 ) -> Ancestors
-    ensures { Gathers (givenBy names name_at name_len rec_flags rec_class rec_at rec_len parents) class work.old work.new result }
+    ensures { Gathers (given_by names name_at name_len rec_flags rec_class rec_at rec_len parents) class work.old work.new result }
 {
     if work.len() < ROOM {
         return none_gathered(22);

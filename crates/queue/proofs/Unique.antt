@@ -11,9 +11,9 @@ use Rattle.queue.proofs.pop.Reads as pop
 use Rattle.queue.proofs.pop.Kinds as pop-kinds
 
 module _ (κs : Lfts 1) where
-  pub fill_one : (a : Dens κs fill-kinds.ps) (r₁ r₂ : (res_t fill-kinds.r κs).Denot) (x₁ x₂ : AtExit (ended_of 1 fill-kinds.ps fill-kinds.r) κs)
+  pub fill-one : (a : Dens κs fill-kinds.ps) (r₁ r₂ : (res_t fill-kinds.r κs).Denot) (x₁ x₂ : AtExit (ended_of 1 fill-kinds.ps fill-kinds.r) κs)
       → fill.Post κs a r₁ x₁ → fill.Post κs a r₂ x₂ → (r₁ ≡ r₂) × (x₁.0.now ≡ x₂.0.now)
-  fill_one a r₁ r₂ x₁ x₂ p q = (p.0 ∙ sym q.0, p.1 ∙ sym q.1)
+  fill-one a r₁ r₂ x₁ x₂ p q = (p.0 ∙ sym q.0, p.1 ∙ sym q.1)
 
   pub offer-one : (a : Dens κs offer-kinds.ps) (r₁ r₂ : (res_t offer-kinds.r κs).Denot) (x₁ x₂ : AtExit (ended_of 1 offer-kinds.ps offer-kinds.r) κs)
       → offer.Post κs a r₁ x₁ → offer.Post κs a r₂ x₂ → (r₁ ≡ r₂) × (x₁.0.now ≡ x₂.0.now)

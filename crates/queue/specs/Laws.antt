@@ -16,7 +16,7 @@ use Rattle.view.specs.View.{numbers}
 use Rattle.solving.specs.Runs.{numbers-length}
 use Rattle.solving.specs.Queue.{NotIn, Distinct, Below, pigeon}
 use Rattle.solving.specs.Solving.{enqueue}
-use Rattle.queue.specs.Ring.{line, around, firstSet, offered, ringOffered, rested, popped, Shows}
+use Rattle.queue.specs.Ring.{line, around, first_set, offered, ring_offered, rested, popped, Shows}
 use Rattle.queue.specs.declared.Queue.{Queue}
 use Rattle.queue.specs.declared.Popped.{Popped}
 
@@ -67,14 +67,14 @@ around-flat ring h (suc n) f g =
 
 -- ---- members of lists
 
-elem_back : (x c : ℕ) (l : List ℕ) → elem x (l ++ (c ∷ [])) ≡ (eqb x c || elem x l)
+elem-back : (x c : ℕ) (l : List ℕ) → elem x (l ++ (c ∷ [])) ≡ (eqb x c || elem x l)
 unfolding elem
-elem_back x c [] = go (eqb x c) refl
+elem-back x c [] = go (eqb x c) refl
   where
     go : (b : Bool) → eqb x c ≡ b → (eqb c x || false) ≡ (b || false)
     go true e = ap (λ (t : Bool). t || false) (eq-eqb c x (sym (eqb-true x c e)))
     go false e = ap (λ (t : Bool). t || false) (ne_eqb c x (λ q. eqb-false x c e (sym q)))
-elem_back x c (y ∷ l) = ap (λ (t : Bool). eqb y x || t) (elem_back x c l) ∙ go (eqb y x) (eqb x c) (elem x l)
+elem-back x c (y ∷ l) = ap (λ (t : Bool). eqb y x || t) (elem-back x c l) ∙ go (eqb y x) (eqb x c) (elem x l)
   where
     go : (a b d : Bool) → (a || (b || d)) ≡ (b || (a || d))
     go true true d = refl
@@ -88,7 +88,7 @@ not-elem c (y ∷ l) h = ap (λ (t : Bool). t || elem c l) (ne_eqb y c h.0) ∙ 
 
 elem-numbers : (x n : ℕ) (i : ℕ) → elem x (numbers i (suc n)) ≡ (eqb x (i + n) || elem x (numbers i n))
 unfolding numbers elem
-elem-numbers x zero i = elem_back x i [] ∙ ap (λ (k : ℕ). eqb x k || false) (sym (add-zero i))
+elem-numbers x zero i = elem-back x i [] ∙ ap (λ (k : ℕ). eqb x k || false) (sym (add-zero i))
 elem-numbers x (suc n) i =
     ap (λ (t : Bool). eqb i x || t) (elem-numbers x n (suc i) ∙ ap (λ (k : ℕ). eqb x k || elem x (numbers (suc i) n)) (let z : suc i + n ≡ i + suc n = omega arith in z))
     ∙ go (eqb i x) (eqb x (i + suc n)) (elem x (numbers (suc i) n))
@@ -100,22 +100,22 @@ elem-numbers x (suc n) i =
 
 -- ---- filled
 
-first-length : (n : ℕ) → length (firstSet n) ≡ 16
-unfolding firstSet
+first-length : (n : ℕ) → length (first_set n) ≡ 16
+unfolding first_set
 first-length zero = refl
-first-length (suc n) = length-insert (firstSet n) n ∙ first-length n
+first-length (suc n) = length-insert (first_set n) n ∙ first-length n
 
-first-members : (n : ℕ) → n ≤ 512 → (c : ℕ) → member (firstSet n) c ≡ elem c (numbers 0 n)
-unfolding firstSet numbers elem
+first-members : (n : ℕ) → n ≤ 512 → (c : ℕ) → member (first_set n) c ≡ elem c (numbers 0 n)
+unfolding first_set numbers elem
 first-members zero l c = member-empty 16 c
 first-members (suc n) l c =
     let z = first-length n in
-    member-insert (firstSet n) n c (omega arith) ∙ ap (λ (t : Bool). eqb c n || t) (first-members n (omega arith) c) ∙ sym (elem-numbers c n 0 ∙ ap (λ (k : ℕ). eqb c k || elem c (numbers 0 n)) (zero-add n))
+    member-insert (first_set n) n c (omega arith) ∙ ap (λ (t : Bool). eqb c n || t) (first-members n (omega arith) c) ∙ sym (elem-numbers c n 0 ∙ ap (λ (k : ℕ). eqb c k || elem c (numbers 0 n)) (zero-add n))
 
 -- one number more, as the loop writes it
-pub first_more : (n : ℕ) → firstSet (n + 1) ≡ insert (firstSet n) n
-unfolding firstSet
-first_more n = ap firstSet (add-one n)
+pub first-more : (n : ℕ) → first_set (n + 1) ≡ insert (first_set n) n
+unfolding first_set
+first-more n = ap first_set (add-one n)
 
 numbers-put : (j i : ℕ) (l : List ℕ) → i < length l → set (numbers j i ++ drop i l) i (j + i) ≡ numbers j (suc i) ++ drop (suc i) l
 unfolding numbers
@@ -125,12 +125,12 @@ numbers-put j (suc i) [] h = absurd (omega arith)
 numbers-put j (suc i) (x ∷ l) h =
     ap (λ (m : List ℕ). j ∷ m) (ap (set (numbers (suc j) i ++ drop i l) i) (let z : j + suc i ≡ suc j + i = omega arith in z) ∙ numbers-put (suc j) i l (omega arith))
 
-pub numbers_more : (i : ℕ) (l : List ℕ) → i < length l → set (numbers 0 i ++ drop i l) i i ≡ numbers 0 (i + 1) ++ drop (i + 1) l
-numbers_more i l h = ap (set (numbers 0 i ++ drop i l) i) (sym (zero-add i)) ∙ numbers-put 0 i l h ∙ ap (λ (k : ℕ). numbers 0 k ++ drop k l) (sym (add-one i))
+pub numbers-more : (i : ℕ) (l : List ℕ) → i < length l → set (numbers 0 i ++ drop i l) i i ≡ numbers 0 (i + 1) ++ drop (i + 1) l
+numbers-more i l h = ap (set (numbers 0 i ++ drop i l) i) (sym (zero-add i)) ∙ numbers-put 0 i l h ∙ ap (λ (k : ℕ). numbers 0 k ++ drop k l) (sym (add-one i))
 
 -- A FILLED RING SHOWS THE FIRST n COMPONENTS
-pub fill_shows : (ring : List ℕ) (n : ℕ) → length ring ≡ 512 → n ≤ 512 → Shows (numbers 0 n ++ drop n ring) (line 0 n (firstSet n)) (numbers 0 n)
-fill_shows ring n s l =
+pub fill-shows : (ring : List ℕ) (n : ℕ) → length ring ≡ 512 → n ≤ 512 → Shows (numbers 0 n ++ drop n ring) (line 0 n (first_set n)) (numbers 0 n)
+fill-shows ring n s l =
     let z = numbers-length 0 n in
     let whole : length (numbers 0 n ++ drop n ring) ≡ 512 = simp (length-append, length-drop) (omega arith) in
     record {
@@ -153,21 +153,21 @@ module _ (q : Queue) (c : ℕ) where
   unfolding offered
   offered-new h = rw h
 
-  pub ring-old : (ring : List ℕ) → member q.queued.words c ≡ true → ringOffered ring q c ≡ ring
-  unfolding ringOffered
+  pub ring-old : (ring : List ℕ) → member q.queued.words c ≡ true → ring_offered ring q c ≡ ring
+  unfolding ring_offered
   ring-old ring h = rw h
 
-  pub ring-new : (ring : List ℕ) → member q.queued.words c ≡ false → ringOffered ring q c ≡ set ring ((q.head + q.len) % 512) c
-  unfolding ringOffered
+  pub ring-new : (ring : List ℕ) → member q.queued.words c ≡ false → ring_offered ring q c ≡ set ring ((q.head + q.len) % 512) c
+  unfolding ring_offered
   ring-new ring h = rw h
 
 -- AN OFFER IS `enqueue`
 pub offer-shows : (ring : List ℕ) (q : Queue) (l : List ℕ) (c : ℕ) → c < 512 → (elem c l ≡ false → length l < 512) → Shows ring q l
-    → Shows (ringOffered ring q c) (offered q c) (enqueue c l)
+    → Shows (ring_offered ring q c) (offered q c) (enqueue c l)
 unfolding enqueue
 offer-shows ring q l c small room y = go (elem c l) refl
   where
-    go : (b : Bool) → elem c l ≡ b → Shows (ringOffered ring q c) (offered q c) (cond b l (l ++ (c ∷ [])))
+    go : (b : Bool) → elem c l ≡ b → Shows (ring_offered ring q c) (offered q c) (cond b l (l ++ (c ∷ [])))
     go true e =
         let m = y.members c ∙ e in
         subst (λ (r : List ℕ). Shows r (offered q c) l) (sym (ring-old q c ring m)) (subst (λ (p : Queue). Shows ring p l) (sym (offered-old q c m)) y)
@@ -184,7 +184,7 @@ offer-shows ring q l c small room y = go (elem c l) refl
           entries = around-put ring q.head q.len c y.size short ∙ ap (λ (k : List ℕ). k ++ (c ∷ [])) y.entries;
           members = λ x.
               let w = y.words in
-              member-insert q.queued.words c x (omega arith) ∙ ap (λ (t : Bool). eqb x c || t) (y.members x) ∙ sym (elem_back x c l);
+              member-insert q.queued.words c x (omega arith) ∙ ap (λ (t : Bool). eqb x c || t) (y.members x) ∙ sym (elem-back x c l);
           size = length-set ring ((q.head + q.len) % 512) c ∙ y.size;
           words = length-insert q.queued.words c ∙ y.words;
           head = y.head;
@@ -201,8 +201,8 @@ elem-not c (x ∷ l) h = go (eqb x c) refl h (elem-not c l)
     go false q r ih = (eqb-false x c q, ih r)
 
 -- THERE IS ROOM for who is not queued: nobody is queued twice, and there are at most 512
-pub room_for : (l : List ℕ) (c : ℕ) → c < 512 → Distinct l → Below 512 l → elem c l ≡ false → length l < 512
-room_for l c small d b e = pigeon 512 (c ∷ l) (elem-not c l e, d) (small, b)
+pub room-for : (l : List ℕ) (c : ℕ) → c < 512 → Distinct l → Below 512 l → elem c l ≡ false → length l < 512
+room-for l c small d b e = pigeon 512 (c ∷ l) (elem-not c l e, d) (small, b)
 
 -- ---- popped
 

@@ -18,16 +18,16 @@ abbrev pub waiting : List ℕ → Queue → List ℕ
 waiting ring q = around ring q.head q.len
 
 -- the set of the numbers below n
-unfoldable pub firstSet : ℕ → List ℕ
-firstSet zero = replicate 16 0
-firstSet (suc n) = insert (firstSet n) n
+unfoldable pub first_set : ℕ → List ℕ
+first_set zero = replicate 16 0
+first_set (suc n) = insert (first_set n) n
 
 -- c put at the back, unless it is queued
 unfoldable pub offered : Queue → ℕ → Queue
 offered q c = cond (member q.queued.words c) q (line q.head (q.len + 1) (insert q.queued.words c))
 
-unfoldable pub ringOffered : List ℕ → Queue → ℕ → List ℕ
-ringOffered ring q c = cond (member q.queued.words c) ring (set ring ((q.head + q.len) % 512) c)
+unfoldable pub ring_offered : List ℕ → Queue → ℕ → List ℕ
+ring_offered ring q c = cond (member q.queued.words c) ring (set ring ((q.head + q.len) % 512) c)
 
 -- the queue without its front, c
 abbrev pub rested : Queue → ℕ → Queue

@@ -2,7 +2,7 @@
 ghost use Rattle.std.specs.Prelude.{◌≡◌, false, ◌++◌, ◌≤◌, ◌<◌, length, drop};
 ghost use Rattle.sets.specs.Sets.{member};
 ghost use Rattle.view.specs.View.{numbers};
-ghost use Rattle.queue.specs.Ring.{line, firstSet, offered, ringOffered, popped};
+ghost use Rattle.queue.specs.Ring.{line, first_set, offered, ring_offered, popped};
 
 use sets::Set;
 
@@ -24,7 +24,7 @@ pub struct Popped {
 // The first n components, ascending.
 pub fn fill(ring: &mut [u64], n: u64) -> Queue
     requires { (length ring.old ≡ 512) × (n ≤ 512) }
-    ensures { (result ≡ line 0 n (firstSet n)) × (ring.new ≡ numbers 0 n ++ drop n ring.old) }
+    ensures { (result ≡ line 0 n (first_set n)) × (ring.new ≡ numbers 0 n ++ drop n ring.old) }
 {
     let mut queued = Set::empty();
     let mut i: u64 = 0;
@@ -43,7 +43,7 @@ pub fn fill(ring: &mut [u64], n: u64) -> Queue
 // Puts c at the back unless it is queued.
 pub fn offer(ring: &mut [u64], q: Queue, c: u64) -> Queue
     requires { (length ring.old ≡ 512) × (q.head < 512) × (member q.queued.words c ≡ false → q.len < 512) }
-    ensures { (result ≡ offered q c) × (ring.new ≡ ringOffered ring.old q c) }
+    ensures { (result ≡ offered q c) × (ring.new ≡ ring_offered ring.old q c) }
 {
     let queued = q.queued;
     if queued.has(c) {

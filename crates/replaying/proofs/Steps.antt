@@ -13,8 +13,8 @@ use Rattle.replaying.specs.declared.answers.Verdict.TheVariants.{Agrees, Differs
 abbrev pub Without : List ℕ → ℕ → ℕ → ℕ → Type 0
 Without s from b i = (k : ℕ) → from ≤ k → k < i → get_or s k 0 ≡ b → ⊥
 
-pub without_more : (s : List ℕ) (from b i : ℕ) → Without s from b i → (get_or s i 0 ≡ b → ⊥) → Without s from b (i + 1)
-without_more s from b i w h k g l e = go (ℕ_discrete k i)
+pub without-more : (s : List ℕ) (from b i : ℕ) → Without s from b i → (get_or s i 0 ≡ b → ⊥) → Without s from b (i + 1)
+without-more s from b i w h k g l e = go (ℕ_discrete k i)
   where
     go : Dec (k ≡ i) → ⊥
     go (yes q) = h (ap (λ (j : ℕ). get_or s j 0) (sym q) ∙ e)
@@ -33,8 +33,8 @@ alike-more x y i a h k l = go (ℕ_discrete k i)
     go (no q) = a k (omega arith)
 
 -- at the end they are the same, and `true` says so
-pub alike_all : (x y : List ℕ) (i : ℕ) → length x ≡ length y → length x ≤ i → Alike x y i → (true ≡ true) ↔ (x ≡ y)
-alike_all x y i e l a = (λ t. ext_get_or 0 x y e (λ k h. a k (omega arith)), λ q. refl)
+pub alike-all : (x y : List ℕ) (i : ℕ) → length x ≡ length y → length x ≤ i → Alike x y i → (true ≡ true) ↔ (x ≡ y)
+alike-all x y i e l a = (λ t. ext_get_or 0 x y e (λ k h. a k (omega arith)), λ q. refl)
 
 -- what differs is not the same, and `false` says so
 pub differs : (x y : List ℕ) → (x ≡ y → ⊥) → (false ≡ true) ↔ (x ≡ y)
@@ -42,14 +42,14 @@ differs x y n = (λ t. absurd (true≢false (sym t)), λ q. absurd (n q))
 
 -- ---- verdicts
 
-isAgrees : Verdict → Bool
-isAgrees Agrees = true
-isAgrees Differs = false
-isAgrees Unread = false
+is_agrees : Verdict → Bool
+is_agrees Agrees = true
+is_agrees Differs = false
+is_agrees Unread = false
 
 agrees-differs : (r : Verdict) → r ≡ Agrees → r ≡ Differs → ⊥
-unfolding isAgrees
-agrees-differs r p q = true≢false (ap isAgrees (sym p ∙ q))
+unfolding is_agrees
+agrees-differs r p q = true≢false (ap is_agrees (sym p ∙ q))
 
 -- the verdict on a comparison that tells whether P says whether P
 pub judges-if : {P : Type 0} (r : Verdict) (b : Bool) → r ≡ verdict b → (b ≡ true) ↔ P → Judges P r
@@ -58,21 +58,21 @@ judges-if r false e f = ((λ q. absurd (agrees-differs r q e), λ p. absurd (tru
 
 -- ---- lists
 
-pub end_none : (a : List ℕ) (at : ℕ) → length a ≤ at + get_or a at 0 → 0 ≡ end_of a at
+pub end-none : (a : List ℕ) (at : ℕ) → length a ≤ at + get_or a at 0 → 0 ≡ end_of a at
 unfolding end_of
-end_none a at h = sym (rw (le-ltb (at + get_or a at 0) (length a) h))
+end-none a at h = sym (rw (le-ltb (at + get_or a at 0) (length a) h))
 
 pub end-some : (a : List ℕ) (at : ℕ) → at + get_or a at 0 < length a → at + 1 + get_or a at 0 ≡ end_of a at
 unfolding end_of
 end-some a at h = sym (rw (lt-ltb (at + get_or a at 0) (length a) h))
 
-pub last_none : (a : List ℕ) (at more e : ℕ) → e ≡ end_of a at → (e + more ≡ length a → ⊥) → 0 ≡ last_end a at more
+pub last-none : (a : List ℕ) (at more e : ℕ) → e ≡ end_of a at → (e + more ≡ length a → ⊥) → 0 ≡ last_end a at more
 unfolding last_end
-last_none a at more e q n = sym (rw (← q, ne_eqb (e + more) (length a) n))
+last-none a at more e q n = sym (rw (← q, ne_eqb (e + more) (length a) n))
 
-pub last_some : (a : List ℕ) (at more e : ℕ) → e ≡ end_of a at → e + more ≡ length a → e ≡ last_end a at more
+pub last-some : (a : List ℕ) (at more e : ℕ) → e ≡ end_of a at → e + more ≡ length a → e ≡ last_end a at more
 unfolding last_end
-last_some a at more e q h = sym (rw (← q, eq-eqb (e + more) (length a) h))
+last-some a at more e q h = sym (rw (← q, eq-eqb (e + more) (length a) h))
 
 -- an end that is not past the place is none
 pub none-at : (e at n : ℕ) → e ≤ at → ((e ≡ 0 → ⊥) → e ≡ at + 1 + n) → e ≡ 0
@@ -82,9 +82,9 @@ none-at e at n h w = go (ℕ_discrete e 0)
     go (yes z) = z
     go (no k) = let q = w k in omega arith
 
-pub after_none : (a : List ℕ) (s : Span) → s.start ≡ 0 → span 0 0 ≡ after_of a s
+pub after-none : (a : List ℕ) (s : Span) → s.start ≡ 0 → span 0 0 ≡ after_of a s
 unfolding after_of
-after_none a s z = sym (rw (eq-eqb s.start 0 z))
+after-none a s z = sym (rw (eq-eqb s.start 0 z))
 
 module _ (a : List ℕ) (s : Span) (n : s.start ≡ 0 → ⊥) (e : ℕ) (q : e ≡ end_of a s.end) where
   pub after-broken : e ≡ 0 → span 0 0 ≡ after_of a s
@@ -190,9 +190,9 @@ unfolding list_of
 list-there a from k s r p e = e ∙ ap (λ (t : Span). part_of a t.start t.end) p
 
 -- what a test of `is_last` leaves
-pub not_last : (a : List ℕ) (from k : ℕ) (s : Span) → s ≡ place_of a from k → s.start ≡ 0 → not (eqb s.start 0) ≡ is_last a from k
+pub not-last : (a : List ℕ) (from k : ℕ) (s : Span) → s ≡ place_of a from k → s.start ≡ 0 → not (eqb s.start 0) ≡ is_last a from k
 unfolding is_last
-not_last a from k s p z =
+not-last a from k s p z =
     ap (λ (b : Bool). not b) (eq-eqb s.start 0 z)
     ∙ ap (λ (b : Bool). not b && eqb (place_of a from k).end (length a)) (sym (eq-eqb (place_of a from k).start 0 (ap (λ (t : Span). t.start) (sym p) ∙ z)))
 

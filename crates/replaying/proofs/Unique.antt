@@ -17,7 +17,7 @@ use Rattle.replaying.proofs.answers.all.Reads as all-reads
 use Rattle.replaying.proofs.answers.all.Kinds as all_kinds
 use Rattle.replaying.proofs.answers.one.Reads as one-reads
 use Rattle.replaying.proofs.answers.one.Kinds as one-kinds
-use Rattle.replaying.proofs.lists.end.Reads as end_reads
+use Rattle.replaying.proofs.lists.end.Reads as end-reads
 use Rattle.replaying.proofs.lists.end.Kinds as end-kinds
 use Rattle.replaying.proofs.lists.end_before.Reads as end-before-reads
 use Rattle.replaying.proofs.lists.end_before.Kinds as end-before-kinds
@@ -55,16 +55,16 @@ bool-one true s p q = sym (q.1 (p.0 refl))
 bool-one false true p q = p.1 (q.0 refl)
 bool-one false false p q = refl
 
-isUnread : Verdict → Bool
-isUnread Agrees = false
-isUnread Differs = false
-isUnread Unread = true
+is_unread : Verdict → Bool
+is_unread Agrees = false
+is_unread Differs = false
+is_unread Unread = true
 
 judges-one : {P : Type 0} (r s : Verdict) → Judges P r → Judges P s → r ≡ s
-unfolding isUnread
+unfolding is_unread
 judges-one Agrees s p q = sym (q.0.1 (p.0.0 refl))
 judges-one Differs s p q = sym (q.1.1 (p.1.0 refl))
-judges-one Unread s p q = absurd (true≢false (ap isUnread (p.1.1 (λ h. true≢false (ap isUnread (p.0.1 h))))))
+judges-one Unread s p q = absurd (true≢false (ap is_unread (p.1.1 (λ h. true≢false (ap is_unread (p.0.1 h))))))
 
 -- ---- a part has one end
 
@@ -86,9 +86,9 @@ part-one text from b r s p q = go (ℕ_discrete r s) (part-le text from b r s p 
 
 -- ---- each function
 
-pub flag_one : (κs : Lfts 0) (a : Dens κs flag-kinds.ps) (r₁ r₂ : (res_t flag-kinds.r κs).Denot)
+pub flag-one : (κs : Lfts 0) (a : Dens κs flag-kinds.ps) (r₁ r₂ : (res_t flag-kinds.r κs).Denot)
     (x₁ x₂ : AtExit (ended_of 0 flag-kinds.ps flag-kinds.r) κs) → flag-reads.Post κs a r₁ x₁ → flag-reads.Post κs a r₂ x₂ → r₁ ≡ r₂
-flag_one κs a r₁ r₂ x₁ x₂ p q = p ∙ sym q
+flag-one κs a r₁ r₂ x₁ x₂ p q = p ∙ sym q
 
 pub judged-one : (κs : Lfts 0) (a : Dens κs judged-kinds.ps) (r₁ r₂ : (res_t judged-kinds.r κs).Denot)
     (x₁ x₂ : AtExit (ended_of 0 judged-kinds.ps judged-kinds.r) κs) → judged-reads.Post κs a r₁ x₁ → judged-reads.Post κs a r₂ x₂ → r₁ ≡ r₂
@@ -98,25 +98,25 @@ pub answers-same-one : (κs : Lfts 2) (a : Dens κs answers-same-kinds.ps) (r₁
     (x₁ x₂ : AtExit (ended_of 2 answers-same-kinds.ps answers-same-kinds.r) κs) → answers-same-reads.Post κs a r₁ x₁ → answers-same-reads.Post κs a r₂ x₂ → r₁ ≡ r₂
 answers-same-one κs a r₁ r₂ x₁ x₂ p q = bool-one r₁ r₂ p q
 
-pub all_one : (κs : Lfts 2) (a : Dens κs all_kinds.ps) (r₁ r₂ : (res_t all_kinds.r κs).Denot)
+pub all-one : (κs : Lfts 2) (a : Dens κs all_kinds.ps) (r₁ r₂ : (res_t all_kinds.r κs).Denot)
     (x₁ x₂ : AtExit (ended_of 2 all_kinds.ps all_kinds.r) κs) → all-reads.Post κs a r₁ x₁ → all-reads.Post κs a r₂ x₂ → r₁ ≡ r₂
-all_one κs a r₁ r₂ x₁ x₂ p q = judges-one r₁ r₂ p q
+all-one κs a r₁ r₂ x₁ x₂ p q = judges-one r₁ r₂ p q
 
 pub one-one : (κs : Lfts 1) (a : Dens κs one-kinds.ps) (r₁ r₂ : (res_t one-kinds.r κs).Denot)
     (x₁ x₂ : AtExit (ended_of 1 one-kinds.ps one-kinds.r) κs) → one-reads.Post κs a r₁ x₁ → one-reads.Post κs a r₂ x₂ → r₁ ≡ r₂
 one-one κs a r₁ r₂ x₁ x₂ p q = judges-one r₁ r₂ p q
 
 pub end-one : (κs : Lfts 1) (a : Dens κs end-kinds.ps) (r₁ r₂ : (res_t end-kinds.r κs).Denot)
-    (x₁ x₂ : AtExit (ended_of 1 end-kinds.ps end-kinds.r) κs) → end_reads.Post κs a r₁ x₁ → end_reads.Post κs a r₂ x₂ → r₁ ≡ r₂
+    (x₁ x₂ : AtExit (ended_of 1 end-kinds.ps end-kinds.r) κs) → end-reads.Post κs a r₁ x₁ → end-reads.Post κs a r₂ x₂ → r₁ ≡ r₂
 end-one κs a r₁ r₂ x₁ x₂ p q = p.is ∙ sym q.is
 
 pub end-before-one : (κs : Lfts 1) (a : Dens κs end-before-kinds.ps) (r₁ r₂ : (res_t end-before-kinds.r κs).Denot)
     (x₁ x₂ : AtExit (ended_of 1 end-before-kinds.ps end-before-kinds.r) κs) → end-before-reads.Post κs a r₁ x₁ → end-before-reads.Post κs a r₂ x₂ → r₁ ≡ r₂
 end-before-one κs a r₁ r₂ x₁ x₂ p q = p.is ∙ sym q.is
 
-pub after_one : (κs : Lfts 1) (a : Dens κs after-kinds.ps) (r₁ r₂ : (res_t after-kinds.r κs).Denot)
+pub after-one : (κs : Lfts 1) (a : Dens κs after-kinds.ps) (r₁ r₂ : (res_t after-kinds.r κs).Denot)
     (x₁ x₂ : AtExit (ended_of 1 after-kinds.ps after-kinds.r) κs) → after-reads.Post κs a r₁ x₁ → after-reads.Post κs a r₂ x₂ → r₁ ≡ r₂
-after_one κs a r₁ r₂ x₁ x₂ p q = p.is ∙ sym q.is
+after-one κs a r₁ r₂ x₁ x₂ p q = p.is ∙ sym q.is
 
 pub part-end-one : (κs : Lfts 1) (a : Dens κs part-end-kinds.ps) (r₁ r₂ : (res_t part-end-kinds.r κs).Denot)
     (x₁ x₂ : AtExit (ended_of 1 part-end-kinds.ps part-end-kinds.r) κs) → part-end-reads.Post κs a r₁ x₁ → part-end-reads.Post κs a r₂ x₂ → r₁ ≡ r₂
@@ -152,9 +152,9 @@ pub numbers-one : (κs : Lfts 1) (a : Dens κs numbers-kinds.ps) (r₁ r₂ : (r
     → numbers-reads.Post κs a r₁ x₁ → numbers-reads.Post κs a r₂ x₂ → r₁.now ≡ r₂.now
 numbers-one κs a r₁ r₂ x₁ x₂ p q = p ∙ sym q
 
-pub bytes_one : (κs : Lfts 1) (a : Dens κs bytes-kinds.ps) (r₁ r₂ : (res_t bytes-kinds.r κs).Denot) (x₁ x₂ : AtExit (ended_of 1 bytes-kinds.ps bytes-kinds.r) κs)
+pub bytes-one : (κs : Lfts 1) (a : Dens κs bytes-kinds.ps) (r₁ r₂ : (res_t bytes-kinds.r κs).Denot) (x₁ x₂ : AtExit (ended_of 1 bytes-kinds.ps bytes-kinds.r) κs)
     → bytes-reads.Post κs a r₁ x₁ → bytes-reads.Post κs a r₂ x₂ → r₁.now ≡ r₂.now
-bytes_one κs a r₁ r₂ x₁ x₂ p q = p ∙ sym q
+bytes-one κs a r₁ r₂ x₁ x₂ p q = p ∙ sym q
 
 pub place-one : (κs : Lfts 1) (a : Dens κs place-kinds.ps) (r₁ r₂ : (res_t place-kinds.r κs).Denot) (x₁ x₂ : AtExit (ended_of 1 place-kinds.ps place-kinds.r) κs)
     → place-reads.Post κs a r₁ x₁ → place-reads.Post κs a r₂ x₂ → r₁ ≡ r₂

@@ -3,7 +3,7 @@
 ghost use Rattle.std.specs.Prelude.{◌≡◌, ◌+◌, ◌*◌, ◌≤◌, cond, length};
 ghost use Rattle.lineout.specs.Printed.{Puts};
 ghost use Rattle.replaying.specs.Replaying.{more, Entered, counted};
-ghost use Rattle.replaying.specs.Report.{field, countsOf, nextText, nextName, namesText, namesIn, total, sumsOf, unreadAll, reportIn};
+ghost use Rattle.replaying.specs.Report.{field, counts_of, next_text, next_name, names_text, names_in, total, sums_of, unread_all, report_in};
 
 use crate::answers::Verdict;
 use crate::parts::number_at;
@@ -99,7 +99,7 @@ fn put_field(out: &mut [u8], at: usize, n: u64) -> usize
 // The counts behind name k, and the end of its line.
 fn put_counts(out: &mut [u8], at: usize, counts: &[u64], k: usize) -> usize
     requires { (at + 43 ≤ length out.old) × (k ≤ 128) }
-    ensures { Puts (countsOf counts.now k) at out.old out.new result × (result ≤ at + 43) }
+    ensures { Puts (counts_of counts.now k) at out.old out.new result × (result ≤ at + 43) }
 {
     let m = put_field(out, at, number_at(counts, 2 * k));
     let n = put_field(out, m, number_at(counts, 2 * k + 1));
@@ -109,7 +109,7 @@ fn put_counts(out: &mut [u8], at: usize, counts: &[u64], k: usize) -> usize
 // One byte of the names: a blank ends name k.
 fn put_next(out: &mut [u8], at: usize, b: u8, counts: &[u64], k: usize) -> usize
     requires { (at + 43 ≤ length out.old) × (k ≤ 128) }
-    ensures { Puts (nextText counts.now k b) at out.old out.new result × (result ≤ at + 43) }
+    ensures { Puts (next_text counts.now k b) at out.old out.new result × (result ≤ at + 43) }
 {
     if b == b' ' {
         return put_counts(out, at, counts, k);
@@ -120,7 +120,7 @@ fn put_next(out: &mut [u8], at: usize, b: u8, counts: &[u64], k: usize) -> usize
 // The name that the byte after b belongs to.
 fn next_name(k: usize, b: u8) -> usize
     requires { k ≤ 128 }
-    ensures { result ≡ nextName k b }
+    ensures { result ≡ next_name k b }
 {
     if b == b' ' {
         return k + 1;
@@ -131,7 +131,7 @@ fn next_name(k: usize, b: u8) -> usize
 // A line for each name, with its counts.
 fn put_names(out: &mut [u8], at: usize, names: &[u8], counts: &[u64]) -> usize
     requires { (length names.now ≤ 128) × (at + 43 * (length names.now + 1) ≤ length out.old) }
-    ensures { Puts (namesText counts.now 0 names.now) at out.old out.new result × (result ≤ at + 43 * (length names.now + 1)) }
+    ensures { Puts (names_text counts.now 0 names.now) at out.old out.new result × (result ≤ at + 43 * (length names.now + 1)) }
 {
     let mut k: usize = 0;
     let mut m = at;
@@ -148,7 +148,7 @@ fn put_names(out: &mut [u8], at: usize, names: &[u8], counts: &[u64]) -> usize
 // How many names these are.
 fn names_in(names: &[u8]) -> usize
     requires { length names.now ≤ 128 }
-    ensures { (result ≡ namesIn names.now) × (result ≤ 129) }
+    ensures { (result ≡ names_in names.now) × (result ≤ 129) }
 {
     let mut k: usize = 0;
     let mut i: usize = 0;
@@ -176,7 +176,7 @@ fn sum(counts: &[u64], first: usize, n: usize) -> u64
 // A line for lines that are no case, and one for all.
 fn put_sums(out: &mut [u8], at: usize, counts: &[u64], n: usize) -> usize
     requires { (at + 473 ≤ length out.old) × (n ≤ 129) }
-    ensures { Puts (namesText (sumsOf counts.now n) 0 unreadAll) at out.old out.new result × (result ≤ at + 473) }
+    ensures { Puts (names_text (sums_of counts.now n) 0 unread_all) at out.old out.new result × (result ≤ at + 473) }
 {
     let unread = number_at(counts, 127);
     let agree = sum(counts, 0, n);
@@ -187,7 +187,7 @@ fn put_sums(out: &mut [u8], at: usize, counts: &[u64], n: usize) -> usize
 // The report of names with a blank between, to the front of a buffer; tells how long it is. Nothing and 0 for more than 128 bytes
 // of names, or a buffer of less than `ROOM`.
 pub fn put(names: &[u8], counts: &[u64], out: &mut [u8]) -> usize
-    ensures { Puts (reportIn names.now counts.now (length out.old)) 0 out.old out.new result × (result ≤ length out.new) }
+    ensures { Puts (report_in names.now counts.now (length out.old)) 0 out.old out.new result × (result ≤ length out.new) }
 {
     if 128 < names.len() {
         return 0;

@@ -7,17 +7,17 @@ use Rattle.ty.specs.declared.MaybeType.TheVariants.{Is, Nothing}
 use Rattle.ty.specs.Types.{ArgType}
 use Rattle.ty.specs.Words.{type_of}
 use Rattle.tables.specs.declared.Tables.{Tables}
-use Rattle.tables.specs.Table.{marksRoom}
-use Rattle.lattice.specs.Lattice.{World, domainAccepts, joinAll, assignableToAll, mostSpecificUpper}
+use Rattle.tables.specs.Table.{marks_room}
+use Rattle.lattice.specs.Lattice.{World, domain_accepts, join_all, assignable_to_all, most_specific_upper}
 use Rattle.lattice.specs.JoinAll.{Ascend}
 use Rattle.prepared.specs.Prepared.{Prepared}
 use Rattle.joins.specs.Joins.{Fits, AllLegal}
-use Rattle.solving.specs.Solving.{TypeState, or_else, onlyConcrete, hintsOf}
-use Rattle.solving.specs.Resolve.{passing, allProduce, producesAll, single}
+use Rattle.solving.specs.Solving.{TypeState, or_else, only_concrete, hints_of}
+use Rattle.solving.specs.Resolve.{passing, all_produce, produces_all, single}
 
 -- THE STATE of a component whose bounds are these words
-abbrev pub stateIn : List ℕ → List ℕ → List ℕ → List ℕ → List ℕ → TypeState
-stateIn exact lower upper domain fallback = record {
+abbrev pub state_in : List ℕ → List ℕ → List ℕ → List ℕ → List ℕ → TypeState
+state_in exact lower upper domain fallback = record {
   exact = map type_of exact;
   lower = map type_of lower;
   upper = map type_of upper;
@@ -29,7 +29,7 @@ stateIn exact lower upper domain fallback = record {
 
 -- the class tables are within the limits, and Object is a name
 abbrev pub Classes : List ℕ → Tables → Type 0
-Classes marks t = (length marks ≡ marksRoom) × Fits t
+Classes marks t = (length marks ≡ marks_room) × Fits t
 
 -- and, where rows stand behind the keys, they are what the classes reach
 abbrev pub Classed : List ℕ → List ℕ → Tables → Type 0
@@ -42,16 +42,16 @@ Bounds t words = AllLegal t words × Ascend (map type_of words)
 -- ---- on types that may be missing, as words
 
 -- a candidate, if it passes
-abbrev pub keptIf : Bool → TypeWord → MaybeType
-keptIf passes t = cond passes (Is t) Nothing
+abbrev pub kept_if : Bool → TypeWord → MaybeType
+kept_if passes t = cond passes (Is t) Nothing
 
 abbrev pub differs : TypeWord → MaybeType → Bool
 differs hint (Is u) = not (eqb hint.word u.word)
 differs hint Nothing = false
 
-abbrev pub bothDiffer : MaybeType → MaybeType → Bool
-bothDiffer (Is t) found = differs t found
-bothDiffer Nothing found = false
+abbrev pub both_differ : MaybeType → MaybeType → Bool
+both_differ (Is t) found = differs t found
+both_differ Nothing found = false
 
 abbrev pub either_of : MaybeType → MaybeType → MaybeType
 either_of (Is t) second = Is t
@@ -61,34 +61,34 @@ either_of Nothing second = second
 
 module _ (w : World) where
   unfoldable pub fitting : Option ArgType → List ArgType → Option ArgType
-  fitting o upper = passing o (λ ty. assignableToAll w ty upper)
+  fitting o upper = passing o (λ ty. assignable_to_all w ty upper)
 
-  abbrev pub upperPasses : List ArgType → List ArgType → List ArgType → ArgType → Bool
-  upperPasses exact lower domain candidate = (allProduce w exact candidate && allProduce w lower candidate) && domainAccepts domain candidate
+  abbrev pub upper_passes : List ArgType → List ArgType → List ArgType → ArgType → Bool
+  upper_passes exact lower domain candidate = (all_produce w exact candidate && all_produce w lower candidate) && domain_accepts domain candidate
 
-  abbrev pub castPasses : List ArgType → List ArgType → ArgType → Bool
-  castPasses upper domain ty = producesAll w ty upper && domainAccepts domain ty
+  abbrev pub cast_passes : List ArgType → List ArgType → ArgType → Bool
+  cast_passes upper domain ty = produces_all w ty upper && domain_accepts domain ty
 
-  abbrev pub fallbackPasses : List ArgType → List ArgType → ArgType → Bool
-  fallbackPasses upper domain candidate = assignableToAll w candidate upper && domainAccepts domain candidate
+  abbrev pub fallback_passes : List ArgType → List ArgType → ArgType → Bool
+  fallback_passes upper domain candidate = assignable_to_all w candidate upper && domain_accepts domain candidate
 
-  unfoldable pub byUpper : List ArgType → List ArgType → List ArgType → List ArgType → Option ArgType
-  byUpper exact lower upper domain = passing (mostSpecificUpper w upper) (upperPasses exact lower domain)
+  unfoldable pub by_upper : List ArgType → List ArgType → List ArgType → List ArgType → Option ArgType
+  by_upper exact lower upper domain = passing (most_specific_upper w upper) (upper_passes exact lower domain)
 
-  unfoldable pub byCast : Option ArgType → List ArgType → List ArgType → Option ArgType
-  byCast o upper domain = passing o (castPasses upper domain)
+  unfoldable pub by_cast : Option ArgType → List ArgType → List ArgType → Option ArgType
+  by_cast o upper domain = passing o (cast_passes upper domain)
 
-  unfoldable pub byFallback : List ArgType → List ArgType → List ArgType → Option ArgType
-  byFallback upper domain fallback = passing (onlyConcrete (joinAll w fallback)) (fallbackPasses upper domain)
+  unfoldable pub by_fallback : List ArgType → List ArgType → List ArgType → Option ArgType
+  by_fallback upper domain fallback = passing (only_concrete (join_all w fallback)) (fallback_passes upper domain)
 
-  unfoldable pub byHint : List ArgType → List ArgType → Option ArgType
-  byHint upper domain = fitting (single (hintsOf w.object domain)) upper
+  unfoldable pub by_hint : List ArgType → List ArgType → Option ArgType
+  by_hint upper domain = fitting (single (hints_of w.object domain)) upper
 
-  unfoldable pub fromFallback : List ArgType → List ArgType → List ArgType → Option ArgType
-  fromFallback upper domain fallback = or_else (byFallback upper domain fallback) (byHint upper domain)
+  unfoldable pub from_fallback : List ArgType → List ArgType → List ArgType → Option ArgType
+  from_fallback upper domain fallback = or_else (by_fallback upper domain fallback) (by_hint upper domain)
 
-  unfoldable pub fromCast : Option ArgType → List ArgType → List ArgType → List ArgType → Option ArgType
-  fromCast o upper domain fallback = or_else (byCast o upper domain) (fromFallback upper domain fallback)
+  unfoldable pub from_cast : Option ArgType → List ArgType → List ArgType → List ArgType → Option ArgType
+  from_cast o upper domain fallback = or_else (by_cast o upper domain) (from_fallback upper domain fallback)
 
-  unfoldable pub fromUpper : Option ArgType → TypeState → Option ArgType
-  fromUpper o s = or_else (byUpper s.exact s.lower s.upper s.domain) (fromCast o s.upper s.domain s.fallback)
+  unfoldable pub from_upper : Option ArgType → TypeState → Option ArgType
+  from_upper o s = or_else (by_upper s.exact s.lower s.upper s.domain) (from_cast o s.upper s.domain s.fallback)

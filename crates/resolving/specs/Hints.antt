@@ -13,16 +13,16 @@ use Rattle.order.specs.declared.Order.TheVariants.{Less, Equal, Greater}
 use Rattle.ty.specs.declared.TypeWord.{TypeWord}
 use Rattle.ty.specs.declared.MaybeType.{MaybeType}
 use Rattle.ty.specs.declared.MaybeType.TheVariants.{Is, Nothing}
-use Rattle.ty.specs.Types.{ArgType, compare, concreteHint}
+use Rattle.ty.specs.Types.{ArgType, compare, concrete_hint}
 use Rattle.ty.specs.Words.{type_of, word_of}
-use Rattle.ty.specs.Order.{compare_same, compare-equal}
+use Rattle.ty.specs.Order.{compare-same, compare-equal}
 use Rattle.ty.specs.Round.{word-of-type}
-use Rattle.candidates.specs.Maybe.{LegalMaybe, maybeType}
-use Rattle.candidates.specs.Steps.{typesFrom}
+use Rattle.candidates.specs.Maybe.{LegalMaybe, maybe_type}
+use Rattle.candidates.specs.Steps.{types_from}
 use Rattle.solving.specs.Ordered.{by_order, insert}
-use Rattle.solving.specs.Solving.{list_of, hintOf, hintsOf}
+use Rattle.solving.specs.Solving.{list_of, hint_of, hints_of}
 use Rattle.solving.specs.Resolve.{single}
-use Rattle.resolving.specs.Bounds.{differs, bothDiffer, either_of}
+use Rattle.resolving.specs.Bounds.{differs, both_differ, either_of}
 
 -- ---- two that may be missing, by cases
 
@@ -33,45 +33,45 @@ module _ (hint : TypeWord) (found : MaybeType) (u : TypeWord) (e : found ≡ Is 
   pub differs-yes : (hint.word ≡ u.word → ⊥) → true ≡ differs hint found
   differs-yes q = ap (λ (b : Bool). not b) (sym (ne_eqb hint.word u.word q)) ∙ ap (differs hint) (sym e)
 
-pub both_is : (m f : MaybeType) (u : TypeWord) → m ≡ Is u → differs u f ≡ bothDiffer m f
-both_is m f u e = ap (λ (x : MaybeType). bothDiffer x f) (sym e)
+pub both-is : (m f : MaybeType) (u : TypeWord) → m ≡ Is u → differs u f ≡ both_differ m f
+both-is m f u e = ap (λ (x : MaybeType). both_differ x f) (sym e)
 
-pub either_is : (m f : MaybeType) (u : TypeWord) → m ≡ Is u → Is u ≡ either_of m f
-either_is m f u e = ap (λ (x : MaybeType). either_of x f) (sym e)
+pub either-is : (m f : MaybeType) (u : TypeWord) → m ≡ Is u → Is u ≡ either_of m f
+either-is m f u e = ap (λ (x : MaybeType). either_of x f) (sym e)
 
 -- ---- the hints from a place on
 
 module _ (object : ℕ) (ws : List ℕ) (i : ℕ) where
-  pub hints-end : length ws ≤ i → hintsOf object (typesFrom i ws) ≡ []
-  unfolding hintsOf
-  hints-end h = ap (λ (l : List ℕ). hintsOf object (map type_of l)) (drop_of_length-le ws h)
+  pub hints-end : length ws ≤ i → hints_of object (types_from i ws) ≡ []
+  unfolding hints_of
+  hints-end h = ap (λ (l : List ℕ). hints_of object (map type_of l)) (drop_of_length-le ws h)
 
   -- the type before the place i
-  pub hints-step : 0 < i → i ≤ length ws → hintsOf object (typesFrom (i - 1) ws) ≡ hintOf (concreteHint object (type_of (get_or ws (i - 1) 0))) (hintsOf object (typesFrom i ws))
-  unfolding hintsOf
+  pub hints-step : 0 < i → i ≤ length ws → hints_of object (types_from (i - 1) ws) ≡ hint_of (concrete_hint object (type_of (get_or ws (i - 1) 0))) (hints_of object (types_from i ws))
+  unfolding hints_of
   hints-step g h =
-      ap (λ (l : List ℕ). hintsOf object (map type_of l)) (drop-cons ws (i - 1) 0 (omega arith))
-      ∙ ap (λ (k : ℕ). hintOf (concreteHint object (type_of (get_or ws (i - 1) 0))) (hintsOf object (typesFrom k ws))) (let q : suc (i - 1) ≡ i = omega arith in q)
+      ap (λ (l : List ℕ). hints_of object (map type_of l)) (drop-cons ws (i - 1) 0 (omega arith))
+      ∙ ap (λ (k : ℕ). hint_of (concrete_hint object (type_of (get_or ws (i - 1) 0))) (hints_of object (types_from k ws))) (let q : suc (i - 1) ≡ i = omega arith in q)
 
 -- ---- one hint more
 
-same_in : (t : ArgType) → insert compare t (t ∷ []) ≡ t ∷ []
+same-in : (t : ArgType) → insert compare t (t ∷ []) ≡ t ∷ []
 unfolding insert
-same_in t = rw (compare_same t)
+same-in t = rw (compare-same t)
 
 pub either-legal : (m f : MaybeType) → LegalMaybe m → LegalMaybe f → LegalMaybe (either_of m f)
 either-legal (Is t) f h k = h
 either-legal Nothing f h k = k
 
 -- no other hint
-pub hint-same : (m f : MaybeType) → bothDiffer m f ≡ false → hintOf (maybeType m) (list_of (maybeType f)) ≡ list_of (maybeType (either_of m f))
+pub hint-same : (m f : MaybeType) → both_differ m f ≡ false → hint_of (maybe_type m) (list_of (maybe_type f)) ≡ list_of (maybe_type (either_of m f))
 unfolding insert
 hint-same Nothing f e = refl
 hint-same (Is t) Nothing e = refl
 hint-same (Is t) (Is u) e = go (eqb t.word u.word) refl e
   where
     go : (b : Bool) → eqb t.word u.word ≡ b → not b ≡ false → insert compare (type_of t.word) (type_of u.word ∷ []) ≡ type_of t.word ∷ []
-    go true q k = ap (λ (x : ℕ). insert compare (type_of t.word) (type_of x ∷ [])) (sym (eqb-true t.word u.word q)) ∙ same_in (type_of t.word)
+    go true q k = ap (λ (x : ℕ). insert compare (type_of t.word) (type_of x ∷ [])) (sym (eqb-true t.word u.word q)) ∙ same-in (type_of t.word)
     go false q k = absurd (let z : ◌≡◌ {A = ℕ} 0 1 = cc in omega arith)
 
 -- ---- two
@@ -120,7 +120,7 @@ insert-other t u n = go (compare t u) refl
     go Greater e = tt
 
 -- another hint makes two
-pub hint-other : (m f : MaybeType) → LegalMaybe m → LegalMaybe f → bothDiffer m f ≡ true → Two (hintOf (maybeType m) (list_of (maybeType f)))
+pub hint-other : (m f : MaybeType) → LegalMaybe m → LegalMaybe f → both_differ m f ≡ true → Two (hint_of (maybe_type m) (list_of (maybe_type f)))
 hint-other Nothing f h k e = absurd (let z : ◌≡◌ {A = ℕ} 0 1 = cc in omega arith)
 hint-other (Is t) Nothing h k e = absurd (let z : ◌≡◌ {A = ℕ} 0 1 = cc in omega arith)
 hint-other (Is t) (Is u) h k e = go (eqb t.word u.word) refl e
@@ -132,21 +132,21 @@ hint-other (Is t) (Is u) h k e = go (eqb t.word u.word) refl e
         (λ s. eqb-false t.word u.word q (sym (word-of-type 1024 t.word h) ∙ ap word_of s ∙ word-of-type 1024 u.word k))
 
 -- and two stay two
-hint-two : (o : Option ArgType) (hs : List ArgType) → Two hs → Two (hintOf o hs)
+hint-two : (o : Option ArgType) (hs : List ArgType) → Two hs → Two (hint_of o hs)
 hint-two none hs h = h
 hint-two (some t) hs h = insert-two t hs h
 
-pub hints-two : (object i : ℕ) (ws : List ℕ) → Two (hintsOf object (typesFrom i ws)) → Two (hintsOf object (map type_of ws))
-unfolding hintsOf
+pub hints-two : (object i : ℕ) (ws : List ℕ) → Two (hints_of object (types_from i ws)) → Two (hints_of object (map type_of ws))
+unfolding hints_of
 hints-two object zero ws h = h
 hints-two object (suc i) [] h = h
-hints-two object (suc i) (x ∷ ws) h = hint-two (concreteHint object (type_of x)) (hintsOf object (map type_of ws)) (hints-two object i ws h)
+hints-two object (suc i) (x ∷ ws) h = hint-two (concrete_hint object (type_of x)) (hints_of object (map type_of ws)) (hints-two object i ws h)
 
 pub two-single : (hs : List ArgType) → Two hs → none ≡ single hs
 two-single [] h = absurd h
 two-single (t ∷ []) h = absurd h
 two-single (t ∷ u ∷ ts) h = refl
 
-pub one_single : (o : Option ArgType) → single (list_of o) ≡ o
-one_single none = refl
-one_single (some t) = refl
+pub one-single : (o : Option ArgType) → single (list_of o) ≡ o
+one-single none = refl
+one-single (some t) = refl

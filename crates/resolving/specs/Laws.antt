@@ -9,26 +9,26 @@ use Rattle.std.proofs.Math.ListN.{length}
 use Rattle.ty.specs.declared.TypeWord.{TypeWord}
 use Rattle.ty.specs.declared.MaybeType.{MaybeType}
 use Rattle.ty.specs.declared.MaybeType.TheVariants.{Is, Nothing}
-use Rattle.ty.specs.Types.{ArgType, isConcrete}
-use Rattle.ty.specs.Words.{Legal, type_of, word_of, legalWord, legalType}
+use Rattle.ty.specs.Types.{ArgType, is_concrete}
+use Rattle.ty.specs.Words.{Legal, type_of, word_of, legal_word, legal_type}
 use Rattle.ty.specs.Round.{type-of-word, legal-of-type, legal-of-word, word-of-type, legal-more}
-use Rattle.ty.specs.Answers.{word, elementWord, maybeWord, element-type}
+use Rattle.ty.specs.Answers.{word, element_word, maybe_word, element-type}
 use Rattle.tables.specs.declared.Tables.{Tables}
 use Rattle.tables.specs.Table.{view_of, view-good}
-use Rattle.lattice.specs.Lattice.{World, Lawful, producerBoundCompatible, joinAll, mostSpecificUpper}
-use Rattle.lattice.specs.World.{present, worldOf, with-lawful}
-use Rattle.lattice.specs.Legality.{joinAll-legal, specific-legal}
+use Rattle.lattice.specs.Lattice.{World, Lawful, producer_bound_compatible, join_all, most_specific_upper}
+use Rattle.lattice.specs.World.{present, world_of, with-lawful}
+use Rattle.lattice.specs.Legality.{join_all-legal, specific-legal}
 use Rattle.joins.specs.Joins.{Fits, AllLegal}
-use Rattle.candidates.specs.Maybe.{LegalMaybe, maybeType, AllLegal as AllWords}
-use Rattle.candidates.specs.Steps.{typesFrom}
-use Rattle.solving.specs.Solving.{producedType, or_else, onlyConcrete, elementOf, arrayElement, resolveState}
-use Rattle.solving.specs.Resolve.{passing, allProduce, producesAll, resolve, resolve-ways}
-use Rattle.resolving.specs.Bounds.{stateIn, keptIf, fitting, byUpper, byCast, byFallback, byHint, fromFallback, fromCast, fromUpper}
+use Rattle.candidates.specs.Maybe.{LegalMaybe, maybe_type, AllLegal as AllWords}
+use Rattle.candidates.specs.Steps.{types_from}
+use Rattle.solving.specs.Solving.{produced_type, or_else, only_concrete, element_of, array_element, resolve_state}
+use Rattle.solving.specs.Resolve.{passing, all_produce, produces_all, resolve, resolve-ways}
+use Rattle.resolving.specs.Bounds.{state_in, kept_if, fitting, by_upper, by_cast, by_fallback, by_hint, from_fallback, from_cast, from_upper}
 
 -- ---- legal words
 
 module _ (t : Tables) (fits : Fits t) where
-  pub legal-word : (w : ℕ) → legalWord t.names w ≡ true → Legal w
+  pub legal-word : (w : ℕ) → legal_word t.names w ≡ true → Legal w
   legal-word w h = legal-more t.names 1024 w fits.0 h
 
   pub legal-words : (ws : List ℕ) → AllLegal t ws → AllWords ws
@@ -37,90 +37,90 @@ module _ (t : Tables) (fits : Fits t) where
   pub object-small : t.object < 1024
   object-small = let f = fits.0 in let o = fits.1 in omega arith
 
-  lawful : (pairs marks : List ℕ) → Lawful (worldOf pairs marks t)
+  lawful : (pairs marks : List ℕ) → Lawful (world_of pairs marks t)
   lawful pairs marks = with-lawful (view_of pairs marks t) (present t.cloneable) (present t.serializable) (view-good pairs marks t fits.0 fits.1)
 
 -- words of 64 bits
 abbrev pub Words : List ℕ → Type 0
 Words ws = (i : ℕ) → get_or ws i 0 < 2 ^ 64
 
-types-legal : (names : ℕ) (ws : List ℕ) → ((i : ℕ) → i < length ws → legalWord names (get_or ws i 0) ≡ true) → Words ws
-    → (u : ArgType) → Memᴰ u (map type_of ws) → legalType names u ≡ true
+types-legal : (names : ℕ) (ws : List ℕ) → ((i : ℕ) → i < length ws → legal_word names (get_or ws i 0) ≡ true) → Words ws
+    → (u : ArgType) → Memᴰ u (map type_of ws) → legal_type names u ≡ true
 types-legal names [] h f u m = absurd (Memᴰ.not-nil m)
 types-legal names (x ∷ ws) h f u m =
-    ⊎_elim (λ e. subst (λ (v : ArgType). legalType names v ≡ true) (sym e) (legal-of-word names x (f 0) (h 0 (omega arith))))
+    ⊎_elim (λ e. subst (λ (v : ArgType). legal_type names v ≡ true) (sym e) (legal-of-word names x (f 0) (h 0 (omega arith))))
     (types-legal names ws (λ i l. h (suc i) (omega arith)) (λ i. f (suc i)) u) (Memᴰ.cases_cons m)
 
 -- a type over the names, if there is one
 abbrev pub LegalOption : ℕ → Option ArgType → Type 0
 LegalOption names none = Unit {0}
-LegalOption names (some t) = legalType names t ≡ true
+LegalOption names (some t) = legal_type names t ≡ true
 
 -- what a type may be, as a word: it comes back, and is legal
-module _ (t : Tables) (fits : Fits t) (o : Option ArgType) (h : LegalOption t.names o) (m : MaybeType) (e : m ≡ maybeWord o) where
-  pub word-types : maybeType m ≡ o
-  word-types = ap maybeType e ∙ go o h
+module _ (t : Tables) (fits : Fits t) (o : Option ArgType) (h : LegalOption t.names o) (m : MaybeType) (e : m ≡ maybe_word o) where
+  pub word-types : maybe_type m ≡ o
+  word-types = ap maybe_type e ∙ go o h
     where
-      go : (p : Option ArgType) → LegalOption t.names p → maybeType (maybeWord p) ≡ p
+      go : (p : Option ArgType) → LegalOption t.names p → maybe_type (maybe_word p) ≡ p
       go none l = refl
       go (some u) l = let f = fits.0 in ap some (type-of-word t.names u (omega arith) l)
 
   pub word-legal : LegalMaybe m
   word-legal = subst LegalMaybe (sym e) (go o h)
     where
-      go : (p : Option ArgType) → LegalOption t.names p → LegalMaybe (maybeWord p)
+      go : (p : Option ArgType) → LegalOption t.names p → LegalMaybe (maybe_word p)
       go none l = tt
       go (some u) l = let f = fits.0 in legal-word t fits (word_of u) (legal-of-type t.names u (omega arith) l)
 
 -- ---- joins and the most specific upper bound of legal words
 
 module _ (pairs marks : List ℕ) (t : Tables) (fits : Fits t) where
-  option-by : (o : Option ArgType) → ((u : ArgType) → o ≡ some u → legalType t.names u ≡ true) → LegalOption t.names o
+  option-by : (o : Option ArgType) → ((u : ArgType) → o ≡ some u → legal_type t.names u ≡ true) → LegalOption t.names o
   option-by none h = tt
   option-by (some u) h = h u refl
 
   module _ (ws : List ℕ) (h : AllLegal t ws) (f : Words ws) where
-    pub join-option : LegalOption t.names (joinAll (worldOf pairs marks t) (map type_of ws))
-    join-option = option-by _ (λ u e. joinAll-legal (worldOf pairs marks t) (lawful t fits pairs marks) (map type_of ws) u e (types-legal t.names ws h f))
+    pub join-option : LegalOption t.names (join_all (world_of pairs marks t) (map type_of ws))
+    join-option = option-by _ (λ u e. join_all-legal (world_of pairs marks t) (lawful t fits pairs marks) (map type_of ws) u e (types-legal t.names ws h f))
 
-    pub specific-option : LegalOption t.names (mostSpecificUpper (worldOf pairs marks t) (map type_of ws))
-    specific-option = option-by _ (λ u e. specific-legal (worldOf pairs marks t) (lawful t fits pairs marks) (map type_of ws) u e (types-legal t.names ws h f))
+    pub specific-option : LegalOption t.names (most_specific_upper (world_of pairs marks t) (map type_of ws))
+    specific-option = option-by _ (λ u e. specific-legal (world_of pairs marks t) (lawful t fits pairs marks) (map type_of ws) u e (types-legal t.names ws h f))
 
 -- ---- what is produced
 
 module _ (v : World) (exact lower upper domain fallback : List ℕ) where
-  pub produced-lower : length exact ≡ 0 → joinAll v (map type_of lower) ≡ producedType v (stateIn exact lower upper domain fallback)
-  unfolding producedType
+  pub produced-lower : length exact ≡ 0 → join_all v (map type_of lower) ≡ produced_type v (state_in exact lower upper domain fallback)
+  unfolding produced_type
   produced-lower h = go exact h
     where
-      go : (xs : List ℕ) → length xs ≡ 0 → joinAll v (map type_of lower) ≡ producedType v (stateIn xs lower upper domain fallback)
+      go : (xs : List ℕ) → length xs ≡ 0 → join_all v (map type_of lower) ≡ produced_type v (state_in xs lower upper domain fallback)
       go [] e = refl
       go (x ∷ xs) e = absurd (omega arith)
 
-  pub produced-exact : (length exact ≡ 0 → ⊥) → joinAll v (map type_of exact) ≡ producedType v (stateIn exact lower upper domain fallback)
-  unfolding producedType
+  pub produced-exact : (length exact ≡ 0 → ⊥) → join_all v (map type_of exact) ≡ produced_type v (state_in exact lower upper domain fallback)
+  unfolding produced_type
   produced-exact h = go exact h
     where
-      go : (xs : List ℕ) → (length xs ≡ 0 → ⊥) → joinAll v (map type_of xs) ≡ producedType v (stateIn xs lower upper domain fallback)
+      go : (xs : List ℕ) → (length xs ≡ 0 → ⊥) → join_all v (map type_of xs) ≡ produced_type v (state_in xs lower upper domain fallback)
       go [] e = absurd (e refl)
       go (x ∷ xs) e = refl
 
   -- it does not ask for the other bounds
-  pub produced-alone : producedType v (stateIn exact lower [] [] []) ≡ producedType v (stateIn exact lower upper domain fallback)
-  unfolding producedType
+  pub produced-alone : produced_type v (state_in exact lower [] [] []) ≡ produced_type v (state_in exact lower upper domain fallback)
+  unfolding produced_type
   produced-alone = refl
 
-  pub element-whole : elementOf (or_else (producedType v (stateIn exact lower [] [] [])) (mostSpecificUpper v (map type_of upper)))
-      ≡ arrayElement v (stateIn exact lower upper domain fallback)
-  unfolding arrayElement producedType
+  pub element-whole : element_of (or_else (produced_type v (state_in exact lower [] [] [])) (most_specific_upper v (map type_of upper)))
+      ≡ array_element v (state_in exact lower upper domain fallback)
+  unfolding array_element produced_type
   element-whole = refl
 
 module _ (pairs marks : List ℕ) (t : Tables) (fits : Fits t) (exact lower : List ℕ) (h : AllLegal t exact) (f : Words exact) (k : AllLegal t lower) (g : Words lower) where
-  pub produced-option : LegalOption t.names (producedType (worldOf pairs marks t) (stateIn exact lower [] [] []))
-  unfolding producedType
+  pub produced-option : LegalOption t.names (produced_type (world_of pairs marks t) (state_in exact lower [] [] []))
+  unfolding produced_type
   produced-option = go exact h f
     where
-      go : (xs : List ℕ) → AllLegal t xs → Words xs → LegalOption t.names (producedType (worldOf pairs marks t) (stateIn xs lower [] [] []))
+      go : (xs : List ℕ) → AllLegal t xs → Words xs → LegalOption t.names (produced_type (world_of pairs marks t) (state_in xs lower [] [] []))
       go [] l m = join-option pairs marks t fits lower k g
       go (x ∷ xs) l m = join-option pairs marks t fits (x ∷ xs) l m
 
@@ -130,87 +130,87 @@ module _ (m : MaybeType) (u : TypeWord) (e : m ≡ Is u) where
   pub is-legal : LegalMaybe m → Legal u.word
   is-legal h = subst LegalMaybe e h
 
-  pub or_is : (o : Option ArgType) → some (type_of u.word) ≡ or_else (maybeType m) o
-  or_is o = ap (λ (x : MaybeType). or_else (maybeType x) o) (sym e)
+  pub or-is : (o : Option ArgType) → some (type_of u.word) ≡ or_else (maybe_type m) o
+  or-is o = ap (λ (x : MaybeType). or_else (maybe_type x) o) (sym e)
 
-  pub element-is : LegalMaybe m → elementWord u.word ≡ maybeWord (elementOf (maybeType m))
-  element-is h = element-type 1024 u.word (is-legal h) ∙ ap (λ (x : MaybeType). maybeWord (elementOf (maybeType x))) (sym e)
+  pub element-is : LegalMaybe m → element_word u.word ≡ maybe_word (element_of (maybe_type m))
+  element-is h = element-type 1024 u.word (is-legal h) ∙ ap (λ (x : MaybeType). maybe_word (element_of (maybe_type x))) (sym e)
 
   -- a candidate that passes or not
-  pub pass-is : (b : Bool) (test : ArgType → Bool) → LegalMaybe m → b ≡ test (type_of u.word) → keptIf b u ≡ maybeWord (passing (maybeType m) test)
-  pass-is b test h q = go b q ∙ ap (λ (x : MaybeType). maybeWord (passing (maybeType x) test)) (sym e)
+  pub pass-is : (b : Bool) (test : ArgType → Bool) → LegalMaybe m → b ≡ test (type_of u.word) → kept_if b u ≡ maybe_word (passing (maybe_type m) test)
+  pass-is b test h q = go b q ∙ ap (λ (x : MaybeType). maybe_word (passing (maybe_type x) test)) (sym e)
     where
-      go : (c : Bool) → c ≡ test (type_of u.word) → keptIf c u ≡ maybeWord (cond (test (type_of u.word)) (some (type_of u.word)) none)
-      go true k = ap (λ (y : ℕ). Is (word y)) (sym (word-of-type 1024 u.word (is-legal h))) ∙ ap (λ (c : Bool). maybeWord (cond c (some (type_of u.word)) none)) k
-      go false k = ap (λ (c : Bool). maybeWord (cond c (some (type_of u.word)) none)) k
+      go : (c : Bool) → c ≡ test (type_of u.word) → kept_if c u ≡ maybe_word (cond (test (type_of u.word)) (some (type_of u.word)) none)
+      go true k = ap (λ (y : ℕ). Is (word y)) (sym (word-of-type 1024 u.word (is-legal h))) ∙ ap (λ (c : Bool). maybe_word (cond c (some (type_of u.word)) none)) k
+      go false k = ap (λ (c : Bool). maybe_word (cond c (some (type_of u.word)) none)) k
 
-  pub concrete-is : (b : Bool) → b ≡ isConcrete (type_of u.word) → maybeType (keptIf b u) ≡ onlyConcrete (maybeType m)
-  concrete-is b q = go b ∙ ap (λ (c : Bool). cond c (some (type_of u.word)) none) q ∙ ap (λ (x : MaybeType). onlyConcrete (maybeType x)) (sym e)
+  pub concrete-is : (b : Bool) → b ≡ is_concrete (type_of u.word) → maybe_type (kept_if b u) ≡ only_concrete (maybe_type m)
+  concrete-is b q = go b ∙ ap (λ (c : Bool). cond c (some (type_of u.word)) none) q ∙ ap (λ (x : MaybeType). only_concrete (maybe_type x)) (sym e)
     where
-      go : (c : Bool) → maybeType (keptIf c u) ≡ cond c (some (type_of u.word)) none
+      go : (c : Bool) → maybe_type (kept_if c u) ≡ cond c (some (type_of u.word)) none
       go true = refl
       go false = refl
 
-  pub kept-legal : (b : Bool) → LegalMaybe m → LegalMaybe (keptIf b u)
+  pub kept-legal : (b : Bool) → LegalMaybe m → LegalMaybe (kept_if b u)
   kept-legal true h = is-legal h
   kept-legal false h = tt
 
   -- a way that answers
-  pub way-is : (o p : Option ArgType) → m ≡ maybeWord o → Is u ≡ maybeWord (or_else o p)
+  pub way-is : (o p : Option ArgType) → m ≡ maybe_word o → Is u ≡ maybe_word (or_else o p)
   way-is none p h = absurd (let z : ◌≡◌ {A = ℕ} 0 1 = cc in omega arith)
   way-is (some x) p h = sym e ∙ h
 
 module _ (m : MaybeType) (e : m ≡ Nothing) where
-  pub or-none : (o : Option ArgType) → o ≡ or_else (maybeType m) o
-  or-none o = ap (λ (x : MaybeType). or_else (maybeType x) o) (sym e)
+  pub or-none : (o : Option ArgType) → o ≡ or_else (maybe_type m) o
+  or-none o = ap (λ (x : MaybeType). or_else (maybe_type x) o) (sym e)
 
-  pub pass-none : (test : ArgType → Bool) → Nothing ≡ maybeWord (passing (maybeType m) test)
-  pass-none test = ap (λ (x : MaybeType). maybeWord (passing (maybeType x) test)) (sym e)
+  pub pass-none : (test : ArgType → Bool) → Nothing ≡ maybe_word (passing (maybe_type m) test)
+  pass-none test = ap (λ (x : MaybeType). maybe_word (passing (maybe_type x) test)) (sym e)
 
   -- and one that does not
-  pub way-none : (o p : Option ArgType) → m ≡ maybeWord o → maybeWord p ≡ maybeWord (or_else o p)
+  pub way-none : (o p : Option ArgType) → m ≡ maybe_word o → maybe_word p ≡ maybe_word (or_else o p)
   way-none none p h = refl
   way-none (some x) p h = absurd (let z : ◌≡◌ {A = ℕ} 0 1 = cc in omega arith)
 
 -- ---- every bound of a list, by the place
 
 module _ (v : World) (ws : List ℕ) (i : ℕ) where
-  types-step : i < length ws → typesFrom i ws ≡ type_of (get_or ws i 0) ∷ typesFrom (i + 1) ws
+  types-step : i < length ws → types_from i ws ≡ type_of (get_or ws i 0) ∷ types_from (i + 1) ws
   types-step h = ap (map type_of) (drop-cons ws i 0 h) ∙ ap (λ (k : ℕ). type_of (get_or ws i 0) ∷ map type_of (drop k ws)) (sym (add-one i))
 
-  types-end : length ws ≤ i → typesFrom i ws ≡ []
+  types-end : length ws ≤ i → types_from i ws ≡ []
   types-end h = ap (map type_of) (drop_of_length-le ws h)
 
   module _ (t : ArgType) where
-    pub each-later : i < length ws → producerBoundCompatible v (type_of (get_or ws i 0)) t ≡ true → allProduce v (typesFrom i ws) t ≡ allProduce v (typesFrom (i + 1) ws) t
-    unfolding allProduce
-    each-later h e = ap (λ (ts : List ArgType). allProduce v ts t) (types-step h) ∙ ap (λ (b : Bool). b && allProduce v (typesFrom (i + 1) ws) t) e
+    pub each-later : i < length ws → producer_bound_compatible v (type_of (get_or ws i 0)) t ≡ true → all_produce v (types_from i ws) t ≡ all_produce v (types_from (i + 1) ws) t
+    unfolding all_produce
+    each-later h e = ap (λ (ts : List ArgType). all_produce v ts t) (types-step h) ∙ ap (λ (b : Bool). b && all_produce v (types_from (i + 1) ws) t) e
 
-    pub each-not : i < length ws → producerBoundCompatible v (type_of (get_or ws i 0)) t ≡ false → allProduce v (typesFrom i ws) t ≡ false
-    unfolding allProduce
-    each-not h e = ap (λ (ts : List ArgType). allProduce v ts t) (types-step h) ∙ ap (λ (b : Bool). b && allProduce v (typesFrom (i + 1) ws) t) e
+    pub each-not : i < length ws → producer_bound_compatible v (type_of (get_or ws i 0)) t ≡ false → all_produce v (types_from i ws) t ≡ false
+    unfolding all_produce
+    each-not h e = ap (λ (ts : List ArgType). all_produce v ts t) (types-step h) ∙ ap (λ (b : Bool). b && all_produce v (types_from (i + 1) ws) t) e
 
-    pub each-end : length ws ≤ i → allProduce v (typesFrom i ws) t ≡ true
-    unfolding allProduce
-    each-end h = ap (λ (ts : List ArgType). allProduce v ts t) (types-end h)
+    pub each-end : length ws ≤ i → all_produce v (types_from i ws) t ≡ true
+    unfolding all_produce
+    each-end h = ap (λ (ts : List ArgType). all_produce v ts t) (types-end h)
 
-    pub all-later : i < length ws → producerBoundCompatible v t (type_of (get_or ws i 0)) ≡ true → producesAll v t (typesFrom i ws) ≡ producesAll v t (typesFrom (i + 1) ws)
-    unfolding producesAll
-    all-later h e = ap (producesAll v t) (types-step h) ∙ ap (λ (b : Bool). b && producesAll v t (typesFrom (i + 1) ws)) e
+    pub all-later : i < length ws → producer_bound_compatible v t (type_of (get_or ws i 0)) ≡ true → produces_all v t (types_from i ws) ≡ produces_all v t (types_from (i + 1) ws)
+    unfolding produces_all
+    all-later h e = ap (produces_all v t) (types-step h) ∙ ap (λ (b : Bool). b && produces_all v t (types_from (i + 1) ws)) e
 
-    pub all-not : i < length ws → producerBoundCompatible v t (type_of (get_or ws i 0)) ≡ false → producesAll v t (typesFrom i ws) ≡ false
-    unfolding producesAll
-    all-not h e = ap (producesAll v t) (types-step h) ∙ ap (λ (b : Bool). b && producesAll v t (typesFrom (i + 1) ws)) e
+    pub all-not : i < length ws → producer_bound_compatible v t (type_of (get_or ws i 0)) ≡ false → produces_all v t (types_from i ws) ≡ false
+    unfolding produces_all
+    all-not h e = ap (produces_all v t) (types-step h) ∙ ap (λ (b : Bool). b && produces_all v t (types_from (i + 1) ws)) e
 
-    pub all_end : length ws ≤ i → producesAll v t (typesFrom i ws) ≡ true
-    unfolding producesAll
-    all_end h = ap (producesAll v t) (types-end h)
+    pub all-end : length ws ≤ i → produces_all v t (types_from i ws) ≡ true
+    unfolding produces_all
+    all-end h = ap (produces_all v t) (types-end h)
 
 -- ---- two tests in a row
 
-pub both_yes : (a b c : Bool) → a ≡ true → c ≡ b → c ≡ (a && b)
-both_yes true b c e h = h
-both_yes false b c e h = absurd (let z : ◌≡◌ {A = ℕ} 0 1 = cc in omega arith)
+pub both-yes : (a b c : Bool) → a ≡ true → c ≡ b → c ≡ (a && b)
+both-yes true b c e h = h
+both-yes false b c e h = absurd (let z : ◌≡◌ {A = ℕ} 0 1 = cc in omega arith)
 
 pub both-no : (a b : Bool) → a ≡ false → false ≡ (a && b)
 both-no true b e = absurd (let z : ◌≡◌ {A = ℕ} 0 1 = cc in omega arith)
@@ -219,19 +219,19 @@ both-no false b e = refl
 -- three
 
 pub three-yes : (a b d c : Bool) → a ≡ true → b ≡ true → c ≡ d → c ≡ ((a && b) && d)
-three-yes a b d c e f h = both_yes (a && b) d c (sym (both_yes a b true e (sym f))) h
+three-yes a b d c e f h = both-yes (a && b) d c (sym (both-yes a b true e (sym f))) h
 
 pub three-first : (a b d : Bool) → a ≡ false → false ≡ ((a && b) && d)
 three-first a b d e = both-no (a && b) d (sym (both-no a b e))
 
 pub three-second : (a b d : Bool) → a ≡ true → b ≡ false → false ≡ ((a && b) && d)
-three-second a b d e f = both-no (a && b) d (sym (both_yes a b false e (sym f)))
+three-second a b d e f = both-no (a && b) d (sym (both-yes a b false e (sym f)))
 
 -- ---- THE FIRST WAY AND THE OTHERS ARE resolve_state
 
-pub ways-all : (v : World) (exact lower upper domain fallback : List ℕ) (o : Option ArgType) → o ≡ onlyConcrete (producedType v (stateIn exact lower upper domain fallback))
-    → or_else (fitting v o (map type_of upper)) (fromUpper v o (stateIn exact lower upper domain fallback)) ≡ resolveState v (stateIn exact lower upper domain fallback)
-unfolding resolve fitting byUpper byCast byFallback byHint fromFallback fromCast fromUpper
+pub ways-all : (v : World) (exact lower upper domain fallback : List ℕ) (o : Option ArgType) → o ≡ only_concrete (produced_type v (state_in exact lower upper domain fallback))
+    → or_else (fitting v o (map type_of upper)) (from_upper v o (state_in exact lower upper domain fallback)) ≡ resolve_state v (state_in exact lower upper domain fallback)
+unfolding resolve fitting by_upper by_cast by_fallback by_hint from_fallback from_cast from_upper
 ways-all v exact lower upper domain fallback o e =
-    ap (λ (p : Option ArgType). or_else (fitting v p (map type_of upper)) (fromUpper v p (stateIn exact lower upper domain fallback))) e
-    ∙ sym (resolve-ways v (stateIn exact lower upper domain fallback))
+    ap (λ (p : Option ArgType). or_else (fitting v p (map type_of upper)) (from_upper v p (state_in exact lower upper domain fallback))) e
+    ∙ sym (resolve-ways v (state_in exact lower upper domain fallback))

@@ -2,14 +2,14 @@
 // ways. Bounds are type words in lent slices, a slice for each kind, in the order of types.
 ghost use Rattle.std.specs.Prelude.{◌≡◌, [], map};
 ghost use Rattle.ty.specs.Words.{Legal, type_of};
-ghost use Rattle.ty.specs.Answers.{maybeWord};
-ghost use Rattle.lattice.specs.Lattice.{mostSpecificUpper};
-ghost use Rattle.lattice.specs.World.{worldOf};
+ghost use Rattle.ty.specs.Answers.{maybe_word};
+ghost use Rattle.lattice.specs.Lattice.{most_specific_upper};
+ghost use Rattle.lattice.specs.World.{world_of};
 ghost use Rattle.joins.specs.Joins.{Fits, AllLegal};
-ghost use Rattle.candidates.specs.Maybe.{LegalMaybe, maybeType};
-ghost use Rattle.solving.specs.Solving.{producedType, or_else, onlyConcrete, elementOf, arrayElement, hintsOf, resolveState};
-ghost use Rattle.solving.specs.Resolve.{allProduce, producesAll, single};
-ghost use Rattle.resolving.specs.Bounds.{stateIn, Bounds, Classed, keptIf, differs, bothDiffer, either_of, fitting, byUpper, byCast, byFallback, byHint, fromFallback, fromCast, fromUpper, upperPasses, castPasses, fallbackPasses};
+ghost use Rattle.candidates.specs.Maybe.{LegalMaybe, maybe_type};
+ghost use Rattle.solving.specs.Solving.{produced_type, or_else, only_concrete, element_of, array_element, hints_of, resolve_state};
+ghost use Rattle.solving.specs.Resolve.{all_produce, produces_all, single};
+ghost use Rattle.resolving.specs.Bounds.{state_in, Bounds, Classed, kept_if, differs, both_differ, either_of, fitting, by_upper, by_cast, by_fallback, by_hint, from_fallback, from_cast, from_upper, upper_passes, cast_passes, fallback_passes};
 
 use candidates::{
     domain_accepts, is_assignable_to_all, most_specific_upper, producer_bound_compatible,
@@ -27,7 +27,7 @@ pub fn produced_type(
     lower: &[u64],
 ) -> MaybeType
     requires { Classed pairs.now marks.now t × Bounds t exact.now × Bounds t lower.now }
-    ensures { result ≡ maybeWord (producedType (worldOf pairs.now marks.now t) (stateIn exact.now lower.now [] [] [])) }
+    ensures { result ≡ maybe_word (produced_type (world_of pairs.now marks.now t) (state_in exact.now lower.now [] [] [])) }
 {
     if exact.len() == 0 {
         return join_all(pairs, marks, t, lower);
@@ -44,7 +44,7 @@ fn or_upper(
     upper: &[u64],
 ) -> MaybeType
     requires { Classed pairs.now marks.now t × LegalMaybe produced × AllLegal t upper.now }
-    ensures { LegalMaybe result × (maybeType result ≡ or_else (maybeType produced) (mostSpecificUpper (worldOf pairs.now marks.now t) (map type_of upper.now))) }
+    ensures { LegalMaybe result × (maybe_type result ≡ or_else (maybe_type produced) (most_specific_upper (world_of pairs.now marks.now t) (map type_of upper.now))) }
 {
     match produced {
         MaybeType::Is(u) => MaybeType::Is(u),
@@ -55,7 +55,7 @@ fn or_upper(
 // The element of a type that may be missing.
 fn element_in(array: MaybeType) -> MaybeType
     requires { LegalMaybe array }
-    ensures { result ≡ maybeWord (elementOf (maybeType array)) }
+    ensures { result ≡ maybe_word (element_of (maybe_type array)) }
 {
     match array {
         MaybeType::Is(u) => u.element(),
@@ -72,7 +72,7 @@ pub fn element_of(
     upper: &[u64],
 ) -> MaybeType
     requires { Classed pairs.now marks.now t × LegalMaybe produced × AllLegal t upper.now }
-    ensures { result ≡ maybeWord (elementOf (or_else (maybeType produced) (mostSpecificUpper (worldOf pairs.now marks.now t) (map type_of upper.now)))) }
+    ensures { result ≡ maybe_word (element_of (or_else (maybe_type produced) (most_specific_upper (world_of pairs.now marks.now t) (map type_of upper.now)))) }
 {
     let array = or_upper(pairs, marks, t, produced, upper);
     element_in(array)
@@ -88,7 +88,7 @@ pub fn array_element(
     upper: &[u64],
 ) -> MaybeType
     requires { Classed pairs.now marks.now t × Bounds t exact.now × Bounds t lower.now × AllLegal t upper.now }
-    ensures { result ≡ maybeWord (arrayElement (worldOf pairs.now marks.now t) (stateIn exact.now lower.now upper.now [] [])) }
+    ensures { result ≡ maybe_word (array_element (world_of pairs.now marks.now t) (state_in exact.now lower.now upper.now [] [])) }
 {
     let produced = produced_type(pairs, marks, t, exact, lower);
     element_of(pairs, marks, t, produced, upper)
@@ -96,7 +96,7 @@ pub fn array_element(
 
 // A candidate, if it passes.
 fn kept(ty: TypeWord, passes: bool) -> MaybeType
-    ensures { result ≡ keptIf passes ty }
+    ensures { result ≡ kept_if passes ty }
 {
     if passes {
         return MaybeType::Is(ty);
@@ -106,7 +106,7 @@ fn kept(ty: TypeWord, passes: bool) -> MaybeType
 
 fn only_concrete(t: MaybeType) -> MaybeType
     requires { LegalMaybe t }
-    ensures { LegalMaybe result × (maybeType result ≡ onlyConcrete (maybeType t)) }
+    ensures { LegalMaybe result × (maybe_type result ≡ only_concrete (maybe_type t)) }
 {
     match t {
         MaybeType::Is(u) => kept(u, u.is_concrete()),
@@ -117,7 +117,7 @@ fn only_concrete(t: MaybeType) -> MaybeType
 // Whether each of some bounds can be produced where the candidate is expected.
 fn all_produce(pairs: &[u64], marks: &[u64], t: Tables, bounds: &[u64], candidate: TypeWord) -> bool
     requires { Classed pairs.now marks.now t × AllLegal t bounds.now × Legal candidate.word }
-    ensures { result ≡ allProduce (worldOf pairs.now marks.now t) (map type_of bounds.now) (type_of candidate.word) }
+    ensures { result ≡ all_produce (world_of pairs.now marks.now t) (map type_of bounds.now) (type_of candidate.word) }
 {
     let mut i: usize = 0;
     while i < bounds.len() {
@@ -134,7 +134,7 @@ fn all_produce(pairs: &[u64], marks: &[u64], t: Tables, bounds: &[u64], candidat
 // Whether a type can be produced where each upper bound is expected.
 fn produces_all(pairs: &[u64], marks: &[u64], t: Tables, ty: TypeWord, upper: &[u64]) -> bool
     requires { Classed pairs.now marks.now t × Legal ty.word × AllLegal t upper.now }
-    ensures { result ≡ producesAll (worldOf pairs.now marks.now t) (type_of ty.word) (map type_of upper.now) }
+    ensures { result ≡ produces_all (world_of pairs.now marks.now t) (type_of ty.word) (map type_of upper.now) }
 {
     let mut i: usize = 0;
     while i < upper.len() {
@@ -157,7 +157,7 @@ fn fits_upper(
     upper: &[u64],
 ) -> MaybeType
     requires { Classed pairs.now marks.now t × LegalMaybe candidate × AllLegal t upper.now }
-    ensures { result ≡ maybeWord (fitting (worldOf pairs.now marks.now t) (maybeType candidate) (map type_of upper.now)) }
+    ensures { result ≡ maybe_word (fitting (world_of pairs.now marks.now t) (maybe_type candidate) (map type_of upper.now)) }
 {
     match candidate {
         MaybeType::Is(ty) => kept(ty, is_assignable_to_all(pairs, marks, t, ty, upper)),
@@ -176,7 +176,7 @@ fn upper_passes(
     candidate: TypeWord,
 ) -> bool
     requires { Classed pairs.now marks.now t × AllLegal t exact.now × AllLegal t lower.now × AllLegal t domain.now × Legal candidate.word }
-    ensures { result ≡ upperPasses (worldOf pairs.now marks.now t) (map type_of exact.now) (map type_of lower.now) (map type_of domain.now) (type_of candidate.word) }
+    ensures { result ≡ upper_passes (world_of pairs.now marks.now t) (map type_of exact.now) (map type_of lower.now) (map type_of domain.now) (type_of candidate.word) }
 {
     if all_produce(pairs, marks, t, exact, candidate) {
         if all_produce(pairs, marks, t, lower, candidate) {
@@ -198,7 +198,7 @@ fn upper_candidate(
     domain: &[u64],
 ) -> MaybeType
     requires { Classed pairs.now marks.now t × AllLegal t exact.now × AllLegal t lower.now × AllLegal t upper.now × AllLegal t domain.now }
-    ensures { result ≡ maybeWord (byUpper (worldOf pairs.now marks.now t) (map type_of exact.now) (map type_of lower.now) (map type_of upper.now) (map type_of domain.now)) }
+    ensures { result ≡ maybe_word (by_upper (world_of pairs.now marks.now t) (map type_of exact.now) (map type_of lower.now) (map type_of upper.now) (map type_of domain.now)) }
 {
     match most_specific_upper(pairs, marks, t, upper) {
         MaybeType::Is(u) => kept(u, upper_passes(pairs, marks, t, exact, lower, domain, u)),
@@ -216,7 +216,7 @@ fn cast_passes(
     domain: &[u64],
 ) -> bool
     requires { Classed pairs.now marks.now t × Legal ty.word × AllLegal t upper.now × AllLegal t domain.now }
-    ensures { result ≡ castPasses (worldOf pairs.now marks.now t) (map type_of upper.now) (map type_of domain.now) (type_of ty.word) }
+    ensures { result ≡ cast_passes (world_of pairs.now marks.now t) (map type_of upper.now) (map type_of domain.now) (type_of ty.word) }
 {
     if produces_all(pairs, marks, t, ty, upper) {
         return domain_accepts(domain, ty);
@@ -234,7 +234,7 @@ fn evidence_cast(
     domain: &[u64],
 ) -> MaybeType
     requires { Classed pairs.now marks.now t × LegalMaybe evidence × AllLegal t upper.now × AllLegal t domain.now }
-    ensures { result ≡ maybeWord (byCast (worldOf pairs.now marks.now t) (maybeType evidence) (map type_of upper.now) (map type_of domain.now)) }
+    ensures { result ≡ maybe_word (by_cast (world_of pairs.now marks.now t) (maybe_type evidence) (map type_of upper.now) (map type_of domain.now)) }
 {
     match evidence {
         MaybeType::Is(ty) => kept(ty, cast_passes(pairs, marks, t, ty, upper, domain)),
@@ -252,7 +252,7 @@ fn fallback_passes(
     domain: &[u64],
 ) -> bool
     requires { Classed pairs.now marks.now t × Legal ty.word × AllLegal t upper.now × AllLegal t domain.now }
-    ensures { result ≡ fallbackPasses (worldOf pairs.now marks.now t) (map type_of upper.now) (map type_of domain.now) (type_of ty.word) }
+    ensures { result ≡ fallback_passes (world_of pairs.now marks.now t) (map type_of upper.now) (map type_of domain.now) (type_of ty.word) }
 {
     if is_assignable_to_all(pairs, marks, t, ty, upper) {
         return domain_accepts(domain, ty);
@@ -270,7 +270,7 @@ fn fallback_join(
     fallback: &[u64],
 ) -> MaybeType
     requires { Classed pairs.now marks.now t × AllLegal t upper.now × AllLegal t domain.now × Bounds t fallback.now }
-    ensures { result ≡ maybeWord (byFallback (worldOf pairs.now marks.now t) (map type_of upper.now) (map type_of domain.now) (map type_of fallback.now)) }
+    ensures { result ≡ maybe_word (by_fallback (world_of pairs.now marks.now t) (map type_of upper.now) (map type_of domain.now) (map type_of fallback.now)) }
 {
     let joined = join_all(pairs, marks, t, fallback);
     match only_concrete(joined) {
@@ -296,7 +296,7 @@ fn differs_from(hint: TypeWord, found: MaybeType) -> bool
 
 // Whether both are there and not the same.
 fn both_differ(hint: MaybeType, found: MaybeType) -> bool
-    ensures { result ≡ bothDiffer hint found }
+    ensures { result ≡ both_differ hint found }
 {
     match hint {
         MaybeType::Is(u) => differs_from(u, found),
@@ -317,7 +317,7 @@ fn either(first: MaybeType, second: MaybeType) -> MaybeType
 // The one hint of the domain, from its last type to its first; none where two differ.
 fn one_hint(t: Tables, domain: &[u64]) -> MaybeType
     requires { Fits t × AllLegal t domain.now }
-    ensures { LegalMaybe result × (maybeType result ≡ single (hintsOf t.object (map type_of domain.now))) }
+    ensures { LegalMaybe result × (maybe_type result ≡ single (hints_of t.object (map type_of domain.now))) }
 {
     let object = t.object;
     let mut found = MaybeType::Nothing;
@@ -337,7 +337,7 @@ fn one_hint(t: Tables, domain: &[u64]) -> MaybeType
 // Way 5: the one hint of the domain, where the upper bounds allow it.
 fn domain_hint(pairs: &[u64], marks: &[u64], t: Tables, upper: &[u64], domain: &[u64]) -> MaybeType
     requires { Classed pairs.now marks.now t × AllLegal t upper.now × AllLegal t domain.now }
-    ensures { result ≡ maybeWord (byHint (worldOf pairs.now marks.now t) (map type_of upper.now) (map type_of domain.now)) }
+    ensures { result ≡ maybe_word (by_hint (world_of pairs.now marks.now t) (map type_of upper.now) (map type_of domain.now)) }
 {
     let hint = one_hint(t, domain);
     fits_upper(pairs, marks, t, hint, upper)
@@ -353,7 +353,7 @@ fn from_fallback(
     fallback: &[u64],
 ) -> MaybeType
     requires { Classed pairs.now marks.now t × AllLegal t upper.now × AllLegal t domain.now × Bounds t fallback.now }
-    ensures { result ≡ maybeWord (fromFallback (worldOf pairs.now marks.now t) (map type_of upper.now) (map type_of domain.now) (map type_of fallback.now)) }
+    ensures { result ≡ maybe_word (from_fallback (world_of pairs.now marks.now t) (map type_of upper.now) (map type_of domain.now) (map type_of fallback.now)) }
 {
     match fallback_join(pairs, marks, t, upper, domain, fallback) {
         MaybeType::Is(ty) => MaybeType::Is(ty),
@@ -372,7 +372,7 @@ fn from_cast(
     fallback: &[u64],
 ) -> MaybeType
     requires { Classed pairs.now marks.now t × LegalMaybe evidence × AllLegal t upper.now × AllLegal t domain.now × Bounds t fallback.now }
-    ensures { result ≡ maybeWord (fromCast (worldOf pairs.now marks.now t) (maybeType evidence) (map type_of upper.now) (map type_of domain.now) (map type_of fallback.now)) }
+    ensures { result ≡ maybe_word (from_cast (world_of pairs.now marks.now t) (maybe_type evidence) (map type_of upper.now) (map type_of domain.now) (map type_of fallback.now)) }
 {
     match evidence_cast(pairs, marks, t, evidence, upper, domain) {
         MaybeType::Is(ty) => MaybeType::Is(ty),
@@ -393,7 +393,7 @@ fn from_upper(
     fallback: &[u64],
 ) -> MaybeType
     requires { Classed pairs.now marks.now t × LegalMaybe evidence × AllLegal t exact.now × AllLegal t lower.now × AllLegal t upper.now × AllLegal t domain.now × Bounds t fallback.now }
-    ensures { result ≡ maybeWord (fromUpper (worldOf pairs.now marks.now t) (maybeType evidence) (stateIn exact.now lower.now upper.now domain.now fallback.now)) }
+    ensures { result ≡ maybe_word (from_upper (world_of pairs.now marks.now t) (maybe_type evidence) (state_in exact.now lower.now upper.now domain.now fallback.now)) }
 {
     match upper_candidate(pairs, marks, t, exact, lower, upper, domain) {
         MaybeType::Is(ty) => MaybeType::Is(ty),
@@ -413,7 +413,7 @@ pub fn resolve_state(
     fallback: &[u64],
 ) -> MaybeType
     requires { Classed pairs.now marks.now t × Bounds t exact.now × Bounds t lower.now × AllLegal t upper.now × AllLegal t domain.now × Bounds t fallback.now }
-    ensures { result ≡ maybeWord (resolveState (worldOf pairs.now marks.now t) (stateIn exact.now lower.now upper.now domain.now fallback.now)) }
+    ensures { result ≡ maybe_word (resolve_state (world_of pairs.now marks.now t) (state_in exact.now lower.now upper.now domain.now fallback.now)) }
 {
     let produced = produced_type(pairs, marks, t, exact, lower);
     let evidence = only_concrete(produced);

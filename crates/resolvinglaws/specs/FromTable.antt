@@ -12,9 +12,9 @@ use Rattle.solving.specs.Orders.{types-ascend}
 use Rattle.solving.specs.Solving.{Domain, Fallback, Upper, Lower, Exact, Table, types_of, state_of}
 use Rattle.solving.specs.Tidy.{Tidy}
 use Rattle.solving.specs.TableKeys.{keys_of, tidy-keyed}
-use Rattle.copying.specs.Copies.{runIn, words_in}
+use Rattle.copying.specs.Copies.{run_in, words_in}
 use Rattle.copying.specs.Types.{copied-words, copied-legal, legal-at}
-use Rattle.resolving.specs.Bounds.{stateIn, Bounds}
+use Rattle.resolving.specs.Bounds.{state_in, Bounds}
 
 -- ---- the order that a join asks is that of a table's types
 
@@ -31,7 +31,7 @@ ascending-ascend (t ∷ ts) h = after-from t ts h
 module _ (t : Tables) (fits : Fits t) (n : ℕ) (table : Table) (q : List ℕ) (y : Tidy t.names n table q) (c : ℕ) where
   -- the words of a kind
   abbrev pub copy_of : ℕ → List ℕ
-  copy_of k = words_in (runIn c k (keys_of table))
+  copy_of k = words_in (run_in c k (keys_of table))
 
   copy-types : (k : ℕ) → k < 8 → map type_of (copy_of k) ≡ types_of c k table
   copy-types k small = copied-words table (tidy-keyed t.names n table q fits.0 y) y.ascends c k small
@@ -44,7 +44,7 @@ module _ (t : Tables) (fits : Fits t) (n : ℕ) (table : Table) (q : List ℕ) (
   copy-bounds k small = (copy-legal k, subst Ascend (sym (copy-types k small)) (ascending-ascend (types_of c k table) (types-ascend c k table y.ascends)))
 
   -- AND STAND FOR THE COMPONENT'S STATE
-  pub copy-state : stateIn (copy_of Exact) (copy_of Lower) (copy_of Upper) (copy_of Domain) (copy_of Fallback) ≡ state_of table c
+  pub copy-state : state_in (copy_of Exact) (copy_of Lower) (copy_of Upper) (copy_of Domain) (copy_of Fallback) ≡ state_of table c
   unfolding state_of
   copy-state = λ i. record {
     exact = copy-types Exact (omega arith) i;

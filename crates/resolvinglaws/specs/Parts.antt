@@ -7,9 +7,9 @@ use Rattle.std.proofs.Math.ListN.{length-take}
 use Rattle.std.proofs.Math.Seq.{take-append_seam, drop-append_seam}
 use Rattle.std.proofs.lemmas.List.{drop-append-le, take-append-le}
 use Rattle.sorted.specs.Sorted.{Sorted, place, run_of}
-use Rattle.sorted.specs.Places.{place-le, place_mono}
+use Rattle.sorted.specs.Places.{place-le, place-mono}
 use Rattle.solving.specs.Solving.{Domain, Fallback, Upper, Lower, Exact}
-use Rattle.copying.specs.Copies.{runIn}
+use Rattle.copying.specs.Copies.{run_in}
 
 -- ---- lengths
 
@@ -18,25 +18,25 @@ module _ (c : ℕ) (keys : List ℕ) (o : Sorted keys) where
   from : ℕ → ℕ
   from k = place ((c * 8 + k) * 2 ^ 52) keys
 
-  run_room : (k : ℕ) → length (runIn c k keys) ≤ from (k + 1) - from k
-  unfolding runIn run_of from
-  run_room k =
+  run-room : (k : ℕ) → length (run_in c k keys) ≤ from (k + 1) - from k
+  unfolding run_in run_of from
+  run-room k =
       let n = length-take (place ((c * 8 + k) * 2 ^ 52 + 2 ^ 52) keys - place ((c * 8 + k) * 2 ^ 52) keys) (drop (place ((c * 8 + k) * 2 ^ 52) keys) keys) in
       let e : place ((c * 8 + k) * 2 ^ 52 + 2 ^ 52) keys ≡ place ((c * 8 + (k + 1)) * 2 ^ 52) keys = ap (λ (x : ℕ). place x keys) (omega arith) in
       omega arith
 
-  from_next : (k : ℕ) → from k ≤ from (k + 1)
+  from-next : (k : ℕ) → from k ≤ from (k + 1)
   unfolding from
-  from_next k = place_mono ((c * 8 + k) * 2 ^ 52) ((c * 8 + (k + 1)) * 2 ^ 52) keys o (omega arith)
+  from-next k = place-mono ((c * 8 + k) * 2 ^ 52) ((c * 8 + (k + 1)) * 2 ^ 52) keys o (omega arith)
 
-  from_end : (k : ℕ) → from k ≤ length keys
+  from-end : (k : ℕ) → from k ≤ length keys
   unfolding from
-  from_end k = place-le ((c * 8 + k) * 2 ^ 52) keys
+  from-end k = place-le ((c * 8 + k) * 2 ^ 52) keys
 
   -- A COMPONENT'S BOUNDS OF THE FIVE KINDS ARE NO MORE THAN THE TABLE'S
-  pub five-short : length (runIn c Domain keys) + (length (runIn c Fallback keys) + (length (runIn c Upper keys) + (length (runIn c Lower keys) + length (runIn c Exact keys)))) ≤ length keys
+  pub five-short : length (run_in c Domain keys) + (length (run_in c Fallback keys) + (length (run_in c Upper keys) + (length (run_in c Lower keys) + length (run_in c Exact keys)))) ≤ length keys
   five-short =
-      omega (arith, run_room 0, run_room 1, run_room 2, run_room 3, run_room 4, from_next 0, from_next 1, from_next 2, from_next 3, from_next 4, from_end 5)
+      omega (arith, run-room 0, run-room 1, run-room 2, run-room 3, run-room 4, from-next 0, from-next 1, from-next 2, from-next 3, from-next 4, from-end 5)
 
 -- ---- a part of it
 

@@ -10,17 +10,17 @@ use Rattle.std.proofs.Math.Option.{some, none, map, bind}
 use Rattle.text.specs.Text.{ascii}
 use Rattle.order.specs.Truth.{both}
 use Rattle.order.specs.Lists.{elem}
-use Rattle.utf8.specs.Laws.{wellFormed-decides}
+use Rattle.utf8.specs.Laws.{well_formed-decides}
 use Rattle.ty.specs.Types.{ArgType, Primitive, Object, Array, Unknown, depth}
-use Rattle.ty.specs.Words.{legalAtBase, legalType}
+use Rattle.ty.specs.Words.{legal_at_base, legal_type}
 use Rattle.names.specs.Names.{name_at, lookup}
 use Rattle.names.specs.Table.{Checked, name-sized}
 use Rattle.names.specs.Lookup.{lookup-is}
 use Rattle.jvms.specs.Jvms as jvms
 use Rattle.jvms.specs.Jvms.{JavaType, dimensions, AnyName, BaseType, B, C, D, F, I, BaseType.J, S, Z, FieldType, FieldType.base, FieldType.object, FieldType.array, ReturnDescriptor, ReturnDescriptor.field, ReturnDescriptor.void, Parameter, Parameters, Parameters.none, Parameters.more}
-use Rattle.writer.specs.Print.{letterByte, print, printAll}
-use Rattle.roundtrips.specs.ToWord.{toType, toTypes}
-use Rattle.roundtrips.specs.Derived.{limits-parts, legalTypes}
+use Rattle.writer.specs.Print.{letter_byte, print, print_all}
+use Rattle.roundtrips.specs.ToWord.{to_type, to_types}
+use Rattle.roundtrips.specs.Derived.{limits-parts, legal_types}
 
 -- no Unknown, no category 9 or 10, Void only without dimensions and where it may stand (`free`), no ';' in the name
 unfoldable pub readable : (ℕ → List ℕ) → Bool → ArgType → Bool
@@ -30,9 +30,9 @@ readable name free (Array t) = readable name false t
 readable name free (Unknown cs) = false
 
 -- of parameters: Void may not stand there
-unfoldable pub allReadable : (ℕ → List ℕ) → List ArgType → Bool
-allReadable name [] = true
-allReadable name (t ∷ ts) = readable name false t && allReadable name ts
+unfoldable pub all_readable : (ℕ → List ℕ) → List ArgType → Bool
+all_readable name [] = true
+all_readable name (t ∷ ts) = readable name false t && all_readable name ts
 
 -- a type with its classes by name; no descriptor stands for an Unknown
 unfoldable pub named : (ℕ → List ℕ) → ArgType → JavaType
@@ -41,9 +41,9 @@ named name (Object c) = jvms.Object (name c)
 named name (Array t) = jvms.Array (named name t)
 named name (Unknown cs) = jvms.Primitive 11
 
-unfoldable pub allNamed : (ℕ → List ℕ) → List ArgType → List Parameter
-allNamed name [] = []
-allNamed name (t ∷ ts) = record { bytes = print name t; type = named name t } ∷ allNamed name ts
+unfoldable pub all_named : (ℕ → List ℕ) → List ArgType → List Parameter
+all_named name [] = []
+all_named name (t ∷ ts) = record { bytes = print name t; type = named name t } ∷ all_named name ts
 
 pub named-depth : (name : ℕ → List ℕ) (t : ArgType) → dimensions (named name t) ≡ depth t
 unfolding named dimensions depth
@@ -54,8 +54,8 @@ named-depth name (Unknown cs) = refl
 
 -- ---- letters and names
 
-letter-derived : (k : ℕ) → 0 < k → k < 9 → BaseType (letterByte k) k
-unfolding letterByte ascii
+letter-derived : (k : ℕ) → 0 < k → k < 9 → BaseType (letter_byte k) k
+unfolding letter_byte ascii
 letter-derived zero h l = absurd (omega arith)
 letter-derived (suc zero) h l = Z
 letter-derived (suc (suc zero)) h l = B
@@ -80,27 +80,27 @@ member-elem x [] m = absurd (Memᴰ.not-nil m)
 -- ---- over a table of names that was checked
 
 module _ (bytes ats lens : List ℕ) (k : Checked bytes ats lens) where
-  any_name : (c : ℕ) → c < length ats → elem 59 (name_at bytes ats lens c) ≡ false → AnyName (name_at bytes ats lens c)
-  any_name c h e = record {
-    notEmpty = (name-sized bytes ats lens k c h).0;
-    wellFormed = (wellFormed-decides (name_at bytes ats lens c)).0 (k.formed c h);
+  any-name : (c : ℕ) → c < length ats → elem 59 (name_at bytes ats lens c) ≡ false → AnyName (name_at bytes ats lens c)
+  any-name c h e = record {
+    not_empty = (name-sized bytes ats lens k c h).0;
+    well_formed = (well_formed-decides (name_at bytes ats lens c)).0 (k.formed c h);
     without = λ x s m. false≢true (sym e ∙ ap (λ (y : ℕ). elem y (name_at bytes ats lens c)) (sym (Memᴰ.eq_of_singleton s)) ∙ member-elem x (name_at bytes ats lens c) m);
   }
 
   -- its descriptor is derived
-  field-derived : (t : ArgType) → legalAtBase (length ats) t ≡ true → readable (name_at bytes ats lens) false t ≡ true
+  field-derived : (t : ArgType) → legal_at_base (length ats) t ≡ true → readable (name_at bytes ats lens) false t ≡ true
       → FieldType AnyName (print (name_at bytes ats lens) t) (named (name_at bytes ats lens) t)
-  unfolding legalAtBase readable print named
+  unfolding legal_at_base readable print named
   field-derived (Primitive c) h r =
       let b = both (ltb c 9) (ltb 0 c) r in
       base (letter-derived c (ltb-true 0 c b.1) (ltb-true c 9 b.0))
-  field-derived (Object c) h r = object (any_name c (ltb-true c (length ats) h) (not-true (elem 59 (name_at bytes ats lens c)) r))
+  field-derived (Object c) h r = object (any-name c (ltb-true c (length ats) h) (not-true (elem 59 (name_at bytes ats lens c)) r))
   field-derived (Array t) h r = array (field-derived t h r)
   field-derived (Unknown cs) h r = absurd (false≢true r)
 
-  pub return-derived : (t : ArgType) → legalAtBase (length ats) t ≡ true → readable (name_at bytes ats lens) true t ≡ true
+  pub return-derived : (t : ArgType) → legal_at_base (length ats) t ≡ true → readable (name_at bytes ats lens) true t ≡ true
       → ReturnDescriptor AnyName (print (name_at bytes ats lens) t) (named (name_at bytes ats lens) t)
-  unfolding legalAtBase readable print named letterByte ascii
+  unfolding legal_at_base readable print named letter_byte ascii
   return-derived (Primitive zero) h r = void
   return-derived (Primitive (suc c)) h r =
       let b = both (ltb (suc c) 9) true r in
@@ -110,46 +110,46 @@ module _ (bytes ats lens : List ℕ) (k : Checked bytes ats lens) where
   return-derived (Unknown cs) h r = absurd (false≢true r)
 
   -- and stands for it
-  pub named_back : (free : Bool) (t : ArgType) → legalAtBase (length ats) t ≡ true → readable (name_at bytes ats lens) free t ≡ true
-      → toType (lookup bytes ats lens) (named (name_at bytes ats lens) t) ≡ some t
-  unfolding legalAtBase readable named toType
-  named_back free (Primitive c) h r = refl
-  named_back free (Object c) h r =
+  pub named-back : (free : Bool) (t : ArgType) → legal_at_base (length ats) t ≡ true → readable (name_at bytes ats lens) free t ≡ true
+      → to_type (lookup bytes ats lens) (named (name_at bytes ats lens) t) ≡ some t
+  unfolding legal_at_base readable named to_type
+  named-back free (Primitive c) h r = refl
+  named-back free (Object c) h r =
       ap (map Object) ((lookup-is bytes ats lens (name_at bytes ats lens c) k c).1 (ltb-true c (length ats) h, refl))
-  named_back free (Array t) h r = ap (map Array) (named_back false t h r)
-  named_back free (Unknown cs) h r = absurd (false≢true r)
+  named-back free (Array t) h r = ap (map Array) (named-back false t h r)
+  named-back free (Unknown cs) h r = absurd (false≢true r)
 
   -- the same of parameters
-  pub parameters-derived : (ts : List ArgType) → legalTypes (length ats) ts ≡ true → allReadable (name_at bytes ats lens) ts ≡ true
-      → Parameters AnyName (printAll (name_at bytes ats lens) ts) (allNamed (name_at bytes ats lens) ts)
-  unfolding legalTypes allReadable printAll allNamed
+  pub parameters-derived : (ts : List ArgType) → legal_types (length ats) ts ≡ true → all_readable (name_at bytes ats lens) ts ≡ true
+      → Parameters AnyName (print_all (name_at bytes ats lens) ts) (all_named (name_at bytes ats lens) ts)
+  unfolding legal_types all_readable print_all all_named
   parameters-derived [] h r = none
   parameters-derived (t ∷ ts) h r =
-      let a = both (legalType (length ats) t) (legalTypes (length ats) ts) h in
-      let b = both (readable (name_at bytes ats lens) false t) (allReadable (name_at bytes ats lens) ts) r in
+      let a = both (legal_type (length ats) t) (legal_types (length ats) ts) h in
+      let b = both (readable (name_at bytes ats lens) false t) (all_readable (name_at bytes ats lens) ts) r in
       more (field-derived t (limits-parts (length ats) t a.0).1 b.0) (parameters-derived ts a.1 b.1)
 
-  pub all_back : (ts : List ArgType) → legalTypes (length ats) ts ≡ true → allReadable (name_at bytes ats lens) ts ≡ true
-      → toTypes (lookup bytes ats lens) (allNamed (name_at bytes ats lens) ts) ≡ some ts
-  unfolding legalTypes allReadable allNamed toTypes bind
-  all_back [] h r = refl
-  all_back (t ∷ ts) h r =
-      let a = both (legalType (length ats) t) (legalTypes (length ats) ts) h in
-      let b = both (readable (name_at bytes ats lens) false t) (allReadable (name_at bytes ats lens) ts) r in
-      rw (named_back false t (limits-parts (length ats) t a.0).1 b.0, all_back ts a.1 b.1)
+  pub all-back : (ts : List ArgType) → legal_types (length ats) ts ≡ true → all_readable (name_at bytes ats lens) ts ≡ true
+      → to_types (lookup bytes ats lens) (all_named (name_at bytes ats lens) ts) ≡ some ts
+  unfolding legal_types all_readable all_named to_types bind
+  all-back [] h r = refl
+  all-back (t ∷ ts) h r =
+      let a = both (legal_type (length ats) t) (legal_types (length ats) ts) h in
+      let b = both (readable (name_at bytes ats lens) false t) (all_readable (name_at bytes ats lens) ts) r in
+      rw (named-back false t (limits-parts (length ats) t a.0).1 b.0, all-back ts a.1 b.1)
 
 -- as many, and as deep
-pub named-length : (name : ℕ → List ℕ) (ts : List ArgType) → length (allNamed name ts) ≡ length ts
-unfolding allNamed
+pub named-length : (name : ℕ → List ℕ) (ts : List ArgType) → length (all_named name ts) ≡ length ts
+unfolding all_named
 named-length name [] = refl
 named-length name (t ∷ ts) = ap suc (named-length name ts)
 
-pub named-low : (name : ℕ → List ℕ) (names : ℕ) (ts : List ArgType) → legalTypes names ts ≡ true
-    → (p : Parameter) → Memᴰ p (allNamed name ts) → dimensions p.type ≤ 255
-unfolding allNamed legalTypes
+pub named-low : (name : ℕ → List ℕ) (names : ℕ) (ts : List ArgType) → legal_types names ts ≡ true
+    → (p : Parameter) → Memᴰ p (all_named name ts) → dimensions p.type ≤ 255
+unfolding all_named legal_types
 named-low name names [] h p m = absurd (Memᴰ.not-nil m)
 named-low name names (t ∷ ts) h p (Memᴰ.head e) =
-    let s = limits-parts names t (both (legalType names t) (legalTypes names ts) h).0 in
+    let s = limits-parts names t (both (legal_type names t) (legal_types names ts) h).0 in
     let d = named-depth name t in
     subst (λ (q : Parameter). dimensions q.type ≤ 255) (sym e) (let l : dimensions (named name t) ≤ 255 = omega arith in l)
-named-low name names (t ∷ ts) h p (Memᴰ.tail m) = named-low name names ts (both (legalType names t) (legalTypes names ts) h).1 p m
+named-low name names (t ∷ ts) h p (Memᴰ.tail m) = named-low name names ts (both (legal_type names t) (legal_types names ts) h).1 p m

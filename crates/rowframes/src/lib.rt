@@ -1,11 +1,11 @@
 // The frames of rows, 01 to 09, and of a layer that is opened, 0e: the fields of a body, the row's own function, the numbers after it.
 ghost use Rattle.std.specs.Prelude.{◌≡◌, ◌-◌, ◌%◌, ◌≤◌, ◌<◌, length, take, drop, get_or};
 ghost use Rattle.sorted.specs.Sorted.{Sorted};
-ghost use Rattle.rows.specs.Rows.{nameRow, filled};
-ghost use Rattle.layers.specs.Stacks.{stack_of, stackRan, Holds, openedTables};
-ghost use Rattle.problemrows.specs.ProblemRows.{countRefusal, variableRow, boundRow, pairRow};
-ghost use Rattle.hexline.specs.Hex.{number_at, numbersIn, bytesNumber};
-ghost use Rattle.framestate.specs.FrameState.{taken, recordNumbers, countNumbers, variableNumbers, boundNumbers, flowNumbers, upperNumbers, readNumbers, writeNumbers};
+ghost use Rattle.rows.specs.Rows.{name_row, filled};
+ghost use Rattle.layers.specs.Stacks.{stack_of, stack_ran, Holds, opened_tables};
+ghost use Rattle.problemrows.specs.ProblemRows.{count_refusal, variable_row, bound_row, pair_row};
+ghost use Rattle.hexline.specs.Hex.{number_at, numbers_in, bytes_number};
+ghost use Rattle.framestate.specs.FrameState.{taken, record_numbers, count_numbers, variable_numbers, bound_numbers, flow_numbers, upper_numbers, read_numbers, write_numbers};
 ghost use Rattle.rowframes.specs.RowFrames.{NameFrames, RecordFrames, RowFrames};
 
 use framestate::{Framed, Numbers, accept, refuse};
@@ -47,7 +47,7 @@ fn copy(from: &[u8], to: &mut [u8])
 // 01: a name.
 pub fn name_frame(body: &[u8], last: &mut [u8], n: Numbers) -> Framed
     requires { (n.last ≤ length last.old) × (length body.now ≤ length last.old) }
-    ensures { NameFrames (nameRow (take n.last last.old) body.now n.stack.tables) body.now last.old last.new n result }
+    ensures { NameFrames (name_row (take n.last last.old) body.now n.stack.tables) body.now last.old last.new n result }
 {
     let used = n.last;
     let s = n.stack;
@@ -64,7 +64,7 @@ pub fn name_frame(body: &[u8], last: &mut [u8], n: Numbers) -> Framed
 // 02: flags, a class, its parents, in the topmost layer.
 pub fn record_frame(body: &[u8], pairs: &mut [u64], marks: &mut [u64], n: Numbers) -> Framed
     requires { (3 ≤ length body.now) × (length body.now % 2 ≡ 1) × (length body.now ≤ 511) × Holds pairs.old marks.old n.stack }
-    ensures { RecordFrames (stackRan (stack_of pairs.old marks.old n.stack) (get_or body.now 0 0) (number_at 1 body.now) (numbersIn (drop 3 body.now))) pairs.old pairs.new marks.new n result }
+    ensures { RecordFrames (stack_ran (stack_of pairs.old marks.old n.stack) (get_or body.now 0 0) (number_at 1 body.now) (numbers_in (drop 3 body.now))) pairs.old pairs.new marks.new n result }
 {
     let mut parents = [0u64; 254];
     let k = put_numbers(&body[3..], &mut parents);
@@ -78,7 +78,7 @@ pub fn record_frame(body: &[u8], pairs: &mut [u64], marks: &mut [u64], n: Number
 
 // 0e: a layer more; the slices stay.
 pub fn open_frame(n: Numbers) -> Framed
-    ensures { result ≡ taken (openedTables n.stack).refusal n (recordNumbers n (openedTables n.stack).stack) }
+    ensures { result ≡ taken (opened_tables n.stack).refusal n (record_numbers n (opened_tables n.stack).stack) }
 {
     let s = n.stack;
     let o = open_layer(s);
@@ -90,7 +90,7 @@ pub fn open_frame(n: Numbers) -> Framed
 // 03: the count of components.
 pub fn count_frame(body: &[u8], n: Numbers) -> Framed
     requires { length body.now ≡ 2 }
-    ensures { result ≡ taken (countRefusal (number_at 0 body.now)) n (countNumbers n (number_at 0 body.now)) }
+    ensures { result ≡ taken (count_refusal (number_at 0 body.now)) n (count_numbers n (number_at 0 body.now)) }
 {
     let c = number_at(body, 0);
     finish(check_count(c), n, n.counted(c))
@@ -99,7 +99,7 @@ pub fn count_frame(body: &[u8], n: Numbers) -> Framed
 // 04: a new variable's component.
 pub fn variable_frame(body: &[u8], variables: &mut [u64], n: Numbers) -> Framed
     requires { (length body.now ≡ 2) × (n.variables ≤ length variables.old) × (2048 ≤ length variables.old) }
-    ensures { RowFrames (variableRow n.components (number_at 0 body.now) (take n.variables variables.old)) variables.old variables.new n (variableNumbers n) result }
+    ensures { RowFrames (variable_row n.components (number_at 0 body.now) (take n.variables variables.old)) variables.old variables.new n (variable_numbers n) result }
 {
     let c = number_at(body, 0);
     let a = add_variable(n.components, variables, n.variables, c);
@@ -109,7 +109,7 @@ pub fn variable_frame(body: &[u8], variables: &mut [u64], n: Numbers) -> Framed
 // 05: component, kind and word of a bound.
 pub fn bound_frame(body: &[u8], bounds: &mut [u64], n: Numbers) -> Framed
     requires { (length body.now ≡ 11) × (n.stack.tables.names ≤ 1024) × (n.components ≤ 512) × (n.bounds ≤ 4096) × (4096 ≤ length bounds.old) × Sorted (take n.bounds bounds.old) }
-    ensures { RowFrames (boundRow n.stack.tables.names n.components (number_at 0 body.now) (get_or body.now 2 0) (bytesNumber 0 (drop 3 body.now)) (take n.bounds bounds.old)) bounds.old bounds.new n (boundNumbers n) result }
+    ensures { RowFrames (bound_row n.stack.tables.names n.components (number_at 0 body.now) (get_or body.now 2 0) (bytes_number 0 (drop 3 body.now)) (take n.bounds bounds.old)) bounds.old bounds.new n (bound_numbers n) result }
 {
     let c = number_at(body, 0);
     let kind = byte_at(body, 2);
@@ -123,7 +123,7 @@ pub fn bound_frame(body: &[u8], bounds: &mut [u64], n: Numbers) -> Framed
 // 06: source and target of a flow.
 pub fn flow_frame(body: &[u8], flows: &mut [u64], n: Numbers) -> Framed
     requires { (length body.now ≡ 4) × (n.components ≤ 512) × (n.flows ≤ 2048) × (2048 ≤ length flows.old) × Sorted (take n.flows flows.old) }
-    ensures { RowFrames (pairRow n.components 2048 (number_at 0 body.now) (number_at 2 body.now) (take n.flows flows.old)) flows.old flows.new n (flowNumbers n) result }
+    ensures { RowFrames (pair_row n.components 2048 (number_at 0 body.now) (number_at 2 body.now) (take n.flows flows.old)) flows.old flows.new n (flow_numbers n) result }
 {
     let a = number_at(body, 0);
     let b = number_at(body, 2);
@@ -134,7 +134,7 @@ pub fn flow_frame(body: &[u8], flows: &mut [u64], n: Numbers) -> Framed
 // 07: source and target of an upper flow.
 pub fn upper_frame(body: &[u8], uppers: &mut [u64], n: Numbers) -> Framed
     requires { (length body.now ≡ 4) × (n.components ≤ 512) × (n.uppers ≤ 1024) × (1024 ≤ length uppers.old) × Sorted (take n.uppers uppers.old) }
-    ensures { RowFrames (pairRow n.components 1024 (number_at 0 body.now) (number_at 2 body.now) (take n.uppers uppers.old)) uppers.old uppers.new n (upperNumbers n) result }
+    ensures { RowFrames (pair_row n.components 1024 (number_at 0 body.now) (number_at 2 body.now) (take n.uppers uppers.old)) uppers.old uppers.new n (upper_numbers n) result }
 {
     let a = number_at(body, 0);
     let b = number_at(body, 2);
@@ -145,7 +145,7 @@ pub fn upper_frame(body: &[u8], uppers: &mut [u64], n: Numbers) -> Framed
 // 08: array and result of a read, in one room with the writes.
 pub fn read_frame(body: &[u8], reads: &mut [u64], n: Numbers) -> Framed
     requires { (length body.now ≡ 4) × (n.components ≤ 512) × (n.writes ≤ 1024) × (n.reads ≤ 1024 - n.writes) × (1024 ≤ length reads.old) × Sorted (take n.reads reads.old) }
-    ensures { RowFrames (pairRow n.components (1024 - n.writes) (number_at 0 body.now) (number_at 2 body.now) (take n.reads reads.old)) reads.old reads.new n (readNumbers n) result }
+    ensures { RowFrames (pair_row n.components (1024 - n.writes) (number_at 0 body.now) (number_at 2 body.now) (take n.reads reads.old)) reads.old reads.new n (read_numbers n) result }
 {
     let a = number_at(body, 0);
     let b = number_at(body, 2);
@@ -156,7 +156,7 @@ pub fn read_frame(body: &[u8], reads: &mut [u64], n: Numbers) -> Framed
 // 09: array and value of a write, in one room with the reads.
 pub fn write_frame(body: &[u8], writes: &mut [u64], n: Numbers) -> Framed
     requires { (length body.now ≡ 4) × (n.components ≤ 512) × (n.reads ≤ 1024) × (n.writes ≤ 1024 - n.reads) × (1024 ≤ length writes.old) × Sorted (take n.writes writes.old) }
-    ensures { RowFrames (pairRow n.components (1024 - n.reads) (number_at 0 body.now) (number_at 2 body.now) (take n.writes writes.old)) writes.old writes.new n (writeNumbers n) result }
+    ensures { RowFrames (pair_row n.components (1024 - n.reads) (number_at 0 body.now) (number_at 2 body.now) (take n.writes writes.old)) writes.old writes.new n (write_numbers n) result }
 {
     let a = number_at(body, 0);
     let b = number_at(body, 2);

@@ -4,7 +4,7 @@ ghost use Rattle.std.specs.Prelude.{◌≡◌};
 ghost use Rattle.sorted.specs.Sorted.{Sorted};
 ghost use Rattle.solving.specs.Queue.{Below};
 ghost use Rattle.inserting.specs.Store.{store, put_all, AllRanked, Sendable, Ready};
-ghost use Rattle.rules.specs.Rules.{boundRules, constraintRules, allRules};
+ghost use Rattle.rules.specs.Rules.{bound_rules, constraint_rules, all_rules};
 
 use inserting::{Sent, State};
 use passing::{send, send_arrays, send_ranks};
@@ -22,7 +22,7 @@ fn pass_bounds(
     uppers: &[u64],
 ) -> State
     requires { Ready (store a.old ring.old s) × Sorted flows.now × Sorted incoming.now × Sendable produced × AllRanked fallbacks.now × AllRanked uppers.now }
-    ensures { store a.new ring.new result ≡ put_all (boundRules flows.now incoming.now root produced fallbacks.now uppers.now) (store a.old ring.old s) }
+    ensures { store a.new ring.new result ≡ put_all (bound_rules flows.now incoming.now root produced fallbacks.now uppers.now) (store a.old ring.old s) }
 {
     let first = send(a, ring, s, flows, root, 3, produced);
     if first.refusal != 0 {
@@ -47,7 +47,7 @@ fn pass_constraints(
     array: Sent,
 ) -> State
     requires { Ready (store a.old ring.old s) × Below 262144 reads.now × Below 262144 writes.now × Sendable element × Sendable array }
-    ensures { store a.new ring.new result ≡ put_all (constraintRules reads.now writes.now root element array) (store a.old ring.old s) }
+    ensures { store a.new ring.new result ≡ put_all (constraint_rules reads.now writes.now root element array) (store a.old ring.old s) }
 {
     let first = send_arrays(a, ring, s, reads, root, 4, element, array);
     if first.refusal != 0 {
@@ -73,7 +73,7 @@ pub fn pass_rules(
     array: Sent,
 ) -> State
     requires { Ready (store a.old ring.old s) × Sorted flows.now × Sorted incoming.now × Below 262144 reads.now × Below 262144 writes.now × Sendable produced × AllRanked fallbacks.now × AllRanked uppers.now × Sendable element × Sendable array }
-    ensures { store a.new ring.new result ≡ put_all (allRules flows.now incoming.now reads.now writes.now root produced fallbacks.now uppers.now element array) (store a.old ring.old s) }
+    ensures { store a.new ring.new result ≡ put_all (all_rules flows.now incoming.now reads.now writes.now root produced fallbacks.now uppers.now element array) (store a.old ring.old s) }
 {
     let bounds = pass_bounds(
         a, ring, s, flows, incoming, root, produced, fallbacks, uppers,

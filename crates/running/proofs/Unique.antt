@@ -19,6 +19,6 @@ module _ (κs : Lfts 1) where
       → front.Post κs a r₁ x₁ → front.Post κs a r₂ x₂ → r₁ ≡ r₂
   take-front-one a r₁ r₂ x₁ x₂ p q = p ∙ sym q
 
-pub load_one : (κs : Lfts 2) (a : Dens κs load-kinds.ps) (r₁ r₂ : (res_t load-kinds.r κs).Denot) (x₁ x₂ : AtExit (ended_of 2 load-kinds.ps load-kinds.r) κs)
+pub load-one : (κs : Lfts 2) (a : Dens κs load-kinds.ps) (r₁ r₂ : (res_t load-kinds.r κs).Denot) (x₁ x₂ : AtExit (ended_of 2 load-kinds.ps load-kinds.r) κs)
     → load.Post κs a r₁ x₁ → load.Post κs a r₂ x₂ → x₁.1.0.now ≡ x₂.1.0.now
-load_one κs a r₁ r₂ x₁ x₂ p q = p ∙ sym q
+load-one κs a r₁ r₂ x₁ x₂ p q = p ∙ sym q

@@ -7,17 +7,17 @@ use Rattle.std.proofs.Math.Seq.{append_snoc, take-append_seam}
 use Rattle.view.specs.View.{numbers}
 use Rattle.lattice.specs.Lattice.{World, Lawful}
 use Rattle.queue.specs.Ring.{Shows}
-use Rattle.queue.specs.Laws.{fill_shows, shown-length, pop-front, pop-shows}
+use Rattle.queue.specs.Laws.{fill-shows, shown-length, pop-front, pop-shows}
 use Rattle.queue.specs.declared.Popped.{Popped}
 use Rattle.solving.specs.Runs.{turn-room}
 use Rattle.solving.specs.Tidy.{Tidy, Among, tidy-more, front-tidy, turn-tidy}
-use Rattle.solving.specs.TableKeys.{Holds, key_of, keys_of, boundOf, tidy-keyed, table-back}
-use Rattle.solving.specs.Steps.{rest, after, propagate-rest, rest_end, rest-step}
+use Rattle.solving.specs.TableKeys.{Holds, key_of, keys_of, bound_of, tidy-keyed, table-back}
+use Rattle.solving.specs.Steps.{rest, after, propagate-rest, rest-end, rest-step}
 use Rattle.solving.specs.Solving.{Table, state_of, Links, additions, Outcome, Refused, Going, room, turn, Finish, Stopped, Ended, propagate}
 use Rattle.inserting.specs.declared.State.{State}
 use Rattle.inserting.specs.Store.{Store, store, put_all, Good, Ready, Shown}
 use Rattle.rules.specs.Turn.{turn-shown}
-use Rattle.running.specs.Running.{started, without, taken, tableIn, Sound, Running, Fronted, Leaves}
+use Rattle.running.specs.Running.{started, without, taken, table_in, Sound, Running, Fronted, Leaves}
 
 -- ---- the given bounds
 
@@ -44,8 +44,8 @@ load-holds given a t e h k = record {
 
 -- ---- what a sound store has
 
-pub good-table : (s : Store) (t : Table) (q : List ℕ) → Good s t q → tableIn s ≡ t
-good-table s t q y = ap (map boundOf) y.holds.keys ∙ table-back t (tidy-keyed 1024 512 t q (omega arith) y.tidy)
+pub good-table : (s : Store) (t : Table) (q : List ℕ) → Good s t q → table_in s ≡ t
+good-table s t q y = ap (map bound_of) y.holds.keys ∙ table-back t (tidy-keyed 1024 512 t q (omega arith) y.tidy)
 
 -- what to do falls at each turn: who waits, and the room that is left
 abbrev pub ahead : State → ℕ
@@ -68,7 +68,7 @@ module _ (w : World) (good : Lawful w) (few : w.names ≤ 1024) (n : ℕ) (withi
     sound = record {
       table = t;
       queue = numbers 0 n;
-      good = record { going = refl; holds = h; shows = fill_shows ring n r within; tidy = tidy-more w.names 1024 n 512 few within t (numbers 0 n) y };
+      good = record { going = refl; holds = h; shows = fill-shows ring n r within; tidy = tidy-more w.names 1024 n 512 few within t (numbers 0 n) y };
       tidy = y;
     };
     left = propagate-rest w l n t;
@@ -83,14 +83,14 @@ module _ (w : World) (good : Lawful w) (few : w.names ≤ 1024) (n : ℕ) (withi
 
     -- ---- THE END: nobody waits
 
-    pub run_ends : s.state.queue.len ≡ 0 → (whole ≡ Ended (tableIn s) [] k) × Leaves whole k s
-    run_ends e = (
+    pub run-ends : s.state.queue.len ≡ 0 → (whole ≡ Ended (table_in s) [] k) × Leaves whole k s
+    run-ends e = (
       ended,
-      subst (λ (f : Finish). Leaves f k s) (sym ended) (y.sound.good.going, refl, refl, subst (Holds s.cells s.state.count) (sym tableIn-is) y.sound.good.holds),
+      subst (λ (f : Finish). Leaves f k s) (sym ended) (y.sound.good.going, refl, refl, subst (Holds s.cells s.state.count) (sym table_in-is) y.sound.good.holds),
     )
       where
-        tableIn-is : tableIn s ≡ t
-        tableIn-is = good-table s t y.sound.queue y.sound.good
+        table_in-is : table_in s ≡ t
+        table_in-is = good-table s t y.sound.queue y.sound.good
 
         empty : (q : List ℕ) → length q ≡ 0 → q ≡ []
         empty [] h = refl
@@ -99,8 +99,8 @@ module _ (w : World) (good : Lawful w) (few : w.names ≤ 1024) (n : ℕ) (withi
         nobody : y.sound.queue ≡ []
         nobody = empty y.sound.queue (sym (shown-length s.ring s.state.queue y.sound.queue shown) ∙ e)
 
-        ended : whole ≡ Ended (tableIn s) [] k
-        ended = y.left ∙ ap (rest w l k t) nobody ∙ rest_end w l k t ∙ ap (λ (x : Table). Ended x [] k) (sym tableIn-is)
+        ended : whole ≡ Ended (table_in s) [] k
+        ended = y.left ∙ ap (rest w l k t) nobody ∙ rest-end w l k t ∙ ap (λ (x : Table). Ended x [] k) (sym table_in-is)
 
     -- ---- THE FRONT HAS ITS TURN
 
@@ -144,7 +144,7 @@ module _ (w : World) (good : Lawful w) (few : w.names ≤ 1024) (n : ℕ) (withi
   -- ---- AFTER A TURN
 
   module _ (whole : Finish) (k root : ℕ) (s : Store) (y : Fronted w l n whole k root s) (s' : Store)
-      (e : s' ≡ put_all (additions w l root (state_of (tableIn s) root)) s) where
+      (e : s' ≡ put_all (additions w l root (state_of (table_in s) root)) s) where
     abbrev u : Table
     u = y.sound.table
 

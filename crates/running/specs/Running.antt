@@ -1,18 +1,18 @@
 -- A run over the slices: what the contracts cite, and the invariant of the loop.
 use Rattle.std.specs.Prelude.{◌≡◌, List, [], map, ℕ, suc, ◌<◌, take, get_or}
 use Rattle.lattice.specs.Lattice.{World}
-use Rattle.queue.specs.Ring.{line, firstSet, rested}
+use Rattle.queue.specs.Ring.{line, first_set, rested}
 use Rattle.solving.specs.Solving.{Table, Links, turn, Finish, Stopped, Ended}
 use Rattle.solving.specs.Steps.{rest, after}
 use Rattle.solving.specs.Tidy.{Tidy}
-use Rattle.solving.specs.TableKeys.{boundOf, Holds}
+use Rattle.solving.specs.TableKeys.{bound_of, Holds}
 use Rattle.inserting.specs.declared.State.{State}
 use Rattle.inserting.specs.Store.{Store, Good}
 use Rattle.running.specs.declared.Taken.{Taken}
 
 -- a solve of so many bounds, all components queued
 abbrev pub started : ℕ → ℕ → State
-started count components = record { refusal = 0; count = count; queue = line 0 components (firstSet components) }
+started count components = record { refusal = 0; count = count; queue = line 0 components (first_set components) }
 
 -- the state without c, its front
 abbrev pub without : State → ℕ → State
@@ -22,8 +22,8 @@ abbrev pub taken : List ℕ → State → Taken
 taken ring s = record { root = get_or ring s.queue.head 0; state = without s (get_or ring s.queue.head 0) }
 
 -- the table that the cells hold
-abbrev pub tableIn : Store → Table
-tableIn s = map boundOf (take s.state.count s.cells)
+abbrev pub table_in : Store → Table
+table_in s = map bound_of (take s.state.count s.cells)
 
 -- WHAT A TURN MAY COUNT ON: the store shows a table and a queue, both over the names and components of the problem
 pub record Sound (w : World) (n : ℕ) (s : Store) : Type 0 where

@@ -15,7 +15,7 @@ pub say-line-one : (κs : Lfts 7) (a : Dens κs say-line-kinds.ps) (r₁ r₂ : 
 say-line-one κs a r₁ r₂ x₁ x₂ p q =
     let o = state-one _ _ _ _ r₁.numbers r₂.numbers p.0.shows q.0.shows in
     let n = o.0 in
-    let f = p.0.prints.filled_is ∙ sym q.0.prints.filled_is in (
+    let f = p.0.prints.filled-is ∙ sym q.0.prints.filled-is in (
       λ i. record { numbers = n i; filled = f i },
       ap (λ (s : Slices). s.last) o.1,
       ap (λ (s : Slices). s.pairs) o.1,

@@ -2,9 +2,9 @@
 ghost use Rattle.std.specs.Prelude.{◌≡◌, ◌+◌, ◌≤◌, length};
 ghost use Rattle.lineout.specs.Printed.{Puts};
 ghost use Rattle.framestate.specs.FrameState.{store_of};
-ghost use Rattle.solveframe.specs.Parts.{slicesBy, slicesLeft};
+ghost use Rattle.solveframe.specs.Parts.{slices_by, slices_left};
 ghost use Rattle.stepping.specs.Stepping.{Stands};
-ghost use Rattle.saying.specs.Saying.{saidText, Speaks};
+ghost use Rattle.saying.specs.Saying.{said_text, Speaks};
 
 use framestate::{Numbers, Said};
 use lineout::{put_number, put_refusal, put_variables};
@@ -23,7 +23,7 @@ pub struct Spoken {
 // What a frame says, as text.
 fn put_said(out: &mut [u8], filled: usize, line: u64, said: Said, answers: &[u64]) -> usize
     requires { (filled + 81920 ≤ length out.old) × (length answers.now ≤ 2048) }
-    ensures { Puts (saidText line said answers.now) filled out.old out.new result }
+    ensures { Puts (said_text line said answers.now) filled out.old out.new result }
 {
     match said {
         Said::Accepted => filled,
@@ -49,7 +49,7 @@ pub fn say_line(
     n: Numbers,
 ) -> Spoken
     requires { Stands last.old pairs.old marks.old rows.old n × (length answers.old ≡ 2048) × (filled + 81920 ≤ length out.old) }
-    ensures speaks { Speaks line.now number (store_of (slicesBy last pairs marks rows) n) (slicesBy last pairs marks rows) (slicesLeft last pairs marks rows) answers.old answers.new filled out.old out.new result }
+    ensures speaks { Speaks line.now number (store_of (slices_by last pairs marks rows) n) (slices_by last pairs marks rows) (slices_left last pairs marks rows) answers.old answers.new filled out.old out.new result }
     ensures stands { Stands last.new pairs.new marks.new rows.new result.numbers × (result.filled ≤ length out.new) }
 {
     let v = n.variables;

@@ -2,25 +2,25 @@
 use Rattle.std.specs.Prelude.{cond}
 use Rattle.ty.specs.declared.MaybeType.{MaybeType}
 use Rattle.ty.specs.declared.MaybeType.TheVariants.{Is, Nothing}
-use Rattle.ty.specs.Types.{Array, isConcrete}
+use Rattle.ty.specs.Types.{Array, is_concrete}
 use Rattle.ty.specs.Words.{Legal, type_of}
-use Rattle.ty.specs.Answers.{elementWord}
+use Rattle.ty.specs.Answers.{element_word}
 use Rattle.inserting.specs.declared.Sent.{Sent}
 use Rattle.inserting.specs.declared.Sent.TheVariants.{Nothing as NoType}
-use Rattle.inserting.specs.Store.{sentOf}
+use Rattle.inserting.specs.Store.{sent_of}
 
 abbrev pub LegalMaybe : MaybeType → Type 0
 LegalMaybe (Is t) = Legal t.word
 LegalMaybe Nothing = Unit {0}
 
-abbrev pub sentMaybe : MaybeType → Sent
-sentMaybe (Is t) = sentOf (type_of t.word)
-sentMaybe Nothing = NoType
+abbrev pub sent_maybe : MaybeType → Sent
+sent_maybe (Is t) = sent_of (type_of t.word)
+sent_maybe Nothing = NoType
 
-abbrev pub sentElement : MaybeType → Sent
-sentElement (Is t) = sentMaybe (elementWord t.word)
-sentElement Nothing = NoType
+abbrev pub sent_element : MaybeType → Sent
+sent_element (Is t) = sent_maybe (element_word t.word)
+sent_element Nothing = NoType
 
-abbrev pub sentArray : MaybeType → Sent
-sentArray (Is t) = cond (isConcrete (type_of t.word)) (sentOf (Array (type_of t.word))) NoType
-sentArray Nothing = NoType
+abbrev pub sent_array : MaybeType → Sent
+sent_array (Is t) = cond (is_concrete (type_of t.word)) (sent_of (Array (type_of t.word))) NoType
+sent_array Nothing = NoType

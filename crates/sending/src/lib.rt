@@ -3,8 +3,8 @@
 ghost use Rattle.std.specs.Prelude.{◌≡◌};
 ghost use Rattle.ty.specs.Types.{Array};
 ghost use Rattle.ty.specs.Words.{Legal, type_of};
-ghost use Rattle.inserting.specs.Store.{sentOf};
-ghost use Rattle.sending.specs.Sending.{sentMaybe, sentElement, sentArray, LegalMaybe};
+ghost use Rattle.inserting.specs.Store.{sent_of};
+ghost use Rattle.sending.specs.Sending.{sent_maybe, sent_element, sent_array, LegalMaybe};
 
 use inserting::Sent;
 use keys::rank_of;
@@ -13,7 +13,7 @@ use ty::{Arrayed, MaybeType, TypeWord};
 // A type.
 fn send_word(t: TypeWord) -> Sent
     requires { Legal t.word }
-    ensures { result ≡ sentOf (type_of t.word) }
+    ensures { result ≡ sent_of (type_of t.word) }
 {
     Sent::Rank(rank_of(t))
 }
@@ -21,7 +21,7 @@ fn send_word(t: TypeWord) -> Sent
 // The array of a type.
 fn send_array_of(t: TypeWord) -> Sent
     requires { Legal t.word }
-    ensures { result ≡ sentOf (Array (type_of t.word)) }
+    ensures { result ≡ sent_of (Array (type_of t.word)) }
 {
     let a = t.array();
     match a {
@@ -33,7 +33,7 @@ fn send_array_of(t: TypeWord) -> Sent
 // What is produced, if anything is.
 pub fn send_type(m: MaybeType) -> Sent
     requires { LegalMaybe m }
-    ensures { result ≡ sentMaybe m }
+    ensures { result ≡ sent_maybe m }
 {
     match m {
         MaybeType::Is(t) => send_word(t),
@@ -44,7 +44,7 @@ pub fn send_type(m: MaybeType) -> Sent
 // The element of a type, if it has one.
 pub fn send_element(m: MaybeType) -> Sent
     requires { LegalMaybe m }
-    ensures { result ≡ sentElement m }
+    ensures { result ≡ sent_element m }
 {
     match m {
         MaybeType::Is(t) => send_type(t.element()),
@@ -55,7 +55,7 @@ pub fn send_element(m: MaybeType) -> Sent
 // The array of a type that is concrete.
 pub fn send_array(m: MaybeType) -> Sent
     requires { LegalMaybe m }
-    ensures { result ≡ sentArray m }
+    ensures { result ≡ sent_array m }
 {
     match m {
         MaybeType::Is(t) => {

@@ -12,12 +12,12 @@ use denote.Shadow.{shadow}
 use denote.Array.{each}
 use denote.Struct.Field.{u64-field, array_field}
 
-each_fits : (xs : List ℕ) (us : List Val) → shadow (each ℕ u64-field.row.own_val xs us) → (i : ℕ) → get_or xs i 0 < 2 ^ 64
-each_fits [] [] s i = lit< tt
-each_fits [] (u ∷ us) s i = absurd s
-each_fits (x ∷ xs) [] s i = absurd s
-each_fits (x ∷ xs) (u ∷ us) s zero = s.0.1
-each_fits (x ∷ xs) (u ∷ us) s (suc i) = each_fits xs us s.1 i
+each-fits : (xs : List ℕ) (us : List Val) → shadow (each ℕ u64-field.row.own_val xs us) → (i : ℕ) → get_or xs i 0 < 2 ^ 64
+each-fits [] [] s i = lit< tt
+each-fits [] (u ∷ us) s i = absurd s
+each-fits (x ∷ xs) [] s i = absurd s
+each-fits (x ∷ xs) (u ∷ us) s zero = s.0.1
+each-fits (x ∷ xs) (u ∷ us) s (suc i) = each-fits xs us s.1 i
 
 -- a struct's field is the list through the identity
 same : (xs : List ℕ) → map (λ v. v) xs ≡ xs
@@ -29,4 +29,4 @@ module _ (n : ℕ) (xs : List ℕ) (vs : List Val) (s : shadow ((array_field u64
   array-length = ap length (sym (same xs)) ∙ s.1.0.1
 
   pub array-fits : (i : ℕ) → get_or xs i 0 < 2 ^ 64
-  array-fits = subst (λ (l : List ℕ). (i : ℕ) → get_or l i 0 < 2 ^ 64) (same xs) (each_fits (map (λ v. v) xs) s.0 s.1.1)
+  array-fits = subst (λ (l : List ℕ). (i : ℕ) → get_or l i 0 < 2 ^ 64) (same xs) (each-fits (map (λ v. v) xs) s.0 s.1.1)

@@ -12,8 +12,8 @@ use lib.Count.{ones, count_trailing_zeros, trailing_of_zero}
 use lib.ListN.{length, get_or, set, drop, drop_of_length-le, length-set}
 use lib.Seq.{drop-cons, get_or-set_same, get_or-set_other, ext_get_or}
 use Rattle.sets.specs.Sets.{bit, Words, at, pairwise, same_words, members, tally, first}
-use Rattle.sets.specs.Bits.{tally-ext, tally-add, ones-tally, first-ext, first-none, first_some, trailing-first, trailing_lt}
-use Rattle.sets.specs.Laws.{length-pairwise, getD-pairwise, count-tally}
+use Rattle.sets.specs.Bits.{tally-ext, tally-add, ones-tally, first-ext, first-none, first-some, trailing-first, trailing-lt}
+use Rattle.sets.specs.Laws.{length-pairwise, get_d-pairwise, count-tally}
 
 -- ---- `union`, `intersection`, `difference`: f of the words below k stands in r, and r's other words are as they were in a
 
@@ -24,8 +24,8 @@ pub record Passed (f : ℕ → ℕ → ℕ) (a b r : List ℕ) (k : ℕ) : Type 
   pub rest : (j : ℕ) → k ≤ j → get_or r j 0 ≡ get_or a j 0
 
 module _ (f : ℕ → ℕ → ℕ) (a b : List ℕ) where
-  pub passed_none : length a ≡ 16 → Passed f a b a 0
-  passed_none l = record { within = omega arith; long = l; done = λ j h. absurd (omega arith); rest = λ j h. refl }
+  pub passed-none : length a ≡ 16 → Passed f a b a 0
+  passed-none l = record { within = omega arith; long = l; done = λ j h. absurd (omega arith); rest = λ j h. refl }
 
   pub passed-more : (r : List ℕ) (k : ℕ) → Passed f a b r k → k < 16 → Passed f a b (set r k (f (get_or r k 0) (get_or b k 0))) (k + 1)
   passed-more r k p h = record { within = omega arith; long = length-set r k v ∙ p.long; done = below; rest = λ j l. get_or-set_other r k j v 0 (λ e. omega arith) ∙ p.rest j (omega arith) }
@@ -46,112 +46,112 @@ module _ (f : ℕ → ℕ → ℕ) (a b : List ℕ) where
   pub passed-all : f 0 0 ≡ 0 → length a ≡ 16 → length b ≡ 16 → (r : List ℕ) (k : ℕ) → Passed f a b r k → 16 ≤ k → r ≡ pairwise f a b
   passed-all z la lb r k p h =
       ext_get_or 0 r (pairwise f a b) (p.long ∙ sym (length-pairwise f a b (la ∙ sym lb) ∙ la))
-      (λ j l. p.done j (let q = p.long in omega arith) ∙ sym (getD-pairwise f z a b j (la ∙ sym lb)))
+      (λ j l. p.done j (let q = p.long in omega arith) ∙ sym (get_d-pairwise f z a b j (la ∙ sym lb)))
 
 -- ---- `count`: the ones of the words from k on are still to be counted
 
 -- the ones of the words, added up
-unfoldable pub sumOnes : List ℕ → ℕ
-sumOnes [] = zero
-sumOnes (w ∷ ws) = ones w + sumOnes ws
+unfoldable pub sum_ones : List ℕ → ℕ
+sum_ones [] = zero
+sum_ones (w ∷ ws) = ones w + sum_ones ws
 
 -- the digits of the first word, and of the words after it
-at_here : (w : ℕ) (ws : List ℕ) (k : ℕ) → k < 64 → at (w ∷ ws) k ≡ bit k w
+at-here : (w : ℕ) (ws : List ℕ) (k : ℕ) → k < 64 → at (w ∷ ws) k ≡ bit k w
 unfolding at
-at_here w ws k h =
+at-here w ws k h =
     let q : k / 64 ≡ 0 = omega arith in
     let r : k % 64 ≡ k = omega arith in
     ap₂ (λ (x y : ℕ). bit x (get_or (w ∷ ws) y 0)) r q
 
-at_there : (w : ℕ) (ws : List ℕ) (k : ℕ) → at (w ∷ ws) (64 + k) ≡ at ws k
+at-there : (w : ℕ) (ws : List ℕ) (k : ℕ) → at (w ∷ ws) (64 + k) ≡ at ws k
 unfolding at
-at_there w ws k =
+at-there w ws k =
     let q : (64 + k) / 64 ≡ suc (k / 64) = omega arith in
     let r : (64 + k) % 64 ≡ k % 64 = omega arith in
     ap₂ (λ (x y : ℕ). bit x (get_or (w ∷ ws) y 0)) r q
 
-sum-tally : (ws : List ℕ) → Words ws → sumOnes ws ≡ tally (at ws) (64 * length ws)
-unfolding sumOnes tally
+sum-tally : (ws : List ℕ) → Words ws → sum_ones ws ≡ tally (at ws) (64 * length ws)
+unfolding sum_ones tally
 sum-tally [] h = refl
 sum-tally (w ∷ ws) h =
     ap₂ (λ (x y : ℕ). x + y)
-    (ones-tally 64 w (h 0) ∙ tally-ext (λ k. bit k w) (at (w ∷ ws)) 64 (λ k l. sym (at_here w ws k l)))
-    (sum-tally ws (λ i. h (suc i)) ∙ tally-ext (at ws) (λ k. at (w ∷ ws) (64 + k)) (64 * length ws) (λ k l. sym (at_there w ws k)))
+    (ones-tally 64 w (h 0) ∙ tally-ext (λ k. bit k w) (at (w ∷ ws)) 64 (λ k l. sym (at-here w ws k l)))
+    (sum-tally ws (λ i. h (suc i)) ∙ tally-ext (at ws) (λ k. at (w ∷ ws) (64 + k)) (64 * length ws) (λ k l. sym (at-there w ws k)))
     ∙ sym (tally-add (at (w ∷ ws)) 64 (64 * length ws))
     ∙ ap (tally (at (w ∷ ws))) (let e : 64 + 64 * length ws ≡ 64 * suc (length ws) = omega arith in e)
 
 -- the sum of the words' counts of ones is the number of members
-pub sum-members : (ws : List ℕ) → length ws ≡ 16 → Words ws → sumOnes ws ≡ length (members (at ws) 0 1024)
+pub sum-members : (ws : List ℕ) → length ws ≡ 16 → Words ws → sum_ones ws ≡ length (members (at ws) 0 1024)
 sum-members ws l w = sum-tally ws w ∙ ap (tally (at ws)) (let e : 64 * length ws ≡ 1024 = omega arith in e) ∙ sym (count-tally ws 1024)
 
-pub sum_drop : (ws : List ℕ) (k : ℕ) → k < length ws → sumOnes (drop k ws) ≡ ones (get_or ws k 0) + sumOnes (drop (k + 1) ws)
-unfolding sumOnes
-sum_drop ws k h = rw (add-one, drop-cons ws k 0)
+pub sum-drop : (ws : List ℕ) (k : ℕ) → k < length ws → sum_ones (drop k ws) ≡ ones (get_or ws k 0) + sum_ones (drop (k + 1) ws)
+unfolding sum_ones
+sum-drop ws k h = rw (add-one, drop-cons ws k 0)
 
-pub sum-end : (ws : List ℕ) (k : ℕ) → length ws ≤ k → sumOnes (drop k ws) ≡ 0
-unfolding sumOnes
-sum-end ws k h = ap sumOnes (drop_of_length-le ws h)
+pub sum-end : (ws : List ℕ) (k : ℕ) → length ws ≤ k → sum_ones (drop k ws) ≡ 0
+unfolding sum_ones
+sum-end ws k h = ap sum_ones (drop_of_length-le ws h)
 
 -- ---- `lowest`: the words below k are 0, and the lowest member of those from k on is still to be found
 
 -- the lowest member of a word w with words after it whose lowest member is r
-abbrev pub lowStep : ℕ → ℕ → ℕ
-lowStep zero r = 64 + r
-lowStep (suc w) r = count_trailing_zeros 64 (suc w)
+abbrev pub low_step : ℕ → ℕ → ℕ
+low_step zero r = 64 + r
+low_step (suc w) r = count_trailing_zeros 64 (suc w)
 
 -- the lowest member, found word by word; the number of digits where all words are 0
-unfoldable pub lowWords : List ℕ → ℕ
-lowWords [] = zero
-lowWords (w ∷ ws) = lowStep w (lowWords ws)
+unfoldable pub low_words : List ℕ → ℕ
+low_words [] = zero
+low_words (w ∷ ws) = low_step w (low_words ws)
 
-low_first : (ws : List ℕ) → Words ws → lowWords ws ≡ first (at ws) (64 * length ws)
-unfolding lowWords first
-low_first [] h = refl
-low_first (w ∷ ws) h =
-    step w (h 0) (low_first ws (λ i. h (suc i)))
+low-first : (ws : List ℕ) → Words ws → low_words ws ≡ first (at ws) (64 * length ws)
+unfolding low_words first
+low-first [] h = refl
+low-first (w ∷ ws) h =
+    step w (h 0) (low-first ws (λ i. h (suc i)))
     ∙ ap (first (at (w ∷ ws))) (let e : 64 + 64 * length ws ≡ 64 * suc (length ws) = omega arith in e)
   where
     here : (v : ℕ) → count_trailing_zeros 64 v ≡ first (at (v ∷ ws)) 64
-    here v = trailing-first 64 v ∙ first-ext (λ k. bit k v) (at (v ∷ ws)) 64 (λ k l. sym (at_here v ws k l))
+    here v = trailing-first 64 v ∙ first-ext (λ k. bit k v) (at (v ∷ ws)) 64 (λ k l. sym (at-here v ws k l))
 
-    step : (v : ℕ) → v < 2 ^ 64 → lowWords ws ≡ first (at ws) (64 * length ws) → lowStep v (lowWords ws) ≡ first (at (v ∷ ws)) (64 + 64 * length ws)
+    step : (v : ℕ) → v < 2 ^ 64 → low_words ws ≡ first (at ws) (64 * length ws) → low_step v (low_words ws) ≡ first (at (v ∷ ws)) (64 + 64 * length ws)
     step zero b ih =
-        ap (λ (x : ℕ). 64 + x) (ih ∙ first-ext (at ws) (λ k. at (0 ∷ ws) (64 + k)) (64 * length ws) (λ k l. sym (at_there 0 ws k)))
+        ap (λ (x : ℕ). 64 + x) (ih ∙ first-ext (at ws) (λ k. at (0 ∷ ws) (64 + k)) (64 * length ws) (λ k l. sym (at-there 0 ws k)))
         ∙ sym (first-none (at (0 ∷ ws)) 64 (64 * length ws) (sym (here 0) ∙ trailing_of_zero 64))
     step (suc v) b ih =
         here (suc v)
-        ∙ sym (first_some (at (suc v ∷ ws)) 64 (64 * length ws) (subst (λ (x : ℕ). x < 64) (here (suc v)) (trailing_lt 64 (suc v) b (omega arith))))
+        ∙ sym (first-some (at (suc v ∷ ws)) 64 (64 * length ws) (subst (λ (x : ℕ). x < 64) (here (suc v)) (trailing-lt 64 (suc v) b (omega arith))))
 
 -- the first word that is not 0 has the least member
-pub low-members : (ws : List ℕ) → length ws ≡ 16 → Words ws → lowWords ws ≡ first (at ws) 1024
-low-members ws l w = low_first ws w ∙ ap (first (at ws)) (let e : 64 * length ws ≡ 1024 = omega arith in e)
+pub low-members : (ws : List ℕ) → length ws ≡ 16 → Words ws → low_words ws ≡ first (at ws) 1024
+low-members ws l w = low-first ws w ∙ ap (first (at ws)) (let e : 64 * length ws ≡ 1024 = omega arith in e)
 
-pub low-drop : (ws : List ℕ) (k : ℕ) → k < length ws → lowWords (drop k ws) ≡ lowStep (get_or ws k 0) (lowWords (drop (k + 1) ws))
-unfolding lowWords
+pub low-drop : (ws : List ℕ) (k : ℕ) → k < length ws → low_words (drop k ws) ≡ low_step (get_or ws k 0) (low_words (drop (k + 1) ws))
+unfolding low_words
 low-drop ws k h = rw (add-one, drop-cons ws k 0)
 
-pub low_end : (ws : List ℕ) (k : ℕ) → length ws ≤ k → lowWords (drop k ws) ≡ 0
-unfolding lowWords
-low_end ws k h = ap lowWords (drop_of_length-le ws h)
+pub low-end : (ws : List ℕ) (k : ℕ) → length ws ≤ k → low_words (drop k ws) ≡ 0
+unfolding low_words
+low-end ws k h = ap low_words (drop_of_length-le ws h)
 
-pub low-pos : (w r : ℕ) → (w ≡ 0 → ⊥) → lowStep w r ≡ count_trailing_zeros 64 w
+pub low-pos : (w r : ℕ) → (w ≡ 0 → ⊥) → low_step w r ≡ count_trailing_zeros 64 w
 low-pos zero r h = absurd (h refl)
 low-pos (suc w) r h = refl
 
 -- ---- `same`: the words below k are equal, and those from k on are still to be compared
 
-same_drop : (a b : List ℕ) (k : ℕ) → k < length a → k < length b
+same-drop : (a b : List ℕ) (k : ℕ) → k < length a → k < length b
     → same_words (drop k a) (drop k b) ≡ (eqb (get_or a k 0) (get_or b k 0) && same_words (drop (k + 1) a) (drop (k + 1) b))
 unfolding same_words
-same_drop a b k h l = rw (add-one, drop-cons a k 0, drop-cons b k 0)
+same-drop a b k h l = rw (add-one, drop-cons a k 0, drop-cons b k 0)
 
-pub same_step : (a b : List ℕ) (k : ℕ) → k < length a → k < length b → get_or a k 0 ≡ get_or b k 0
+pub same-step : (a b : List ℕ) (k : ℕ) → k < length a → k < length b → get_or a k 0 ≡ get_or b k 0
     → same_words (drop k a) (drop k b) ≡ same_words (drop (k + 1) a) (drop (k + 1) b)
-same_step a b k h l e = same_drop a b k h l ∙ ap (λ (t : Bool). t && same_words (drop (k + 1) a) (drop (k + 1) b)) (eq-eqb (get_or a k 0) (get_or b k 0) e)
+same-step a b k h l e = same-drop a b k h l ∙ ap (λ (t : Bool). t && same_words (drop (k + 1) a) (drop (k + 1) b)) (eq-eqb (get_or a k 0) (get_or b k 0) e)
 
-pub same_stop : (a b : List ℕ) (k : ℕ) → k < length a → k < length b → (get_or a k 0 ≡ get_or b k 0 → ⊥) → same_words (drop k a) (drop k b) ≡ false
-same_stop a b k h l n = same_drop a b k h l ∙ ap (λ (t : Bool). t && same_words (drop (k + 1) a) (drop (k + 1) b)) (ne_eqb (get_or a k 0) (get_or b k 0) n)
+pub same-stop : (a b : List ℕ) (k : ℕ) → k < length a → k < length b → (get_or a k 0 ≡ get_or b k 0 → ⊥) → same_words (drop k a) (drop k b) ≡ false
+same-stop a b k h l n = same-drop a b k h l ∙ ap (λ (t : Bool). t && same_words (drop (k + 1) a) (drop (k + 1) b)) (ne_eqb (get_or a k 0) (get_or b k 0) n)
 
-pub same_end : (a b : List ℕ) (k : ℕ) → length a ≤ k → length b ≤ k → same_words (drop k a) (drop k b) ≡ true
+pub same-end : (a b : List ℕ) (k : ℕ) → length a ≤ k → length b ≤ k → same_words (drop k a) (drop k b) ≡ true
 unfolding same_words
-same_end a b k h l = ap₂ same_words (drop_of_length-le a h) (drop_of_length-le b l)
+same-end a b k h l = ap₂ same_words (drop_of_length-le a h) (drop_of_length-le b l)

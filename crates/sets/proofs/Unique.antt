@@ -28,9 +28,9 @@ pub empty-one : (κs : Lfts 0) (a : Dens κs empty-kinds.ps) (r₁ r₂ : (res_t
     → empty-reads.Post κs a r₁ x₁ → empty-reads.Post κs a r₂ x₂ → r₁ ≡ r₂
 empty-one κs a r₁ r₂ x₁ x₂ p q = λ i. record { words = (p ∙ sym q) i }
 
-pub has_one : (κs : Lfts 0) (a : Dens κs has-kinds.ps) (r₁ r₂ : (res_t has-kinds.r κs).Denot) (x₁ x₂ : AtExit (ended_of 0 has-kinds.ps has-kinds.r) κs)
+pub has-one : (κs : Lfts 0) (a : Dens κs has-kinds.ps) (r₁ r₂ : (res_t has-kinds.r κs).Denot) (x₁ x₂ : AtExit (ended_of 0 has-kinds.ps has-kinds.r) κs)
     → has-reads.Post κs a r₁ x₁ → has-reads.Post κs a r₂ x₂ → r₁ ≡ r₂
-has_one κs a r₁ r₂ x₁ x₂ p q = p ∙ sym q
+has-one κs a r₁ r₂ x₁ x₂ p q = p ∙ sym q
 
 pub with-one : (κs : Lfts 0) (a : Dens κs with-kinds.ps) (r₁ r₂ : (res_t with-kinds.r κs).Denot) (x₁ x₂ : AtExit (ended_of 0 with-kinds.ps with-kinds.r) κs)
     → with-reads.Post κs a r₁ x₁ → with-reads.Post κs a r₂ x₂ → r₁ ≡ r₂

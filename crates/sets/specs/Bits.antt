@@ -31,8 +31,8 @@ pub bit-suc : (k w : ℕ) → bit (suc k) w ≡ bit k (w / 2)
 unfolding bit
 bit-suc k w = ap (λ (x : ℕ). x % 2) (ap (λ (x : ℕ). w / x) (pow-succ' 2 k) ∙ sym (div-div-eq-div-mul w 2 (2 ^ k)))
 
-half_lt : {a : ℕ} (k : ℕ) → a < 2 ^ suc k → a / 2 < 2 ^ k
-half_lt {a} k h = shr_lt k 1 (subst (λ (x : ℕ). a < 2 ^ x) (sym (add-one k)) h)
+half-lt : {a : ℕ} (k : ℕ) → a < 2 ^ suc k → a / 2 < 2 ^ k
+half-lt {a} k h = shr_lt k 1 (subst (λ (x : ℕ). a < 2 ^ x) (sym (add-one k)) h)
 
 ones-zero : ones 0 ≡ 0
 unfolding ones
@@ -92,7 +92,7 @@ bit-ext zero a b ha hb h = lt-one ha ∙ sym (lt-one hb)
 bit-ext (suc n) a b ha hb h =
     let low : a % 2 ≡ b % 2 = sym (bit-low a) ∙ h 0 (omega arith) ∙ bit-low b in
     let high : a / 2 ≡ b / 2 =
-    bit-ext n (a / 2) (b / 2) (half_lt n ha) (half_lt n hb)
+    bit-ext n (a / 2) (b / 2) (half-lt n ha) (half-lt n hb)
     (λ k l. sym (bit-suc k a) ∙ h (suc k) (omega arith) ∙ bit-suc k b) in
     omega arith
 
@@ -169,7 +169,7 @@ ones-tally zero w h = ap ones (lt-one h) ∙ ones-zero
 ones-tally (suc n) w h =
     ones_step w
     ∙ ap₂ (λ (x y : ℕ). x + y) (sym (bit-low w))
-    (ones-tally n (w / 2) (half_lt n h) ∙ tally-ext (λ k. bit k (w / 2)) (λ k. bit (suc k) w) n (λ k l. sym (bit-suc k w)))
+    (ones-tally n (w / 2) (half-lt n h) ∙ tally-ext (λ k. bit k (w / 2)) (λ k. bit (suc k) w) n (λ k l. sym (bit-suc k w)))
 
 -- ---- the first number at which f is set
 
@@ -191,10 +191,10 @@ first-none f (suc m) n h = ap (first f) (suc-add m n) ∙ go (f zero) h (first-n
         ∙ sym (suc-add m _)
     go (suc d) e ih = absurd (omega arith)
 
-pub first_some : (f : ℕ → ℕ) (m n : ℕ) → first f m < m → first f (m + n) ≡ first f m
+pub first-some : (f : ℕ → ℕ) (m n : ℕ) → first f m < m → first f (m + n) ≡ first f m
 unfolding first
-first_some f zero n h = absurd (not-suc-le-zero h)
-first_some f (suc m) n h = ap (first f) (suc-add m n) ∙ go (f zero) h (first_some (λ k. f (suc k)) m n)
+first-some f zero n h = absurd (not-suc-le-zero h)
+first-some f (suc m) n h = ap (first f) (suc-add m n) ∙ go (f zero) h (first-some (λ k. f (suc k)) m n)
   where
     go : (d : ℕ) → under d (first (λ k. f (suc k)) m) < suc m → (first (λ k. f (suc k)) m < m → first (λ k. f (suc k)) (m + n) ≡ first (λ k. f (suc k)) m)
         → under d (first (λ k. f (suc k)) (m + n)) ≡ under d (first (λ k. f (suc k)) m)
@@ -202,20 +202,20 @@ first_some f (suc m) n h = ap (first f) (suc-add m n) ∙ go (f zero) h (first_s
     go (suc d) e ih = refl
 
 -- what `first` finds: nothing is set below it, and it is set where it is below n
-pub first_below : (f : ℕ → ℕ) (n k : ℕ) → k < first f n → f k ≡ 0
+pub first-below : (f : ℕ → ℕ) (n k : ℕ) → k < first f n → f k ≡ 0
 unfolding first
-first_below f zero k h = absurd (not-suc-le-zero h)
-first_below f (suc n) k h = go (f zero) refl (first_below (λ i. f (suc i)) n) k h
+first-below f zero k h = absurd (not-suc-le-zero h)
+first-below f (suc n) k h = go (f zero) refl (first-below (λ i. f (suc i)) n) k h
   where
     go : (d : ℕ) → f zero ≡ d → ((j : ℕ) → j < first (λ i. f (suc i)) n → f (suc j) ≡ 0) → (j : ℕ) → j < under d (first (λ i. f (suc i)) n) → f j ≡ 0
     go zero e ih zero g = e
     go zero e ih (suc j) g = ih j (omega arith)
     go (suc d) e ih j g = absurd (not-suc-le-zero g)
 
-pub first_found : (f : ℕ → ℕ) (n : ℕ) → first f n < n → f (first f n) ≡ 0 → ⊥
+pub first-found : (f : ℕ → ℕ) (n : ℕ) → first f n < n → f (first f n) ≡ 0 → ⊥
 unfolding first
-first_found f zero h = absurd (not-suc-le-zero h)
-first_found f (suc n) h = go (f zero) refl h (first_found (λ i. f (suc i)) n)
+first-found f zero h = absurd (not-suc-le-zero h)
+first-found f (suc n) h = go (f zero) refl h (first-found (λ i. f (suc i)) n)
   where
     go : (d : ℕ) → f zero ≡ d → under d (first (λ i. f (suc i)) n) < suc n
         → (first (λ i. f (suc i)) n < n → f (suc (first (λ i. f (suc i)) n)) ≡ 0 → ⊥) → f (under d (first (λ i. f (suc i)) n)) ≡ 0 → ⊥
@@ -238,10 +238,10 @@ trailing-first zero w = refl
 trailing-first (suc n) w =
     ap₂ under (sym (bit-low w)) (trailing-first n (w / 2) ∙ first-ext (λ k. bit k (w / 2)) (λ k. bit (suc k) w) n (λ k l. sym (bit-suc k w)))
 
-pub trailing_lt : (n w : ℕ) → w < 2 ^ n → 0 < w → count_trailing_zeros n w < n
+pub trailing-lt : (n w : ℕ) → w < 2 ^ n → 0 < w → count_trailing_zeros n w < n
 unfolding count_trailing_zeros
-trailing_lt zero w h p = absurd (let e = lt-one h in omega arith)
-trailing_lt (suc n) w h p = go (w % 2) refl (λ q. trailing_lt n (w / 2) (half_lt n h) q)
+trailing-lt zero w h p = absurd (let e = lt-one h in omega arith)
+trailing-lt (suc n) w h p = go (w % 2) refl (λ q. trailing-lt n (w / 2) (half-lt n h) q)
   where
     go : (d : ℕ) → w % 2 ≡ d → (0 < w / 2 → count_trailing_zeros n (w / 2) < n) → under d (count_trailing_zeros n (w / 2)) < suc n
     go zero e ih = let l = ih (omega arith) in omega arith

@@ -15,13 +15,13 @@ use Rattle.std.proofs.Math.ListN.{length, get_or-eq_default}
 use Rattle.std.proofs.lemmas.List.{length-replicate}
 use Rattle.std.proofs.Math.Seq.{set_out}
 use Rattle.sets.specs.Sets.{bit, clear, Words, at, member, insert, remove, pairwise, unite, intersect, subtract, same_words, keep, members, tally, first}
-use Rattle.sets.specs.Bits.{bit-lt, bit-zero, bit-or, bit-and, bit-clear, clear-lt, bit-pow-same, bit-pow-other, bit-ext, tally-ext, tally-eq, tally-none, tally-zero, tally-more, first-le, first_below, first_found}
+use Rattle.sets.specs.Bits.{bit-lt, bit-zero, bit-or, bit-and, bit-clear, clear-lt, bit-pow-same, bit-pow-other, bit-ext, tally-ext, tally-eq, tally-none, tally-zero, tally-more, first-le, first-below, first-found}
 
 -- ---- membership
 
-pub at_lt : (ws : List ℕ) (i : ℕ) → at ws i < 2
+pub at-lt : (ws : List ℕ) (i : ℕ) → at ws i < 2
 unfolding at
-at_lt ws i = bit-lt (i % 64) (get_or ws (i / 64) 0)
+at-lt ws i = bit-lt (i % 64) (get_or ws (i / 64) 0)
 
 -- a number past the last word is no member
 pub at-past : (ws : List ℕ) (i : ℕ) → 64 * length ws ≤ i → at ws i ≡ 0
@@ -33,9 +33,9 @@ pub at-member : (ws : List ℕ) (i : ℕ) → member ws i ≡ true → at ws i �
 unfolding member
 at-member ws i h = eqb-true (at ws i) 1 h
 
-pub at_none : (ws : List ℕ) (i : ℕ) → member ws i ≡ false → at ws i ≡ 0
+pub at-none : (ws : List ℕ) (i : ℕ) → member ws i ≡ false → at ws i ≡ 0
 unfolding member
-at_none ws i h = let n = eqb-false (at ws i) 1 h in let l = at_lt ws i in omega arith
+at-none ws i h = let n = eqb-false (at ws i) 1 h in let l = at-lt ws i in omega arith
 
 pub member-at : (ws : List ℕ) (i : ℕ) → at ws i ≡ 1 → member ws i ≡ true
 unfolding member
@@ -46,7 +46,7 @@ unfolding member
 member-none ws i h = ne_eqb (at ws i) 1 (λ e. omega arith)
 
 pub member-set : (ws : List ℕ) (i : ℕ) → (at ws i ≡ 0 → ⊥) → member ws i ≡ true
-member-set ws i h = member-at ws i (let l = at_lt ws i in omega arith)
+member-set ws i h = member-at ws i (let l = at-lt ws i in omega arith)
 
 pub member-past : (ws : List ℕ) (i : ℕ) → 64 * length ws ≤ i → member ws i ≡ false
 member-past ws i h = member-none ws i (at-past ws i h)
@@ -70,15 +70,15 @@ at-ext a b e wa wb h =
     ap₂ (λ (x y : ℕ). bit x (get_or a y 0)) (sym r) (sym q) ∙ h (k * 64 + j) s ∙ ap₂ (λ (x y : ℕ). bit x (get_or b y 0)) r q))
 
 -- the digit tells what the Bool tells
-at_same : (a b : List ℕ) (i : ℕ) → member a i ≡ member b i → at a i ≡ at b i
-at_same a b i e = go (member b i) refl
+at-same : (a b : List ℕ) (i : ℕ) → member a i ≡ member b i → at a i ≡ at b i
+at-same a b i e = go (member b i) refl
   where
     go : (t : Bool) → member b i ≡ t → at a i ≡ at b i
     go true q = at-member a i (e ∙ q) ∙ sym (at-member b i q)
-    go false q = at_none a i (e ∙ q) ∙ sym (at_none b i q)
+    go false q = at-none a i (e ∙ q) ∙ sym (at-none b i q)
 
 pub member-ext : (a b : List ℕ) → length a ≡ length b → Words a → Words b → ((i : ℕ) → i < 64 * length a → member a i ≡ member b i) → a ≡ b
-member-ext a b e wa wb h = at-ext a b e wa wb (λ i l. at_same a b i (h i l))
+member-ext a b e wa wb h = at-ext a b e wa wb (λ i l. at-same a b i (h i l))
 
 -- ---- the empty set
 
@@ -150,7 +150,7 @@ module _ (f g : ℕ → ℕ → ℕ) (digit : (k a b : ℕ) → bit k (f a b) �
 
 pub at-insert-same : (ws : List ℕ) (i : ℕ) → i < 64 * length ws → at (insert ws i) i ≡ 1
 unfolding insert changed
-at-insert-same ws i h = change-same bit_or max bit-or ws i h ∙ (let l = at_lt ws i in omega arith)
+at-insert-same ws i h = change-same bit_or max bit-or ws i h ∙ (let l = at-lt ws i in omega arith)
 
 pub at-insert-other : (ws : List ℕ) (i j : ℕ) → (j ≡ i → ⊥) → at (insert ws i) j ≡ at ws j
 unfolding insert changed
@@ -175,7 +175,7 @@ insert-ge ws i j = go (ℕ_discrete j i) (dec_lt i (64 * length ws))
   where
     go : Dec (j ≡ i) → Dec (i < 64 * length ws) → at ws j ≤ at (insert ws i) j
     go (no n) d = let e = at-insert-other ws i j n in omega arith
-    go (yes e) (yes l) = subst (λ (x : ℕ). at ws x ≤ at (insert ws i) x) (sym e) (let a = at_lt ws i in let b = at-insert-same ws i l in omega arith)
+    go (yes e) (yes l) = subst (λ (x : ℕ). at ws x ≤ at (insert ws i) x) (sym e) (let a = at-lt ws i in let b = at-insert-same ws i l in omega arith)
     go (yes e) (no n) = subst (λ (x : ℕ). at ws x ≤ at (insert ws i) x) (sym e) (let a = at-past ws i (omega arith) in omega arith)
 
 pub member-insert : (ws : List ℕ) (i j : ℕ) → i < 64 * length ws → member (insert ws i) j ≡ (eqb j i || member ws j)
@@ -202,7 +202,7 @@ words-remove ws i w = change-words clear ◌-◌ bit-clear ws i (clear-lt 64) w
 
 remove-inside : (ws : List ℕ) (i : ℕ) → i < 64 * length ws → at (remove ws i) i ≡ 0
 unfolding remove changed
-remove-inside ws i h = change-same clear ◌-◌ bit-clear ws i h ∙ (let l = at_lt ws i in omega arith)
+remove-inside ws i h = change-same clear ◌-◌ bit-clear ws i h ∙ (let l = at-lt ws i in omega arith)
 
 pub at-remove-same : (ws : List ℕ) (i : ℕ) → at (remove ws i) i ≡ 0
 at-remove-same ws i = go (dec_lt i (64 * length ws))
@@ -231,20 +231,20 @@ module _ (f : ℕ → ℕ → ℕ) where
   length-pairwise (x ∷ a) [] h = sym h
   length-pairwise (x ∷ a) (y ∷ b) h = ap suc (length-pairwise a b (omega arith))
 
-  pub getD-pairwise : f 0 0 ≡ 0 → (a b : List ℕ) (k : ℕ) → length a ≡ length b → get_or (pairwise f a b) k 0 ≡ f (get_or a k 0) (get_or b k 0)
+  pub get_d-pairwise : f 0 0 ≡ 0 → (a b : List ℕ) (k : ℕ) → length a ≡ length b → get_or (pairwise f a b) k 0 ≡ f (get_or a k 0) (get_or b k 0)
   unfolding pairwise
-  getD-pairwise z [] [] k h = sym z
-  getD-pairwise z [] (y ∷ b) k h = absurd (omega arith)
-  getD-pairwise z (x ∷ a) [] k h = absurd (omega arith)
-  getD-pairwise z (x ∷ a) (y ∷ b) zero h = refl
-  getD-pairwise z (x ∷ a) (y ∷ b) (suc k) h = getD-pairwise z a b k (omega arith)
+  get_d-pairwise z [] [] k h = sym z
+  get_d-pairwise z [] (y ∷ b) k h = absurd (omega arith)
+  get_d-pairwise z (x ∷ a) [] k h = absurd (omega arith)
+  get_d-pairwise z (x ∷ a) (y ∷ b) zero h = refl
+  get_d-pairwise z (x ∷ a) (y ∷ b) (suc k) h = get_d-pairwise z a b k (omega arith)
 
   words-pairwise : ((a b : ℕ) → a < 2 ^ 64 → b < 2 ^ 64 → f a b < 2 ^ 64) → f 0 0 ≡ 0 → (a b : List ℕ) → length a ≡ length b → Words a → Words b → Words (pairwise f a b)
-  words-pairwise fits z a b h wa wb k = subst (λ (x : ℕ). x < 2 ^ 64) (sym (getD-pairwise z a b k h)) (fits (get_or a k 0) (get_or b k 0) (wa k) (wb k))
+  words-pairwise fits z a b h wa wb k = subst (λ (x : ℕ). x < 2 ^ 64) (sym (get_d-pairwise z a b k h)) (fits (get_or a k 0) (get_or b k 0) (wa k) (wb k))
 
   at-pairwise : (g : ℕ → ℕ → ℕ) → ((k a b : ℕ) → bit k (f a b) ≡ g (bit k a) (bit k b)) → f 0 0 ≡ 0 → (a b : List ℕ) (i : ℕ) → length a ≡ length b → at (pairwise f a b) i ≡ g (at a i) (at b i)
   unfolding at
-  at-pairwise g digit z a b i h = ap (bit (i % 64)) (getD-pairwise z a b (i / 64) h) ∙ digit (i % 64) (get_or a (i / 64) 0) (get_or b (i / 64) 0)
+  at-pairwise g digit z a b i h = ap (bit (i % 64)) (get_d-pairwise z a b (i / 64) h) ∙ digit (i % 64) (get_or a (i / 64) 0) (get_or b (i / 64) 0)
 
 -- what holds of each two digits
 digits : (P : ℕ → ℕ → Type 0) → P 0 0 → P 0 1 → P 1 0 → P 1 1 → (x y : ℕ) → x < 2 → y < 2 → P x y
@@ -256,9 +256,9 @@ digits P a b c d zero (suc (suc y)) p q = absurd (omega arith)
 digits P a b c d (suc zero) (suc (suc y)) p q = absurd (omega arith)
 digits P a b c d (suc (suc x)) y p q = absurd (omega arith)
 
-pub clear_zero : clear 0 0 ≡ 0
+pub clear-zero : clear 0 0 ≡ 0
 unfolding clear
-clear_zero = refl
+clear-zero = refl
 
 -- the union
 pub length-unite : (a b : List ℕ) → length a ≡ length b → length (unite a b) ≡ length a
@@ -277,7 +277,7 @@ pub member-unite : (a b : List ℕ) (i : ℕ) → length a ≡ length b → memb
 unfolding member
 member-unite a b i h =
     ap (λ (x : ℕ). eqb x 1) (at-unite a b i h)
-    ∙ digits (λ x y. eqb (max x y) 1 ≡ (eqb x 1 || eqb y 1)) refl refl refl refl (at a i) (at b i) (at_lt a i) (at_lt b i)
+    ∙ digits (λ x y. eqb (max x y) 1 ≡ (eqb x 1 || eqb y 1)) refl refl refl refl (at a i) (at b i) (at-lt a i) (at-lt b i)
 
 -- the intersection
 pub length-intersect : (a b : List ℕ) → length a ≡ length b → length (intersect a b) ≡ length a
@@ -296,7 +296,7 @@ pub member-intersect : (a b : List ℕ) (i : ℕ) → length a ≡ length b → 
 unfolding member
 member-intersect a b i h =
     ap (λ (x : ℕ). eqb x 1) (at-intersect a b i h)
-    ∙ digits (λ x y. eqb (min x y) 1 ≡ (eqb x 1 && eqb y 1)) refl refl refl refl (at a i) (at b i) (at_lt a i) (at_lt b i)
+    ∙ digits (λ x y. eqb (min x y) 1 ≡ (eqb x 1 && eqb y 1)) refl refl refl refl (at a i) (at b i) (at-lt a i) (at-lt b i)
 
 -- the difference
 pub length-subtract : (a b : List ℕ) → length a ≡ length b → length (subtract a b) ≡ length a
@@ -305,17 +305,17 @@ length-subtract a b h = length-pairwise clear a b h
 
 pub words-subtract : (a b : List ℕ) → length a ≡ length b → Words a → Words b → Words (subtract a b)
 unfolding subtract
-words-subtract a b h wa wb = words-pairwise clear (clear-lt 64) clear_zero a b h wa wb
+words-subtract a b h wa wb = words-pairwise clear (clear-lt 64) clear-zero a b h wa wb
 
 pub at-subtract : (a b : List ℕ) (i : ℕ) → length a ≡ length b → at (subtract a b) i ≡ at a i - at b i
 unfolding subtract
-at-subtract a b i h = at-pairwise clear ◌-◌ bit-clear clear_zero a b i h
+at-subtract a b i h = at-pairwise clear ◌-◌ bit-clear clear-zero a b i h
 
 pub member-subtract : (a b : List ℕ) (i : ℕ) → length a ≡ length b → member (subtract a b) i ≡ (member a i && not (member b i))
 unfolding member
 member-subtract a b i h =
     ap (λ (x : ℕ). eqb x 1) (at-subtract a b i h)
-    ∙ digits (λ x y. eqb (x - y) 1 ≡ (eqb x 1 && not (eqb y 1))) refl refl refl refl (at a i) (at b i) (at_lt a i) (at_lt b i)
+    ∙ digits (λ x y. eqb (x - y) 1 ≡ (eqb x 1 && not (eqb y 1))) refl refl refl refl (at a i) (at b i) (at-lt a i) (at-lt b i)
 
 -- ---- `count`: the length of the list of members
 
@@ -342,10 +342,10 @@ list-only f i (suc n) j m z = go (f i) refl m (λ t. list-only f (suc i) n j t z
     go zero e k ih = ih k
     go (suc d) e k ih = ⊎_elim (λ q. let r = ap f q in omega arith) ih (Memᴰ.cases_cons k)
 
-list_all : (f : ℕ → ℕ) (i n j : ℕ) → i ≤ j → j < i + n → (f j ≡ 0 → ⊥) → Memᴰ j (members f i n)
+list-all : (f : ℕ → ℕ) (i n j : ℕ) → i ≤ j → j < i + n → (f j ≡ 0 → ⊥) → Memᴰ j (members f i n)
 unfolding members
-list_all f i zero j h l y = absurd (omega arith)
-list_all f i (suc n) j h l y = go (f i) refl (ℕ_discrete j i) (λ q. list_all f (suc i) n j (omega arith) (omega arith) y)
+list-all f i zero j h l y = absurd (omega arith)
+list-all f i (suc n) j h l y = go (f i) refl (ℕ_discrete j i) (λ q. list-all f (suc i) n j (omega arith) (omega arith) y)
   where
     go : (d : ℕ) → f i ≡ d → Dec (j ≡ i) → ((j ≡ i → ⊥) → Memᴰ j (members f (suc i) n)) → Memᴰ j (keep d i (members f (suc i) n))
     go zero e (yes q) ih = absurd (y (ap f q ∙ e))
@@ -353,15 +353,15 @@ list_all f i (suc n) j h l y = go (f i) refl (ℕ_discrete j i) (λ q. list_all 
     go (suc d) e (yes q) ih = Memᴰ.head q
     go (suc d) e (no q) ih = Memᴰ.tail (ih q)
 
-pub members_only : (ws : List ℕ) (n j : ℕ) → Memᴰ j (members (at ws) 0 n) → member ws j ≡ true
-members_only ws n j m = member-set ws j (list-only (at ws) 0 n j m)
+pub members-only : (ws : List ℕ) (n j : ℕ) → Memᴰ j (members (at ws) 0 n) → member ws j ≡ true
+members-only ws n j m = member-set ws j (list-only (at ws) 0 n j m)
 
 pub members-all : (ws : List ℕ) (n j : ℕ) → j < n → member ws j ≡ true → Memᴰ j (members (at ws) 0 n)
-members-all ws n j h m = list_all (at ws) 0 n j (omega arith) (omega arith) (λ z. let e = at-member ws j m in omega arith)
+members-all ws n j h m = list-all (at ws) 0 n j (omega arith) (omega arith) (λ z. let e = at-member ws j m in omega arith)
 
 -- THE COUNT is the sum of the digits
 pub count-tally : (ws : List ℕ) (n : ℕ) → length (members (at ws) 0 n) ≡ tally (at ws) n
-count-tally ws n = length-members (at ws) 0 n (at_lt ws) ∙ tally-ext (λ k. at ws (0 + k)) (at ws) n (λ k l. ap (at ws) (zero-add k))
+count-tally ws n = length-members (at ws) 0 n (at-lt ws) ∙ tally-ext (λ k. at ws (0 + k)) (at ws) n (λ k l. ap (at ws) (zero-add k))
 
 -- it is 0 exactly if the set is empty
 pub count-empty : (m n : ℕ) → length (members (at (replicate m 0)) 0 n) ≡ 0
@@ -376,7 +376,7 @@ pub count-insert : (ws : List ℕ) (i n : ℕ) → i < n → i < 64 * length ws 
     → length (members (at (insert ws i)) 0 n) ≡ suc (length (members (at ws) 0 n))
 count-insert ws i n l h m =
     count-tally (insert ws i) n
-    ∙ tally-more (at ws) (at (insert ws i)) n i l (at-insert-same ws i h ∙ ap suc (sym (at_none ws i m))) (at-insert-other ws i)
+    ∙ tally-more (at ws) (at (insert ws i)) n i l (at-insert-same ws i h ∙ ap suc (sym (at-none ws i m))) (at-insert-other ws i)
     ∙ ap suc (sym (count-tally ws n))
 
 pub count-remove : (ws : List ℕ) (i n : ℕ) → i < n → member ws i ≡ true → length (members (at ws) 0 n) ≡ suc (length (members (at (remove ws i)) 0 n))
@@ -386,20 +386,20 @@ count-remove ws i n l m =
     ∙ ap suc (sym (count-tally (remove ws i) n))
 
 -- a set that has all of another's members, and as many, is the other
-pub count_same : (a b : List ℕ) → length a ≡ 16 → length b ≡ 16 → Words a → Words b → ((i : ℕ) → at a i ≤ at b i)
+pub count-same : (a b : List ℕ) → length a ≡ 16 → length b ≡ 16 → Words a → Words b → ((i : ℕ) → at a i ≤ at b i)
     → length (members (at a) 0 1024) ≡ length (members (at b) 0 1024) → a ≡ b
-count_same a b la lb wa wb h e =
+count-same a b la lb wa wb h e =
     at-ext a b (la ∙ sym lb) wa wb (λ i l. tally-eq (at a) (at b) 1024 h (sym (count-tally a 1024) ∙ e ∙ count-tally b 1024) i (omega arith))
 
 -- ---- `lowest`: the least member
 
 -- it is a member where it is in range
 pub lowest-member : (ws : List ℕ) (n : ℕ) → first (at ws) n < n → member ws (first (at ws) n) ≡ true
-lowest-member ws n h = member-set ws (first (at ws) n) (first_found (at ws) n h)
+lowest-member ws n h = member-set ws (first (at ws) n) (first-found (at ws) n h)
 
 -- nothing below it is a member
 pub lowest-least : (ws : List ℕ) (n j : ℕ) → j < first (at ws) n → member ws j ≡ false
-lowest-least ws n j h = member-none ws j (first_below (at ws) n j h)
+lowest-least ws n j h = member-none ws j (first-below (at ws) n j h)
 
 -- it is 1,024 exactly if there is no member
 pub lowest-none : (ws : List ℕ) → length ws ≡ 16 → first (at ws) 1024 ≡ 1024 → (j : ℕ) → member ws j ≡ false
@@ -413,22 +413,22 @@ pub lowest-empty : (ws : List ℕ) (n : ℕ) → ((j : ℕ) → j < n → member
 lowest-empty ws n h = go (dec_lt (first (at ws) n) n)
   where
     go : Dec (first (at ws) n < n) → first (at ws) n ≡ n
-    go (yes l) = absurd (first_found (at ws) n l (at_none ws (first (at ws) n) (h (first (at ws) n) l)))
+    go (yes l) = absurd (first-found (at ws) n l (at-none ws (first (at ws) n) (h (first (at ws) n) l)))
     go (no m) = let b = first-le (at ws) n in omega arith
 
 -- ---- `same`: true exactly if the words are equal
 
-pub same_self : (a : List ℕ) → same_words a a ≡ true
+pub same-self : (a : List ℕ) → same_words a a ≡ true
 unfolding same_words
-same_self [] = refl
-same_self (x ∷ a) = ap₂ (λ (s t : Bool). s && t) (eq-eqb x x refl) (same_self a)
+same-self [] = refl
+same-self (x ∷ a) = ap₂ (λ (s t : Bool). s && t) (eq-eqb x x refl) (same-self a)
 
-pub same_true : (a b : List ℕ) → same_words a b ≡ true → a ≡ b
+pub same-true : (a b : List ℕ) → same_words a b ≡ true → a ≡ b
 unfolding same_words
-same_true [] [] h = refl
-same_true [] (y ∷ b) h = absurd (false≢true h)
-same_true (x ∷ a) [] h = absurd (false≢true h)
-same_true (x ∷ a) (y ∷ b) h = go (eqb x y) refl h (same_true a b)
+same-true [] [] h = refl
+same-true [] (y ∷ b) h = absurd (false≢true h)
+same-true (x ∷ a) [] h = absurd (false≢true h)
+same-true (x ∷ a) (y ∷ b) h = go (eqb x y) refl h (same-true a b)
   where
     go : (t : Bool) → eqb x y ≡ t → (t && same_words a b) ≡ true → (same_words a b ≡ true → a ≡ b) → x ∷ a ≡ y ∷ b
     go true e q ih = ap₂ (λ (z : ℕ) (l : List ℕ). z ∷ l) (eqb-true x y e) (ih q)

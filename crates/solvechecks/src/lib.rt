@@ -1,9 +1,9 @@
 // What a solve over slices is refused with outside its rows, and what is left then: 22 for a lent slice that is too short, 3 for columns of
 // unequal length, 9 where the rows are taken and java/lang/Object is not among the names. Numbers alone, so that an edit is checked in seconds.
 ghost use Rattle.std.specs.Prelude.{◌≡◌, length, replicate};
-ghost use Rattle.problemcolumns.specs.ProblemColumns.{evenRows};
+ghost use Rattle.problemcolumns.specs.ProblemColumns.{even_rows};
 ghost use Rattle.solver.specs.Solver.{counted};
-ghost use Rattle.solvechecks.specs.SolveChecks.{shortLengths, lengthsRefusal, rowsRefusal, workLeft};
+ghost use Rattle.solvechecks.specs.SolveChecks.{short_lengths, lengths_refusal, rows_refusal, work_left};
 
 use clearing::clear;
 use problemcolumns::is_even_problem;
@@ -30,7 +30,7 @@ fn is_short(
     out_type: usize,
     work: usize,
 ) -> bool
-    ensures { result ≡ shortLengths variables answers out_comp out_kind out_type work }
+    ensures { result ≡ short_lengths variables answers out_comp out_kind out_type work }
 {
     if answers < variables {
         return true;
@@ -67,7 +67,7 @@ pub fn lengths_refusal(
     write_arr: usize,
     write_val: usize,
 ) -> u64
-    ensures { result ≡ lengthsRefusal (shortLengths variables answers out_comp out_kind out_type work) (evenRows bnd_comp bnd_kind bnd_type flow_src flow_dst up_src up_dst read_arr read_res write_arr write_val) }
+    ensures { result ≡ lengths_refusal (short_lengths variables answers out_comp out_kind out_type work) (even_rows bnd_comp bnd_kind bnd_type flow_src flow_dst up_src up_dst read_arr read_res write_arr write_val) }
 {
     if is_short(variables, answers, out_comp, out_kind, out_type, work) {
         return SHORT;
@@ -83,7 +83,7 @@ pub fn lengths_refusal(
 
 // The refusal of the problem's rows, or that there is no Object.
 pub fn rows_refusal(refusal: u64, object: u64) -> u64
-    ensures { result ≡ rowsRefusal refusal object }
+    ensures { result ≡ rows_refusal refusal object }
 {
     if refusal != 0 {
         return refusal;
@@ -115,7 +115,7 @@ pub fn refuse(code: u64, work: &mut [u64]) -> Counts
 
 // The same, but 22 leaves the work as it came.
 pub fn refuse_lengths(code: u64, work: &mut [u64]) -> Counts
-    ensures { (result ≡ counted code 0 0) × (work.new ≡ workLeft code work.old) }
+    ensures { (result ≡ counted code 0 0) × (work.new ≡ work_left code work.old) }
 {
     if code == SHORT {
         return refused(code);

@@ -7,36 +7,36 @@ use Rattle.std.proofs.Math.Bool.{true, false, cond}
 use Rattle.std.proofs.lemmas.Bool.{false≢true}
 use mathlib.Core.List.{List}
 use borrow.Author.Tests.{ne_eqb, ltb-false}
-use Rattle.checks.specs.Checks.{firstRefusal}
+use Rattle.checks.specs.Checks.{first_refusal}
 use Rattle.view.specs.View.{View}
-use Rattle.lattice.specs.World.{worldOf}
+use Rattle.lattice.specs.World.{world_of}
 use Rattle.rows.specs.declared.Outcome.{Outcome}
 use Rattle.columns.specs.Given.{Given, even}
 use Rattle.layercolumns.specs.LayerColumns.{Shows}
-use Rattle.tableview.specs.TableRows.{rowsView}
-use Rattle.stackview.specs.LayerRows.{shownIn}
-use Rattle.stackview.specs.LayerRefusals.{stackRefusalOf}
-use Rattle.stackview.specs.Shown.{checkedStack}
+use Rattle.tableview.specs.TableRows.{rows_view}
+use Rattle.stackview.specs.LayerRows.{shown_in}
+use Rattle.stackview.specs.LayerRefusals.{stack_refusal_of}
+use Rattle.stackview.specs.Shown.{checked_stack}
 use Rattle.solving.specs.declared.Counts.{Counts}
 use Rattle.solving.specs.Solving.{Solution, Unsolved}
-use Rattle.problems.specs.Problems.{Columns, evenProblem}
-use Rattle.problemcolumns.specs.ProblemColumns.{evenRows}
+use Rattle.problems.specs.Problems.{Columns, even_problem}
+use Rattle.problemcolumns.specs.ProblemColumns.{even_rows}
 use Rattle.problemcolumns.specs.Steps.{even-rows}
 use Rattle.solver.specs.Solver.{counted}
-use Rattle.solves.specs.SolveResult.{Lent, lent, Roomy, countsOf, answersAfter, componentsAfter, kindsAfter, typesAfter, Solves}
-use Rattle.solvechecks.specs.SolveChecks.{shortLengths, lengthsRefusal, rowsRefusal, workLeft}
-use Rattle.solvechecks.specs.Steps.{lengths_none}
-use Rattle.solverows.specs.SolveRows.{columnsRefusal, solveRows}
+use Rattle.solves.specs.SolveResult.{Lent, lent, Roomy, counts_of, answers_after, components_after, kinds_after, types_after, Solves}
+use Rattle.solvechecks.specs.SolveChecks.{short_lengths, lengths_refusal, rows_refusal, work_left}
+use Rattle.solvechecks.specs.Steps.{lengths-none}
+use Rattle.solverows.specs.SolveRows.{columns_refusal, solve_rows}
 use Rattle.solverows.specs.Laws.{unsolved}
 use Rattle.questions.specs.Laws.{Stands, stands, built-refusal}
-use Rattle.solvedoor.specs.SolveDoor.{tooShort, problemOver, solveChecks, solveRefusal, solveIn, solveWork, SolvesIn}
-use Rattle.solvedoor.specs.Inside.{solveOf}
+use Rattle.solvedoor.specs.SolveDoor.{too_short, problem_over, solve_checks, solve_refusal, solve_in, solve_work, SolvesIn}
+use Rattle.solvedoor.specs.Inside.{solve_of}
 
 -- ---- by lengths
 
 lengths-are : (c : Columns) (l : Lent)
-    → tooShort c l ≡ shortLengths (length c.variables) (length l.answers) (length l.components) (length l.kinds) (length l.types) (length l.work)
-unfolding tooShort shortLengths
+    → too_short c l ≡ short_lengths (length c.variables) (length l.answers) (length l.components) (length l.kinds) (length l.types) (length l.work)
+unfolding too_short short_lengths
 lengths-are c l = refl
 
 neither : (a b : Bool) → (a || b) ≡ false → (a ≡ false) × (b ≡ false)
@@ -44,8 +44,8 @@ neither true b h = absurd (false≢true (sym h))
 neither false b h = (refl, h)
 
 -- WHAT IS NOT TOO SHORT HAS ROOM
-pub roomy : (c : Columns) (l : Lent) → tooShort c l ≡ false → Roomy (length c.variables) l
-unfolding tooShort
+pub roomy : (c : Columns) (l : Lent) → too_short c l ≡ false → Roomy (length c.variables) l
+unfolding too_short
 roomy c l h =
     let p = neither _ _ h in
     let q = neither _ _ p.1 in
@@ -62,93 +62,93 @@ roomy c l h =
 -- ---- a refused solve
 
 module _ (a oc ok ot w w' : List ℕ) (r : Counts) (k : ℕ) (e : r ≡ counted k 0 0) (z : w' ≡ replicate (length w) 0) where
-  pub refused-of : (g : Given) (c : Columns) → (k ≡ 0 → ⊥) → firstRefusal (solveChecks g c) ≡ k → Solves (solveOf g c) (lent a oc ok ot w) (lent a oc ok ot w') r
-  unfolding solveOf
+  pub refused-of : (g : Given) (c : Columns) → (k ≡ 0 → ⊥) → first_refusal (solve_checks g c) ≡ k → Solves (solve_of g c) (lent a oc ok ot w) (lent a oc ok ot w') r
+  unfolding solve_of
   refused-of g c n f = rw (f, ne_eqb k 0 n) (unsolved a oc ok ot w w' r k e z)
 
-uneven-problem : (g : Given) (c : Columns) → evenProblem c ≡ false → firstRefusal (solveChecks g c) ≡ 3
-unfolding solveChecks firstRefusal
+uneven-problem : (g : Given) (c : Columns) → even_problem c ≡ false → first_refusal (solve_checks g c) ≡ 3
+unfolding solve_checks first_refusal
 uneven-problem g c e = go (even g) refl
   where
-    go : (b : Bool) → even g ≡ b → firstRefusal (solveChecks g c) ≡ 3
+    go : (b : Bool) → even g ≡ b → first_refusal (solve_checks g c) ≡ 3
     go false d = rw d
     go true d = rw (d, e)
 
 -- ---- over the table that was built
 
-module _ (g : Given) (c : Columns) (even-c : evenProblem c ≡ true) (pairs' marks' : List ℕ) (o : Outcome) (f : Shows (checkedStack g) pairs' marks' o) where
-  pub table-refused : (o.refusal ≡ 0 → ⊥) → firstRefusal (solveChecks g c) ≡ o.refusal
-  unfolding solveChecks firstRefusal
-  table-refused n = go (even g) refl (eqb (stackRefusalOf g) 0) refl
+module _ (g : Given) (c : Columns) (even-c : even_problem c ≡ true) (pairs' marks' : List ℕ) (o : Outcome) (f : Shows (checked_stack g) pairs' marks' o) where
+  pub table-refused : (o.refusal ≡ 0 → ⊥) → first_refusal (solve_checks g c) ≡ o.refusal
+  unfolding solve_checks first_refusal
+  table-refused n = go (even g) refl (eqb (stack_refusal_of g) 0) refl
     where
-      is : o.refusal ≡ cond (not (even g)) 3 (cond (not (eqb (stackRefusalOf g) 0)) (stackRefusalOf g) 0)
+      is : o.refusal ≡ cond (not (even g)) 3 (cond (not (eqb (stack_refusal_of g) 0)) (stack_refusal_of g) 0)
       is = built-refusal g pairs' marks' o f
 
-      go : (b : Bool) → even g ≡ b → (d : Bool) → eqb (stackRefusalOf g) 0 ≡ d → firstRefusal (solveChecks g c) ≡ o.refusal
+      go : (b : Bool) → even g ≡ b → (d : Bool) → eqb (stack_refusal_of g) 0 ≡ d → first_refusal (solve_checks g c) ≡ o.refusal
       go false x d y = rw (is, x)
       go true x false y = rw (is, x, even-c, y)
-      go true x true y = absurd (n (is ∙ ap₂ (λ (p q : Bool). cond (not p) 3 (cond (not q) (stackRefusalOf g) 0)) x y))
+      go true x true y = absurd (n (is ∙ ap₂ (λ (p q : Bool). cond (not p) 3 (cond (not q) (stack_refusal_of g) 0)) x y))
 
   module _ (z : o.refusal ≡ 0) where
     abbrev s : Stands g pairs' marks' o.tables
     s = stands g pairs' marks' o f z
 
-    names-are : o.tables.names ≡ (rowsView (shownIn g)).names
+    names-are : o.tables.names ≡ (rows_view (shown_in g)).names
     names-are = ap (λ (v : View). v.names) s.view-is
 
-    object-is : o.tables.object ≡ (rowsView (shownIn g)).object
+    object-is : o.tables.object ≡ (rows_view (shown_in g)).object
     object-is = ap (λ (v : View). v.object) s.view-is
 
-    checks-are : columnsRefusal o.tables c ≡ firstRefusal (solveChecks g c)
-    unfolding rowsRefusal solveChecks firstRefusal problemOver
-    checks-are = rw (s.even_is, even-c, s.rows_taken, names-are, object-is)
+    checks-are : columns_refusal o.tables c ≡ first_refusal (solve_checks g c)
+    unfolding rows_refusal solve_checks first_refusal problem_over
+    checks-are = rw (s.even-is, even-c, s.rows-taken, names-are, object-is)
 
     -- A SOLVE FROM THERE ON IS THE SOLVE OF THE COLUMNS
-    table-solve : solveRows (worldOf pairs' marks' o.tables) o.tables c ≡ solveOf g c
-    unfolding solveRows solveOf problemOver
-    table-solve = rw (checks-are, s.world_is, names-are)
+    table-solve : solve_rows (world_of pairs' marks' o.tables) o.tables c ≡ solve_of g c
+    unfolding solve_rows solve_of problem_over
+    table-solve = rw (checks-are, s.world-is, names-are)
 
-    pub table-solved : (before after : Lent) (r : Counts) → Solves (solveRows (worldOf pairs' marks' o.tables) o.tables c) before after r → Solves (solveOf g c) before after r
+    pub table-solved : (before after : Lent) (r : Counts) → Solves (solve_rows (world_of pairs' marks' o.tables) o.tables c) before after r → Solves (solve_of g c) before after r
     table-solved before after r d = subst (λ (x : Solution). Solves x before after r) table-solve d
 
 -- ---- the whole
 
 module _ (g : Given) (c : Columns) (l : Lent) where
   -- a slice is too short: nothing is touched
-  short-is : tooShort c l ≡ true → solveIn g c l ≡ Unsolved 22
-  unfolding solveIn solveRefusal firstRefusal
+  short-is : too_short c l ≡ true → solve_in g c l ≡ Unsolved 22
+  unfolding solve_in solve_refusal first_refusal
   short-is h = rw h
 
-  door-short : (r : Counts) → tooShort c l ≡ true → r ≡ counted 22 0 0 → SolvesIn g c l l r
-  unfolding solveWork countsOf answersAfter componentsAfter kindsAfter typesAfter
+  door-short : (r : Counts) → too_short c l ≡ true → r ≡ counted 22 0 0 → SolvesIn g c l l r
+  unfolding solve_work counts_of answers_after components_after kinds_after types_after
   door-short r h e =
       let s = sym (short-is h) in
       record {
-        counts = e ∙ ap countsOf s;
+        counts = e ∙ ap counts_of s;
         memory = record {
-          answers = ap (λ (x : Solution). answersAfter x l.answers) s;
-          components = ap (λ (x : Solution). componentsAfter x l.components) s;
-          kinds = ap (λ (x : Solution). kindsAfter x l.kinds) s;
-          types = ap (λ (x : Solution). typesAfter x l.types) s;
+          answers = ap (λ (x : Solution). answers_after x l.answers) s;
+          components = ap (λ (x : Solution). components_after x l.components) s;
+          kinds = ap (λ (x : Solution). kinds_after x l.kinds) s;
+          types = ap (λ (x : Solution). types_after x l.types) s;
           work = sym (ap (λ (b : Bool). cond b l.work (replicate (length l.work) 0)) h);
         };
       }
 
-  long-is : tooShort c l ≡ false → solveIn g c l ≡ solveOf g c
-  unfolding solveIn solveOf solveRefusal firstRefusal
+  long-is : too_short c l ≡ false → solve_in g c l ≡ solve_of g c
+  unfolding solve_in solve_of solve_refusal first_refusal
   long-is h = rw h
 
-  pub door-long : (l' : Lent) (r : Counts) → tooShort c l ≡ false → Solves (solveOf g c) l l' r → SolvesIn g c l l' r
-  unfolding solveWork
+  pub door-long : (l' : Lent) (r : Counts) → too_short c l ≡ false → Solves (solve_of g c) l l' r → SolvesIn g c l l' r
+  unfolding solve_work
   door-long l' r h d =
       let e = sym (long-is h) in
       record {
-        counts = d.counts ∙ ap countsOf e;
+        counts = d.counts ∙ ap counts_of e;
         memory = record {
-          answers = d.answers ∙ ap (λ (x : Solution). answersAfter x l.answers) e;
-          components = d.components ∙ ap (λ (x : Solution). componentsAfter x l.components) e;
-          kinds = d.kinds ∙ ap (λ (x : Solution). kindsAfter x l.kinds) e;
-          types = d.types ∙ ap (λ (x : Solution). typesAfter x l.types) e;
+          answers = d.answers ∙ ap (λ (x : Solution). answers_after x l.answers) e;
+          components = d.components ∙ ap (λ (x : Solution). components_after x l.components) e;
+          kinds = d.kinds ∙ ap (λ (x : Solution). kinds_after x l.kinds) e;
+          types = d.types ∙ ap (λ (x : Solution). types_after x l.types) e;
           work = d.work ∙ sym (ap (λ (b : Bool). cond b l.work (replicate (length l.work) 0)) h);
         };
       }
@@ -156,30 +156,30 @@ module _ (g : Given) (c : Columns) (l : Lent) where
 -- THE REFUSAL BY LENGTHS THAT THE CODE HAS FOUND
 pub lengths-refused : (c : Columns) (l : Lent) (k : ℕ)
     → k
-    ≡ lengthsRefusal (shortLengths (length c.variables) (length l.answers) (length l.components) (length l.kinds) (length l.types) (length l.work))
-    (evenRows (length c.boundComponents) (length c.boundKinds) (length c.boundWords) (length c.flowSources) (length c.flowTargets) (length c.upperSources) (length c.upperTargets)
-    (length c.readArrays) (length c.readResults) (length c.writeArrays) (length c.writeValues))
-    → k ≡ lengthsRefusal (tooShort c l) (evenProblem c)
-lengths-refused c l k e = e ∙ sym (ap₂ lengthsRefusal (lengths-are c l) (even-rows c))
+    ≡ lengths_refusal (short_lengths (length c.variables) (length l.answers) (length l.components) (length l.kinds) (length l.types) (length l.work))
+    (even_rows (length c.bound_components) (length c.bound_kinds) (length c.bound_words) (length c.flow_sources) (length c.flow_targets) (length c.upper_sources) (length c.upper_targets)
+    (length c.read_arrays) (length c.read_results) (length c.write_arrays) (length c.write_values))
+    → k ≡ lengths_refusal (too_short c l) (even_problem c)
+lengths-refused c l k e = e ∙ sym (ap₂ lengths_refusal (lengths-are c l) (even-rows c))
 
-pub lengths-good : (c : Columns) (l : Lent) (k : ℕ) → k ≡ lengthsRefusal (tooShort c l) (evenProblem c) → k ≡ 0 → (tooShort c l ≡ false) × (evenProblem c ≡ true)
-lengths-good c l k e z = lengths_none (tooShort c l) (evenProblem c) (sym e ∙ z)
+pub lengths-good : (c : Columns) (l : Lent) (k : ℕ) → k ≡ lengths_refusal (too_short c l) (even_problem c) → k ≡ 0 → (too_short c l ≡ false) × (even_problem c ≡ true)
+lengths-good c l k e z = lengths-none (too_short c l) (even_problem c) (sym e ∙ z)
 
-module _ (g : Given) (c : Columns) (a oc ok ot w w' : List ℕ) (r : Counts) (k : ℕ) (e : r ≡ counted k 0 0) (z : w' ≡ workLeft k w) (n : k ≡ 0 → ⊥) where
+module _ (g : Given) (c : Columns) (a oc ok ot w w' : List ℕ) (r : Counts) (k : ℕ) (e : r ≡ counted k 0 0) (z : w' ≡ work_left k w) (n : k ≡ 0 → ⊥) where
   abbrev slices : Lent
   slices = lent a oc ok ot w
 
   -- A SOLVE THAT IS REFUSED BY LENGTHS
-  pub door-lengths : k ≡ lengthsRefusal (tooShort c slices) (evenProblem c) → SolvesIn g c slices (lent a oc ok ot w') r
-  unfolding lengthsRefusal firstRefusal workLeft
-  door-lengths f = go (tooShort c slices) refl (evenProblem c) refl
+  pub door-lengths : k ≡ lengths_refusal (too_short c slices) (even_problem c) → SolvesIn g c slices (lent a oc ok ot w') r
+  unfolding lengths_refusal first_refusal work_left
+  door-lengths f = go (too_short c slices) refl (even_problem c) refl
     where
-      go : (s : Bool) → tooShort c slices ≡ s → (b : Bool) → evenProblem c ≡ b → SolvesIn g c slices (lent a oc ok ot w') r
+      go : (s : Bool) → too_short c slices ≡ s → (b : Bool) → even_problem c ≡ b → SolvesIn g c slices (lent a oc ok ot w') r
       go true p b q =
-          let k22 : k ≡ 22 = f ∙ ap (λ (x : Bool). lengthsRefusal x (evenProblem c)) p in
-          let same : w ≡ w' = sym (z ∙ ap (λ (x : ℕ). workLeft x w) k22) in
+          let k22 : k ≡ 22 = f ∙ ap (λ (x : Bool). lengths_refusal x (even_problem c)) p in
+          let same : w ≡ w' = sym (z ∙ ap (λ (x : ℕ). work_left x w) k22) in
           subst (λ (x : List ℕ). SolvesIn g c slices (lent a oc ok ot x) r) same (door-short g c slices r p (e ∙ ap (λ (x : ℕ). counted x 0 0) k22))
-      go false p true q = absurd (n (f ∙ ap₂ lengthsRefusal p q))
+      go false p true q = absurd (n (f ∙ ap₂ lengths_refusal p q))
       go false p false q =
-          let k3 : k ≡ 3 = f ∙ ap₂ lengthsRefusal p q in
-          door-long g c slices _ r p (refused-of a oc ok ot w w' r k e (z ∙ ap (λ (x : ℕ). workLeft x w) k3) g c n (uneven-problem g c q ∙ sym k3))
+          let k3 : k ≡ 3 = f ∙ ap₂ lengths_refusal p q in
+          door-long g c slices _ r p (refused-of a oc ok ot w w' r k e (z ∙ ap (λ (x : ℕ). work_left x w) k3) g c n (uneven-problem g c q ∙ sym k3))

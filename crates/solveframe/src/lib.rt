@@ -1,13 +1,13 @@
 // The frame of a solve, 0a: 9 without java/lang/Object, else the solve of the problem whose rows stand in parts of one slice. Its answers go in
 // front of a lent slice, a word a variable; its columns and its work are locals.
 ghost use Rattle.std.specs.Prelude.{◌≡◌, ◌≤◌, length};
-ghost use Rattle.lattice.specs.World.{worldOf};
+ghost use Rattle.lattice.specs.World.{world_of};
 ghost use Rattle.solving.specs.Solving.{solve};
-ghost use Rattle.problems.specs.Kept.{problemOf, Keeps};
+ghost use Rattle.problems.specs.Kept.{problem_of, Keeps};
 ghost use Rattle.resolving.specs.Bounds.{Classes};
 ghost use Rattle.framestate.specs.FrameState.{Within};
-ghost use Rattle.solveframe.specs.Parts.{problemRoom, problemIn, KeepsIn};
-ghost use Rattle.solveframe.specs.SolveFrame.{Alone, SolveReady, solvedBy, SolveFrames};
+ghost use Rattle.solveframe.specs.Parts.{problem_room, problem_in, KeepsIn};
+ghost use Rattle.solveframe.specs.SolveFrame.{Alone, SolveReady, solved_by, SolveFrames};
 
 use framestate::{Framed, Numbers, Said, refuse};
 use solves::solve_problem;
@@ -29,7 +29,7 @@ fn solve_alone(
     answers: &mut [u64],
 ) -> Counts
     requires { Classes marks.now t × Keeps t.names components variables.now bounds.now flows.now uppers.now reads.now writes.now × (length variables.now ≤ length answers.old) }
-    ensures { Alone (solve (worldOf pairs.now marks.now t) (problemOf components variables.now bounds.now flows.now uppers.now reads.now writes.now)) answers.old answers.new result }
+    ensures { Alone (solve (world_of pairs.now marks.now t) (problem_of components variables.now bounds.now flows.now uppers.now reads.now writes.now)) answers.old answers.new result }
 {
     let mut out_comp = [0u64; 4096];
     let mut out_kind = [0u64; 4096];
@@ -56,8 +56,8 @@ fn solve_alone(
 
 // The solve of the rows that count.
 fn solve_rows(pairs: &[u64], marks: &[u64], rows: &[u64], answers: &mut [u64], n: Numbers) -> Counts
-    requires { Classes marks.now n.stack.tables × KeepsIn rows.now n × Within n × (length rows.now ≡ problemRoom) × (2048 ≤ length answers.old) }
-    ensures { Alone (solve (worldOf pairs.now marks.now n.stack.tables) (problemIn rows.now n)) answers.old answers.new result }
+    requires { Classes marks.now n.stack.tables × KeepsIn rows.now n × Within n × (length rows.now ≡ problem_room) × (2048 ≤ length answers.old) }
+    ensures { Alone (solve (world_of pairs.now marks.now n.stack.tables) (problem_in rows.now n)) answers.old answers.new result }
 {
     let s = n.stack;
     let t = s.tables;
@@ -84,7 +84,7 @@ fn solve_rows(pairs: &[u64], marks: &[u64], rows: &[u64], answers: &mut [u64], n
 
 // What is said of a run, with the numbers after it.
 fn say(n: Numbers, refusal: u64) -> Framed
-    ensures { result ≡ solvedBy refusal n }
+    ensures { result ≡ solved_by refusal n }
 {
     if refusal != 0 {
         return refuse(n, refusal);
@@ -105,7 +105,7 @@ pub fn solve_frame(
     n: Numbers,
 ) -> Framed
     requires { SolveReady marks.now rows.now answers.old n }
-    ensures { SolveFrames (solve (worldOf pairs.now marks.now n.stack.tables) (problemIn rows.now n)) answers.old answers.new n result }
+    ensures { SolveFrames (solve (world_of pairs.now marks.now n.stack.tables) (problem_in rows.now n)) answers.old answers.new n result }
 {
     let s = n.stack;
     let t = s.tables;

@@ -5,20 +5,20 @@ use mathlib.Core.List.Memᴰ
 use mathlib.Core.List.{List, [], ◌∷◌, ◌++◌, map, Memᴰ}
 use Rattle.std.proofs.Math.Logic.{inl, inr}
 use Prim.Native.Nat.{ℕ, zero, suc, ◌<◌}
-use Rattle.ty.specs.Words.{legalWord, type_of, word_of}
+use Rattle.ty.specs.Words.{legal_word, type_of, word_of}
 use Rattle.solving.specs.Chains as chains
 use Rattle.solving.specs.Solving.{Bound, bound, Pair}
-use Rattle.problems.specs.Problems.{Columns, ProblemRow, variableRows, boundRows}
-use Rattle.problems.specs.Plain.{bounds_of, pairsOf, plainProblem}
-use Rattle.problems.specs.Exact.{AllInRange, laterRows}
+use Rattle.problems.specs.Problems.{Columns, ProblemRow, variable_rows, bound_rows}
+use Rattle.problems.specs.Plain.{bounds_of, pairs_of, plain_problem}
+use Rattle.problems.specs.Exact.{AllInRange, later_rows}
 
 -- ---- CHAINS OF ROWS
 
 -- a row of the flows, or of the upper flows, leads from a to b
 abbrev pub RowLink : Columns → ℕ → ℕ → Type 0
 RowLink c a b =
-    ((i : ℕ) × (i < length c.flowSources) × (get_or c.flowSources i 0 ≡ a) × (get_or c.flowTargets i 0 ≡ b))
-    ⊎ ((i : ℕ) × (i < length c.upperSources) × (get_or c.upperSources i 0 ≡ a) × (get_or c.upperTargets i 0 ≡ b))
+    ((i : ℕ) × (i < length c.flow_sources) × (get_or c.flow_sources i 0 ≡ a) × (get_or c.flow_targets i 0 ≡ b))
+    ⊎ ((i : ℕ) × (i < length c.upper_sources) × (get_or c.upper_sources i 0 ≡ a) × (get_or c.upper_targets i 0 ≡ b))
 
 -- one or more, end to end
 pub data RowChain (c : Columns) : ℕ → ℕ → Type 0 where
@@ -27,31 +27,31 @@ pub data RowChain (c : Columns) : ℕ → ℕ → Type 0 where
 
 -- ---- a row by its number
 
-pub pair-at : (xs ys : List ℕ) → length xs ≡ length ys → (i : ℕ) → i < length xs → Memᴰ {A = Pair} (get_or xs i 0, get_or ys i 0) (pairsOf xs ys)
-unfolding pairsOf
+pub pair-at : (xs ys : List ℕ) → length xs ≡ length ys → (i : ℕ) → i < length xs → Memᴰ {A = Pair} (get_or xs i 0, get_or ys i 0) (pairs_of xs ys)
+unfolding pairs_of
 pair-at [] ys e i h = absurd (omega arith)
 pair-at (x ∷ xs) [] e i h = absurd (omega arith)
 pair-at (x ∷ xs) (y ∷ ys) e zero h = Memᴰ.head refl
 pair-at (x ∷ xs) (y ∷ ys) e (suc i) h = Memᴰ.tail (pair-at xs ys (omega arith) i (omega arith))
 
-pub bound_at : (cs ks ws : List ℕ) → length cs ≡ length ks → length cs ≡ length ws → (i : ℕ) → i < length cs → Memᴰ (bound (get_or cs i 0) (get_or ks i 0) (type_of (get_or ws i 0))) (bounds_of cs ks ws)
+pub bound-at : (cs ks ws : List ℕ) → length cs ≡ length ks → length cs ≡ length ws → (i : ℕ) → i < length cs → Memᴰ (bound (get_or cs i 0) (get_or ks i 0) (type_of (get_or ws i 0))) (bounds_of cs ks ws)
 unfolding bounds_of
-bound_at [] ks ws e f i h = absurd (omega arith)
-bound_at (c ∷ cs) [] ws e f i h = absurd (omega arith)
-bound_at (c ∷ cs) (k ∷ ks) [] e f i h = absurd (omega arith)
-bound_at (c ∷ cs) (k ∷ ks) (w ∷ ws) e f zero h = Memᴰ.head refl
-bound_at (c ∷ cs) (k ∷ ks) (w ∷ ws) e f (suc i) h = Memᴰ.tail (bound_at cs ks ws (omega arith) (omega arith) i (omega arith))
+bound-at [] ks ws e f i h = absurd (omega arith)
+bound-at (c ∷ cs) [] ws e f i h = absurd (omega arith)
+bound-at (c ∷ cs) (k ∷ ks) [] e f i h = absurd (omega arith)
+bound-at (c ∷ cs) (k ∷ ks) (w ∷ ws) e f zero h = Memᴰ.head refl
+bound-at (c ∷ cs) (k ∷ ks) (w ∷ ws) e f (suc i) h = Memᴰ.tail (bound-at cs ks ws (omega arith) (omega arith) i (omega arith))
 
 -- A CHAIN OF ROWS IS A CHAIN OF WHAT THE COLUMNS LIST
-module _ (c : Columns) (flows-even : length c.flowSources ≡ length c.flowTargets) (uppers-even : length c.upperSources ≡ length c.upperTargets) where
-  link-of : (a b : ℕ) → RowLink c a b → chains.Link (plainProblem c) a b
-  unfolding plainProblem
+module _ (c : Columns) (flows-even : length c.flow_sources ≡ length c.flow_targets) (uppers-even : length c.upper_sources ≡ length c.upper_targets) where
+  link-of : (a b : ℕ) → RowLink c a b → chains.Link (plain_problem c) a b
+  unfolding plain_problem
   link-of a b (inl r) =
-      inl (subst (λ (q : Pair). Memᴰ q (pairsOf c.flowSources c.flowTargets)) (λ j. (r.2 j, r.3 j)) (pair-at c.flowSources c.flowTargets flows-even r.0 r.1))
+      inl (subst (λ (q : Pair). Memᴰ q (pairs_of c.flow_sources c.flow_targets)) (λ j. (r.2 j, r.3 j)) (pair-at c.flow_sources c.flow_targets flows-even r.0 r.1))
   link-of a b (inr r) =
-      inr (subst (λ (q : Pair). Memᴰ q (pairsOf c.upperSources c.upperTargets)) (λ j. (r.2 j, r.3 j)) (pair-at c.upperSources c.upperTargets uppers-even r.0 r.1))
+      inr (subst (λ (q : Pair). Memᴰ q (pairs_of c.upper_sources c.upper_targets)) (λ j. (r.2 j, r.3 j)) (pair-at c.upper_sources c.upper_targets uppers-even r.0 r.1))
 
-  pub chain-of : {a b : ℕ} → RowChain c a b → chains.Chain (plainProblem c) a b
+  pub chain-of : {a b : ℕ} → RowChain c a b → chains.Chain (plain_problem c) a b
   chain-of (last {a = a} {b = b} k) = chains.last (link-of a b k)
   chain-of (on {a = a} {b = b} k r) = chains.on (link-of a b k) (chain-of r)
 
@@ -62,31 +62,31 @@ module _ (names n : ℕ) where
   range-behind [] ys h = h
   range-behind (x ∷ xs) ys h = range-behind xs ys h.1
 
-  range_front : (xs ys : List ProblemRow) → AllInRange names n (xs ++ ys) → AllInRange names n xs
-  range_front [] ys h = tt
-  range_front (x ∷ xs) ys h = (h.0, range_front xs ys h.1)
+  range-front : (xs ys : List ProblemRow) → AllInRange names n (xs ++ ys) → AllInRange names n xs
+  range-front [] ys h = tt
+  range-front (x ∷ xs) ys h = (h.0, range-front xs ys h.1)
 
-  words-legal : (cs ks ws : List ℕ) → AllInRange names n (boundRows cs ks ws) → length cs ≡ length ks → length cs ≡ length ws → (i : ℕ) → i < length cs → legalWord names (get_or ws i 0) ≡ true
-  unfolding boundRows
+  words-legal : (cs ks ws : List ℕ) → AllInRange names n (bound_rows cs ks ws) → length cs ≡ length ks → length cs ≡ length ws → (i : ℕ) → i < length cs → legal_word names (get_or ws i 0) ≡ true
+  unfolding bound_rows
   words-legal [] ks ws a e f i h = absurd (omega arith)
   words-legal (c ∷ cs) [] ws a e f i h = absurd (omega arith)
   words-legal (c ∷ cs) (k ∷ ks) [] a e f i h = absurd (omega arith)
   words-legal (c ∷ cs) (k ∷ ks) (w ∷ ws) a e f zero h = a.0.2
   words-legal (c ∷ cs) (k ∷ ks) (w ∷ ws) a e f (suc i) h = words-legal cs ks ws a.1 (omega arith) (omega arith) i (omega arith)
 
-  pub rows-legal : (c : Columns) → AllInRange names n (laterRows c) → length c.boundComponents ≡ length c.boundKinds → length c.boundComponents ≡ length c.boundWords
-      → (i : ℕ) → i < length c.boundComponents → legalWord names (get_or c.boundWords i 0) ≡ true
-  unfolding laterRows
+  pub rows-legal : (c : Columns) → AllInRange names n (later_rows c) → length c.bound_components ≡ length c.bound_kinds → length c.bound_components ≡ length c.bound_words
+      → (i : ℕ) → i < length c.bound_components → legal_word names (get_or c.bound_words i 0) ≡ true
+  unfolding later_rows
   rows-legal c a =
-      words-legal c.boundComponents c.boundKinds c.boundWords
-      (range_front (boundRows c.boundComponents c.boundKinds c.boundWords) _ (range-behind (variableRows c.variables) _ a))
+      words-legal c.bound_components c.bound_kinds c.bound_words
+      (range-front (bound_rows c.bound_components c.bound_kinds c.bound_words) _ (range-behind (variable_rows c.variables) _ a))
 
 -- ---- entries by their numbers
 
-pub map_at : {A : Type 0} (f : A → ℕ) (d : A) (l : List A) (i : ℕ) → i < length l → get_or (map f l) i 0 ≡ f (get_or l i d)
-map_at f d [] i h = absurd (omega arith)
-map_at f d (x ∷ l) zero h = refl
-map_at f d (x ∷ l) (suc i) h = map_at f d l i (omega arith)
+pub map-at : {A : Type 0} (f : A → ℕ) (d : A) (l : List A) (i : ℕ) → i < length l → get_or (map f l) i 0 ≡ f (get_or l i d)
+map-at f d [] i h = absurd (omega arith)
+map-at f d (x ∷ l) zero h = refl
+map-at f d (x ∷ l) (suc i) h = map-at f d l i (omega arith)
 
 -- where a bound stands
 pub member-at : (b : Bound) (t : List Bound) → Memᴰ b t → (j : ℕ) × (j < length t) × ((f : Bound → ℕ) → get_or (map f t) j 0 ≡ f b)

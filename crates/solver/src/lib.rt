@@ -1,10 +1,10 @@
 // A solve over tables: the given bounds are loaded, and the run leaves the final table where they were loaded to.
 ghost use Rattle.std.specs.Prelude.{◌≡◌, map};
-ghost use Rattle.lattice.specs.World.{worldOf};
+ghost use Rattle.lattice.specs.World.{world_of};
 ghost use Rattle.solving.specs.Solving.{propagate};
-ghost use Rattle.solving.specs.TableKeys.{boundOf};
-ghost use Rattle.rules.specs.Rules.{linksIn};
-ghost use Rattle.solver.specs.Solver.{Solvable, Scratch, Solved, countsOf};
+ghost use Rattle.solving.specs.TableKeys.{bound_of};
+ghost use Rattle.rules.specs.Rules.{links_in};
+ghost use Rattle.solver.specs.Solver.{Solvable, Scratch, Solved, counts_of};
 
 use propagating::{Ran, propagate};
 use running::load;
@@ -13,7 +13,7 @@ use tables::Tables;
 
 // What is handed back of a run.
 fn counts_of(r: Ran) -> Counts
-    ensures { result ≡ countsOf r }
+    ensures { result ≡ counts_of r }
 {
     let s = r.state;
     let refusal = s.refusal;
@@ -49,7 +49,7 @@ fn solve_over(
     components: u64,
 ) -> Counts
     requires { Solvable pairs.now marks.now t given.now a.old flows.now incoming.now reads.now writes.now components × Scratch ring.old words.old fallbacks.old uppers.old }
-    ensures { Solved (propagate (worldOf pairs.now marks.now t) (linksIn flows.now incoming.now reads.now writes.now) components (map boundOf given.now)) a.new result }
+    ensures { Solved (propagate (world_of pairs.now marks.now t) (links_in flows.now incoming.now reads.now writes.now) components (map bound_of given.now)) a.new result }
 {
     load(given, a);
     let count = given.len();
@@ -74,7 +74,7 @@ pub fn solve(
     components: u64,
 ) -> Counts
     requires { Solvable pairs.now marks.now t given.now a.old flows.now incoming.now reads.now writes.now components }
-    ensures { Solved (propagate (worldOf pairs.now marks.now t) (linksIn flows.now incoming.now reads.now writes.now) components (map boundOf given.now)) a.new result }
+    ensures { Solved (propagate (world_of pairs.now marks.now t) (links_in flows.now incoming.now reads.now writes.now) components (map bound_of given.now)) a.new result }
 {
     let mut ring = [0u64; 512];
     let mut words = [0u64; 4096];

@@ -1,9 +1,9 @@
 // The solve of a problem's columns over a class table that was built: the problem's rows into local arrays, their refusal or the lack of
 // java/lang/Object, and the solve of what the arrays keep. Only the solve writes answers and columns, and only where it is not refused.
-ghost use Rattle.lattice.specs.World.{worldOf};
+ghost use Rattle.lattice.specs.World.{world_of};
 ghost use Rattle.solving.specs.Solving.{solve};
 ghost use Rattle.solves.specs.SolveResult.{SolvesBy};
-ghost use Rattle.solverows.specs.SolveRows.{AskedRows, AskedFront, frontBy, SolvesRowsBy};
+ghost use Rattle.solverows.specs.SolveRows.{AskedRows, AskedFront, front_by, SolvesRowsBy};
 
 use problemcolumns::{ProblemCounts, build_problem};
 use solvechecks::{refuse, rows_refusal};
@@ -31,7 +31,7 @@ fn solve_kept(
     work: &mut [u64],
 ) -> Counts
     requires { AskedFront marks t components var_comp n bounds flows uppers reads writes answers out_comp out_kind out_type work }
-    ensures { SolvesBy (solve (worldOf pairs.now marks.now t) (frontBy components var_comp n bounds flows uppers reads writes)) answers out_comp out_kind out_type work result }
+    ensures { SolvesBy (solve (world_of pairs.now marks.now t) (front_by components var_comp n bounds flows uppers reads writes)) answers out_comp out_kind out_type work result }
 {
     let b = n.bounds;
     let f = n.flows;
@@ -82,7 +82,7 @@ pub fn solve_rows(
     work: &mut [u64],
 ) -> Counts
     requires { AskedRows marks t components var_comp bnd_comp bnd_kind bnd_type flow_src flow_dst up_src up_dst read_arr read_res write_arr write_val answers out_comp out_kind out_type work }
-    ensures { SolvesRowsBy (worldOf pairs.now marks.now t) t components var_comp bnd_comp bnd_kind bnd_type flow_src flow_dst up_src up_dst read_arr read_res write_arr write_val answers out_comp out_kind out_type work result }
+    ensures { SolvesRowsBy (world_of pairs.now marks.now t) t components var_comp bnd_comp bnd_kind bnd_type flow_src flow_dst up_src up_dst read_arr read_res write_arr write_val answers out_comp out_kind out_type work result }
 {
     let mut bounds = [0u64; 4096];
     let mut flows = [0u64; 2048];

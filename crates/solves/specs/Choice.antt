@@ -5,11 +5,11 @@ use Rattle.std.proofs.Math.Decide.{ℕ_discrete}
 use Rattle.sets.specs.Sets.{MembersBelow, member, insert}
 use Rattle.sets.specs.Laws.{member-empty, member-cong, at-insert-other}
 use Rattle.tables.specs.declared.Tables.{Tables}
-use Rattle.tables.specs.Table.{pairsRoom, view_of}
+use Rattle.tables.specs.Table.{pairs_room, view_of}
 use Rattle.view.specs.View.{View}
 use Rattle.lattice.specs.Lattice.{World}
-use Rattle.lattice.specs.World.{present, worldWith, worldOf}
-use Rattle.prepared.specs.Prepared.{tableRoom, Laid, plain-prepared, laid-view, laid-prepared}
+use Rattle.lattice.specs.World.{present, world_with, world_of}
+use Rattle.prepared.specs.Prepared.{table_room, Laid, plain-prepared, laid-view, laid-prepared}
 use Rattle.resolving.specs.Bounds.{Classes, Classed}
 use Rattle.solving.specs.declared.Counts.{Counts}
 use Rattle.solving.specs.Solving.{Problem, solve}
@@ -28,21 +28,21 @@ inside-more n k s s' i h e c m = go (ℕ_discrete c k)
 
 -- rows are made only of a slice that has all its keys, and always of one as long as a table with rows
 abbrev pub Decides : ℕ → ℕ → Bool → Type 0
-Decides len pairs true = (pairs ≤ pairsRoom) × (pairs ≤ len)
-Decides len pairs false = len ≡ tableRoom → pairs ≤ pairsRoom → ⊥
+Decides len pairs true = (pairs ≤ pairs_room) × (pairs ≤ len)
+Decides len pairs false = len ≡ table_room → pairs ≤ pairs_room → ⊥
 
 -- what is not prepared may be asked as it is
 pub classed-plain : (pairs marks : List ℕ) (t : Tables) → Classes marks t → Decides (length pairs) t.pairs false → Classed pairs marks t
 classed-plain pairs marks t c d = (plain-prepared pairs marks t c.0 d, c.1)
 
-module _ (pairs marks : List ℕ) (t : Tables) (s table : List ℕ) (classes : Classes marks t) (few : t.pairs ≤ pairsRoom) (there : t.pairs ≤ length pairs)
+module _ (pairs marks : List ℕ) (t : Tables) (s table : List ℕ) (classes : Classes marks t) (few : t.pairs ≤ pairs_room) (there : t.pairs ≤ length pairs)
     (p : Laid (view_of pairs marks t) s t.pairs pairs table) where
   pub classed-laid : Classed table marks t
   classed-laid = (laid-prepared pairs marks t s table p few there classes.0, classes.1)
 
   -- and gives the same world
-  pub laid-world : worldOf table marks t ≡ worldOf pairs marks t
-  laid-world = ap (λ (v : View). worldWith v (present t.cloneable) (present t.serializable)) (laid-view pairs marks t s table p few there)
+  pub laid-world : world_of table marks t ≡ world_of pairs marks t
+  laid-world = ap (λ (v : View). world_with v (present t.cloneable) (present t.serializable)) (laid-view pairs marks t s table p few there)
 
 -- a solve over the same world leaves the same
 pub leaves-along : {before after : Lent} {r : Counts} (w w' : World) → w ≡ w' → (p : Problem) → Leaves (solve w p) before after r → Leaves (solve w' p) before after r

@@ -5,7 +5,7 @@ use Rattle.rows.specs.Rows.{filled}
 use Rattle.solving.specs.declared.Counts.{Counts}
 use Rattle.solving.specs.Solving.{Bound, room, Solution, Unsolved, Solved}
 use Rattle.solver.specs.Solver.{counted}
-use Rattle.answering.specs.Answering.{answerWord}
+use Rattle.answering.specs.Answering.{answer_word}
 use Rattle.lending.specs.Lending.{SliceIn, Slice, came, became}
 
 -- the slices: a word a variable; the final bounds in three columns; the work
@@ -20,14 +20,14 @@ abbrev pub lent : List ℕ → List ℕ → List ℕ → List ℕ → List ℕ �
 lent answers components kinds types work = record { answers = answers; components = components; kinds = kinds; types = types; work = work }
 
 -- the slices that a function is lent, as `requires` has them; as they came; and as they are left
-abbrev pub lentAsked : (answers components kinds types work : SliceIn) → Lent
-lentAsked answers components kinds types work = lent answers.now components.now kinds.now types.now work.now
+abbrev pub lent_asked : (answers components kinds types work : SliceIn) → Lent
+lent_asked answers components kinds types work = lent answers.now components.now kinds.now types.now work.now
 
 abbrev pub lent_by : (answers components kinds types work : Slice) → Lent
 lent_by answers components kinds types work = lent (came answers) (came components) (came kinds) (came types) (came work)
 
-abbrev pub leftBy : (answers components kinds types work : Slice) → Lent
-leftBy answers components kinds types work = lent (became answers) (became components) (became kinds) (became types) (became work)
+abbrev pub left_by : (answers components kinds types work : Slice) → Lent
+left_by answers components kinds types work = lent (became answers) (became components) (became kinds) (became types) (became work)
 
 -- how long they must be for so many variables
 pub record Roomy (variables : ℕ) (l : Lent) : Type 0 where
@@ -40,39 +40,39 @@ pub record Roomy (variables : ℕ) (l : Lent) : Type 0 where
 -- ---- the result
 
 -- a refused solve is its number and zeros
-unfoldable pub countsOf : Solution → Counts
-countsOf (Unsolved k) = counted k 0 0
-countsOf (Solved table turns answers) = counted 0 (length table) turns
+unfoldable pub counts_of : Solution → Counts
+counts_of (Unsolved k) = counted k 0 0
+counts_of (Solved table turns answers) = counted 0 (length table) turns
 
 -- ---- the slices afterwards: a refused solve leaves them as they came, another fills the front and leaves the rest
 
-unfoldable pub answersAfter : Solution → List ℕ → List ℕ
-answersAfter (Unsolved k) slice = slice
-answersAfter (Solved table turns answers) slice = filled (map answerWord answers) slice
+unfoldable pub answers_after : Solution → List ℕ → List ℕ
+answers_after (Unsolved k) slice = slice
+answers_after (Solved table turns answers) slice = filled (map answer_word answers) slice
 
 -- one number of each final bound, in the table's order
-abbrev pub columnAfter : (Bound → ℕ) → Solution → List ℕ → List ℕ
-columnAfter part (Unsolved k) slice = slice
-columnAfter part (Solved table turns answers) slice = filled (map part table) slice
+abbrev pub column_after : (Bound → ℕ) → Solution → List ℕ → List ℕ
+column_after part (Unsolved k) slice = slice
+column_after part (Solved table turns answers) slice = filled (map part table) slice
 
-unfoldable pub componentsAfter : Solution → List ℕ → List ℕ
-componentsAfter = columnAfter (λ b. b.component)
+unfoldable pub components_after : Solution → List ℕ → List ℕ
+components_after = column_after (λ b. b.component)
 
-unfoldable pub kindsAfter : Solution → List ℕ → List ℕ
-kindsAfter = columnAfter (λ b. b.kind)
+unfoldable pub kinds_after : Solution → List ℕ → List ℕ
+kinds_after = column_after (λ b. b.kind)
 
-unfoldable pub typesAfter : Solution → List ℕ → List ℕ
-typesAfter = columnAfter (λ b. word_of b.type)
+unfoldable pub types_after : Solution → List ℕ → List ℕ
+types_after = column_after (λ b. word_of b.type)
 
 -- WHAT A SOLVE LEAVES: whatever it came to, all of the work is zero
 pub record Solves (s : Solution) (before after : Lent) (r : Counts) : Type 0 where
-  pub counts : r ≡ countsOf s
-  pub answers : after.answers ≡ answersAfter s before.answers
-  pub components : after.components ≡ componentsAfter s before.components
-  pub kinds : after.kinds ≡ kindsAfter s before.kinds
-  pub types : after.types ≡ typesAfter s before.types
+  pub counts : r ≡ counts_of s
+  pub answers : after.answers ≡ answers_after s before.answers
+  pub components : after.components ≡ components_after s before.components
+  pub kinds : after.kinds ≡ kinds_after s before.kinds
+  pub types : after.types ≡ types_after s before.types
   pub work : after.work ≡ replicate (length before.work) 0
 
 -- of the slices that a function is lent
 abbrev pub SolvesBy : Solution → (answers components kinds types work : Slice) → Counts → Type 0
-SolvesBy s answers components kinds types work = Solves s (lent_by answers components kinds types work) (leftBy answers components kinds types work)
+SolvesBy s answers components kinds types work = Solves s (lent_by answers components kinds types work) (left_by answers components kinds types work)

@@ -2,16 +2,16 @@
 // the answers and the final bounds at the front of the lent slices. The whole work is zero afterwards.
 ghost use Rattle.std.specs.Prelude.{◌≡◌, ◌≤◌, length};
 ghost use Rattle.std.proofs.Math.Seq.{paste};
-ghost use Rattle.lattice.specs.World.{worldOf};
+ghost use Rattle.lattice.specs.World.{world_of};
 ghost use Rattle.solving.specs.Queue.{Below};
 ghost use Rattle.solving.specs.Solving.{room, solve};
 ghost use Rattle.problems.specs.Kept.{Keeps};
 ghost use Rattle.resolving.specs.Bounds.{Classes, Classed};
-ghost use Rattle.answering.specs.Answering.{tableIn, Final, answerWords};
+ghost use Rattle.answering.specs.Answering.{table_in, Final, answer_words};
 ghost use Rattle.solver.specs.Solver.{Solved};
 ghost use Rattle.columnsout.specs.Columns.{WrittenBy};
-ghost use Rattle.solves.specs.SolveResult.{Roomy, lentAsked, SolvesBy};
-ghost use Rattle.solves.specs.Laws.{run_of, LeavesBy, keptBy, Answerable, Preparable};
+ghost use Rattle.solves.specs.SolveResult.{Roomy, lent_asked, SolvesBy};
+ghost use Rattle.solves.specs.Laws.{run_of, LeavesBy, kept_by, Answerable, Preparable};
 ghost use Rattle.solves.specs.Choice.{Decides};
 ghost use Rattle.sets.specs.Sets.{MembersBelow};
 
@@ -45,7 +45,7 @@ fn run_linked(
     a: &mut [u64],
 ) -> Counts
     requires { Classed pairs.now marks.now t × Keeps t.names components variables.now bounds.now flows.now uppers.now reads.now writes.now × (length incoming.old ≡ 3072) × (length a.old ≡ room) }
-    ensures { Solved (run_of (worldOf pairs.now marks.now t) (keptBy components variables bounds flows uppers reads writes)) a.new result }
+    ensures { Solved (run_of (world_of pairs.now marks.now t) (kept_by components variables bounds flows uppers reads writes)) a.new result }
 {
     let n = incoming_links(flows, uppers, incoming);
     solve(
@@ -77,7 +77,7 @@ fn run_problem(
     a: &mut [u64],
 ) -> Counts
     requires { Classed pairs.now marks.now t × Keeps t.names components variables.now bounds.now flows.now uppers.now reads.now writes.now × (length a.old ≡ room) }
-    ensures { Solved (run_of (worldOf pairs.now marks.now t) (keptBy components variables bounds flows uppers reads writes)) a.new result }
+    ensures { Solved (run_of (world_of pairs.now marks.now t) (kept_by components variables bounds flows uppers reads writes)) a.new result }
 {
     let mut incoming = [0u64; 3072];
     run_linked(
@@ -109,7 +109,7 @@ fn write_solution(
     out_type: &mut [u64],
 )
     requires { Classed pairs.now marks.now t × Final t.names keys.now × Below 512 variables.now × (length keys.now ≤ room) × (length variables.now ≤ length into.old) × (room ≤ length out_comp.old) × (room ≤ length out_kind.old) × (room ≤ length out_type.old) }
-    ensures { (into.new ≡ paste into.old 0 (answerWords (worldOf pairs.now marks.now t) (tableIn keys.now) variables.now) (length variables.now)) × WrittenBy keys out_comp out_kind out_type }
+    ensures { (into.new ≡ paste into.old 0 (answer_words (world_of pairs.now marks.now t) (table_in keys.now) variables.now) (length variables.now)) × WrittenBy keys out_comp out_kind out_type }
 {
     let mut copies = [0u64; 4096];
     answers(pairs, marks, t, keys, variables, &mut copies, into);
@@ -135,7 +135,7 @@ fn solve_into(
     a: &mut [u64],
 ) -> Counts
     requires { Answerable (Classed pairs.now marks.now t) (Keeps t.names components variables.now bounds.now flows.now uppers.now reads.now writes.now) variables.now into.old out_comp.old out_kind.old out_type.old a.old }
-    ensures { LeavesBy (solve (worldOf pairs.now marks.now t) (keptBy components variables bounds flows uppers reads writes)) into out_comp out_kind out_type a result }
+    ensures { LeavesBy (solve (world_of pairs.now marks.now t) (kept_by components variables bounds flows uppers reads writes)) into out_comp out_kind out_type a result }
 {
     let c = run_problem(
         pairs, marks, t, components, variables, bounds, flows, uppers, reads, writes, a,
@@ -207,7 +207,7 @@ fn solve_prepared(
     a: &mut [u64],
 ) -> Counts
     requires { Preparable t pairs.now marks.now (Keeps t.names components variables.now bounds.now flows.now uppers.now reads.now writes.now) variables.now into.old out_comp.old out_kind.old out_type.old a.old }
-    ensures { LeavesBy (solve (worldOf pairs.now marks.now t) (keptBy components variables bounds flows uppers reads writes)) into out_comp out_kind out_type a result }
+    ensures { LeavesBy (solve (world_of pairs.now marks.now t) (kept_by components variables bounds flows uppers reads writes)) into out_comp out_kind out_type a result }
 {
     let mut table = [0u64; TABLE];
     let given = given_classes(t.names, bounds);
@@ -256,7 +256,7 @@ fn solve_either(
     a: &mut [u64],
 ) -> Counts
     requires { Answerable (Classes marks.now t) (Keeps t.names components variables.now bounds.now flows.now uppers.now reads.now writes.now) variables.now into.old out_comp.old out_kind.old out_type.old a.old }
-    ensures { LeavesBy (solve (worldOf pairs.now marks.now t) (keptBy components variables bounds flows uppers reads writes)) into out_comp out_kind out_type a result }
+    ensures { LeavesBy (solve (world_of pairs.now marks.now t) (kept_by components variables bounds flows uppers reads writes)) into out_comp out_kind out_type a result }
 {
     if is_prepared(pairs.len(), t.pairs, bounds.len()) {
         return solve_prepared(
@@ -288,8 +288,8 @@ pub fn solve_problem(
     out_type: &mut [u64],
     work: &mut [u64],
 ) -> Counts
-    requires { Classes marks.now t × Keeps t.names components variables.now bounds.now flows.now uppers.now reads.now writes.now × Roomy (length variables.now) (lentAsked answers out_comp out_kind out_type work) }
-    ensures { SolvesBy (solve (worldOf pairs.now marks.now t) (keptBy components variables bounds flows uppers reads writes)) answers out_comp out_kind out_type work result }
+    requires { Classes marks.now t × Keeps t.names components variables.now bounds.now flows.now uppers.now reads.now writes.now × Roomy (length variables.now) (lent_asked answers out_comp out_kind out_type work) }
+    ensures { SolvesBy (solve (world_of pairs.now marks.now t) (kept_by components variables bounds flows uppers reads writes)) answers out_comp out_kind out_type work result }
 {
     let c = solve_either(
         pairs,

@@ -20,7 +20,7 @@ use Rattle.solving.specs.OrderedLaws.{insert-keeps, present-exactly}
 use Rattle.solving.specs.Orders.{bounds-total}
 use Rattle.solving.specs.Inserts.{enqueue-keeps, enqueue-has, all-keeps, turn-inserts, run-keeps}
 use Rattle.solving.specs.Runs.{propagate-empties}
-use Rattle.solving.specs.Solving.{Bound, Table, compareBounds, types_of, TypeState, state_of, Links, Addition, Going, room, enqueue, additions, turn, Ended, propagate, allPresent, settled, allSettled, closed}
+use Rattle.solving.specs.Solving.{Bound, Table, compare_bounds, types_of, TypeState, state_of, Links, Addition, Going, room, enqueue, additions, turn, Ended, propagate, all_present, settled, all_settled, closed}
 
 -- all that the rules give from a component's state is there
 abbrev pub Settled : World → Links → Table → ℕ → Type 0
@@ -42,18 +42,18 @@ module _ (c k : ℕ) (b : Bound) (apart : b.component ≡ c → ⊥) where
   unfolding types_of
   types-past t = ap (λ (e : Bool). cond e (cond (eqb b.kind k) (b.type ∷ types_of c k t) (types_of c k t)) (types_of c k t)) (ne_eqb b.component c apart)
 
-  types-insert : (t : Table) → types_of c k (insert compareBounds b t) ≡ types_of c k t
+  types-insert : (t : Table) → types_of c k (insert compare_bounds b t) ≡ types_of c k t
   unfolding insert
   types-insert [] = types-past []
-  types-insert (x ∷ xs) = go (compareBounds b x) (types-insert xs)
+  types-insert (x ∷ xs) = go (compare_bounds b x) (types-insert xs)
     where
-      go : (o : Order) → types_of c k (insert compareBounds b xs) ≡ types_of c k xs
-          → types_of c k (by_order o (b ∷ x ∷ xs) (x ∷ xs) (x ∷ insert compareBounds b xs)) ≡ types_of c k (x ∷ xs)
+      go : (o : Order) → types_of c k (insert compare_bounds b xs) ≡ types_of c k xs
+          → types_of c k (by_order o (b ∷ x ∷ xs) (x ∷ xs) (x ∷ insert compare_bounds b xs)) ≡ types_of c k (x ∷ xs)
       go Less ih = types-past (x ∷ xs)
       go Equal ih = refl
-      go Greater ih = types-behind c k x (insert compareBounds b xs) xs ih
+      go Greater ih = types-behind c k x (insert compare_bounds b xs) xs ih
 
-pub state-insert : (c : ℕ) (b : Bound) (t : Table) → (b.component ≡ c → ⊥) → state_of (insert compareBounds b t) c ≡ state_of t c
+pub state-insert : (c : ℕ) (b : Bound) (t : Table) → (b.component ≡ c → ⊥) → state_of (insert compare_bounds b t) c ≡ state_of t c
 unfolding state_of
 state-insert c b t apart i = record {
   exact = types-insert c 4 b apart t i;
@@ -70,15 +70,15 @@ module _ (w : World) (l : Links) where
   abbrev Since : Table → List ℕ → Table → List ℕ → Type 0
   Since t q t' q' = ((c : ℕ) → Memᴰ c q' ⊎ (state_of t' c ≡ state_of t c)) × ((c : ℕ) → Memᴰ c q → Memᴰ c q') × ((b : Bound) → Memᴰ b t → Memᴰ b t')
 
-  since-step : (t : Table) (q : List ℕ) (b : Bound) (u : Table) (r : List ℕ) → Since t q u r → Since t q (insert compareBounds b u) (enqueue b.component r)
+  since-step : (t : Table) (q : List ℕ) (b : Bound) (u : Table) (r : List ℕ) → Since t q u r → Since t q (insert compare_bounds b u) (enqueue b.component r)
   since-step t q b u r s = (
     λ c. ⊎_elim (λ m. inl (enqueue-keeps b.component c r m)) (λ e. own c e (ℕ_discrete b.component c)) (s.0 c),
     λ c m. enqueue-keeps b.component c r (s.1 c m),
-    λ z m. insert-keeps compareBounds b z u (s.2 z m),
+    λ z m. insert-keeps compare_bounds b z u (s.2 z m),
   )
     where
       own : (c : ℕ) → state_of u c ≡ state_of t c → Dec (b.component ≡ c)
-          → Memᴰ c (enqueue b.component r) ⊎ (state_of (insert compareBounds b u) c ≡ state_of t c)
+          → Memᴰ c (enqueue b.component r) ⊎ (state_of (insert compare_bounds b u) c ≡ state_of t c)
       own c e (yes f) = inl (subst (λ (x : ℕ). Memᴰ x (enqueue b.component r)) f (enqueue-has b.component r))
       own c e (no f) = inr (state-insert c b u f ∙ e)
 
@@ -123,17 +123,17 @@ module _ (w : World) (l : Links) where
 
   -- ---- THE TEST TELLS IT
 
-  all-present : (t : Table) (adds : List Addition) → (allPresent adds t ≡ true) ↔ ((a : Addition) → Memᴰ a adds → Memᴰ a.adds t)
-  unfolding allPresent
+  all-present : (t : Table) (adds : List Addition) → (all_present adds t ≡ true) ↔ ((a : Addition) → Memᴰ a adds → Memᴰ a.adds t)
+  unfolding all_present
   all-present t [] = (λ h a m. absurd (Memᴰ.not-nil m), λ f. refl)
   all-present t (x ∷ rest) = (
-    λ h a m. each (present compareBounds x.adds t) refl h (all-present t rest).0 a (Memᴰ.cases_cons m),
-    λ f. rw ((present-exactly compareBounds bounds-total x.adds t).1 (f x (Memᴰ.head refl)), (all-present t rest).1 (λ a m. f a (Memᴰ.tail m))),
+    λ h a m. each (present compare_bounds x.adds t) refl h (all-present t rest).0 a (Memᴰ.cases_cons m),
+    λ f. rw ((present-exactly compare_bounds bounds-total x.adds t).1 (f x (Memᴰ.head refl)), (all-present t rest).1 (λ a m. f a (Memᴰ.tail m))),
   )
     where
-      each : (b : Bool) → present compareBounds x.adds t ≡ b → cond b (allPresent rest t) false ≡ true
-          → (allPresent rest t ≡ true → (a : Addition) → Memᴰ a rest → Memᴰ a.adds t) → (a : Addition) → (a ≡ x) ⊎ Memᴰ a rest → Memᴰ a.adds t
-      each true e h ih a (inl q) = subst (λ (y : Addition). Memᴰ y.adds t) (sym q) ((present-exactly compareBounds bounds-total x.adds t).0 e)
+      each : (b : Bool) → present compare_bounds x.adds t ≡ b → cond b (all_present rest t) false ≡ true
+          → (all_present rest t ≡ true → (a : Addition) → Memᴰ a rest → Memᴰ a.adds t) → (a : Addition) → (a ≡ x) ⊎ Memᴰ a rest → Memᴰ a.adds t
+      each true e h ih a (inl q) = subst (λ (y : Addition). Memᴰ y.adds t) (sym q) ((present-exactly compare_bounds bounds-total x.adds t).0 e)
       each true e h ih a (inr m) = ih h a m
       each false e h ih a m = absurd (false≢true h)
 
@@ -141,16 +141,16 @@ module _ (w : World) (l : Links) where
   unfolding settled
   settled-exactly t c = all-present t (additions w l c (state_of t c))
 
-  each-settled : (t : Table) (i n : ℕ) → (allSettled w l t (numbers i n) ≡ true) ↔ ((c : ℕ) → i ≤ c → c < i + n → Settled w l t c)
-  unfolding allSettled numbers
+  each-settled : (t : Table) (i n : ℕ) → (all_settled w l t (numbers i n) ≡ true) ↔ ((c : ℕ) → i ≤ c → c < i + n → Settled w l t c)
+  unfolding all_settled numbers
   each-settled t i zero = (λ h c k m. absurd (omega arith), λ f. refl)
   each-settled t i (suc n) = (
     λ h c k m. part (settled w l t i) refl h (each-settled t (suc i) n).0 c k m (ℕ_discrete i c),
     λ f. rw ((settled-exactly t i).1 (f i (omega arith) (omega arith)), (each-settled t (suc i) n).1 (λ c k m. f c (omega arith) (omega arith))),
   )
     where
-      part : (b : Bool) → settled w l t i ≡ b → cond b (allSettled w l t (numbers (suc i) n)) false ≡ true
-          → (allSettled w l t (numbers (suc i) n) ≡ true → (c : ℕ) → suc i ≤ c → c < suc i + n → Settled w l t c)
+      part : (b : Bool) → settled w l t i ≡ b → cond b (all_settled w l t (numbers (suc i) n)) false ≡ true
+          → (all_settled w l t (numbers (suc i) n) ≡ true → (c : ℕ) → suc i ≤ c → c < suc i + n → Settled w l t c)
           → (c : ℕ) → i ≤ c → c < i + suc n → Dec (i ≡ c) → Settled w l t c
       part true e h ih c k m (yes q) = subst (λ (x : ℕ). Settled w l t x) q ((settled-exactly t i).0 e)
       part true e h ih c k m (no q) = ih h c (omega arith) (omega arith)

@@ -16,7 +16,7 @@ use Rattle.lattice.specs.Lattice.{World}
 use Rattle.solving.specs.Ordered.{present, insert}
 use Rattle.solving.specs.OrderedLaws.{insert-has, insert-keeps, present-exactly}
 use Rattle.solving.specs.Orders.{bounds-total}
-use Rattle.solving.specs.Solving.{Bound, Table, compareBounds, Links, Addition, Outcome, Refused, Going, room, enqueue, insertBound, insertAll, turn, Stopped, Ended, run}
+use Rattle.solving.specs.Solving.{Bound, Table, compare_bounds, Links, Addition, Outcome, Refused, Going, room, enqueue, insert_bound, insert_all, turn, Stopped, Ended, run}
 
 -- ---- outcomes apart
 
@@ -71,55 +71,55 @@ enqueue-length c q = go (elem c q)
 -- a new bound in a table with room
 pub record New (b : Bound) (table : Table) : Type 0 where
   pub flat : depth b.type ≤ 255
-  pub absent : present compareBounds b table ≡ false
+  pub absent : present compare_bounds b table ≡ false
   pub fits : length table < room
 
 -- EACH CASE, EXACTLY: 20 for an array of 256 dimensions or more, whatever else holds; nothing for a bound that is there, even in a full
 -- table; 21 for a new one in a full table
 module _ (b : Bound) (t : Table) (q : List ℕ) where
-  pub insert-deep : 255 < depth b.type → insertBound b t q ≡ Refused 20
-  unfolding insertBound
+  pub insert-deep : 255 < depth b.type → insert_bound b t q ≡ Refused 20
+  unfolding insert_bound
   insert-deep h = rw (lt-ltb 255 (depth b.type) h)
 
-  pub insert-old : depth b.type ≤ 255 → Memᴰ b t → insertBound b t q ≡ Going t q
-  unfolding insertBound
-  insert-old h m = rw (le-ltb 255 (depth b.type) h, (present-exactly compareBounds bounds-total b t).1 m)
+  pub insert-old : depth b.type ≤ 255 → Memᴰ b t → insert_bound b t q ≡ Going t q
+  unfolding insert_bound
+  insert-old h m = rw (le-ltb 255 (depth b.type) h, (present-exactly compare_bounds bounds-total b t).1 m)
 
-  pub insert-full : depth b.type ≤ 255 → present compareBounds b t ≡ false → room ≤ length t → insertBound b t q ≡ Refused 21
-  unfolding insertBound
+  pub insert-full : depth b.type ≤ 255 → present compare_bounds b t ≡ false → room ≤ length t → insert_bound b t q ≡ Refused 21
+  unfolding insert_bound
   insert-full h p k = rw (le-ltb 255 (depth b.type) h, p, le-leb room (length t) k)
 
-  pub insert-new : New b t → insertBound b t q ≡ Going (insert compareBounds b t) (enqueue b.component q)
-  unfolding insertBound
+  pub insert-new : New b t → insert_bound b t q ≡ Going (insert compare_bounds b t) (enqueue b.component q)
+  unfolding insert_bound
   insert-new n = rw (le-ltb 255 (depth b.type) n.flat, n.absent, lt-leb room (length t) n.fits)
 
   -- no other refusal
-  pub insert-refused : (k : ℕ) → insertBound b t q ≡ Refused k → (k ≡ 20) ⊎ (k ≡ 21)
-  unfolding insertBound
-  insert-refused k = go (ltb 255 (depth b.type)) (present compareBounds b t) (leb room (length t))
+  pub insert-refused : (k : ℕ) → insert_bound b t q ≡ Refused k → (k ≡ 20) ⊎ (k ≡ 21)
+  unfolding insert_bound
+  insert-refused k = go (ltb 255 (depth b.type)) (present compare_bounds b t) (leb room (length t))
     where
-      go : (d p f : Bool) → cond d (Refused 20) (cond p (Going t q) (cond f (Refused 21) (Going (insert compareBounds b t) (enqueue b.component q)))) ≡ Refused k → (k ≡ 20) ⊎ (k ≡ 21)
+      go : (d p f : Bool) → cond d (Refused 20) (cond p (Going t q) (cond f (Refused 21) (Going (insert compare_bounds b t) (enqueue b.component q)))) ≡ Refused k → (k ≡ 20) ⊎ (k ≡ 21)
       go true p f h = inl (let e : k ≡ 20 = cc in e)
       go false true f h = absurd (refused-going k t q (sym h))
       go false false true h = inr (let e : k ≡ 21 = cc in e)
-      go false false false h = absurd (refused-going k (insert compareBounds b t) (enqueue b.component q) (sym h))
+      go false false false h = absurd (refused-going k (insert compare_bounds b t) (enqueue b.component q) (sym h))
 
 -- WHAT AN INSERTION THAT IS NOT REFUSED DOES: nothing where the bound is there, else it adds it and queues its component
-pub insert-cases : (b : Bound) (t : Table) (q : List ℕ) (t' : Table) (q' : List ℕ) → insertBound b t q ≡ Going t' q'
-    → (Memᴰ b t × (t ≡ t') × (q ≡ q') × (depth b.type ≤ 255)) ⊎ (New b t × (insert compareBounds b t ≡ t') × (enqueue b.component q ≡ q'))
-unfolding insertBound
-insert-cases b t q t' q' h = go (ltb 255 (depth b.type)) refl (present compareBounds b t) refl (leb room (length t)) refl h
+pub insert-cases : (b : Bound) (t : Table) (q : List ℕ) (t' : Table) (q' : List ℕ) → insert_bound b t q ≡ Going t' q'
+    → (Memᴰ b t × (t ≡ t') × (q ≡ q') × (depth b.type ≤ 255)) ⊎ (New b t × (insert compare_bounds b t ≡ t') × (enqueue b.component q ≡ q'))
+unfolding insert_bound
+insert-cases b t q t' q' h = go (ltb 255 (depth b.type)) refl (present compare_bounds b t) refl (leb room (length t)) refl h
   where
-    go : (d : Bool) → ltb 255 (depth b.type) ≡ d → (p : Bool) → present compareBounds b t ≡ p → (f : Bool) → leb room (length t) ≡ f
-        → cond d (Refused 20) (cond p (Going t q) (cond f (Refused 21) (Going (insert compareBounds b t) (enqueue b.component q)))) ≡ Going t' q'
-        → (Memᴰ b t × (t ≡ t') × (q ≡ q') × (depth b.type ≤ 255)) ⊎ (New b t × (insert compareBounds b t ≡ t') × (enqueue b.component q ≡ q'))
+    go : (d : Bool) → ltb 255 (depth b.type) ≡ d → (p : Bool) → present compare_bounds b t ≡ p → (f : Bool) → leb room (length t) ≡ f
+        → cond d (Refused 20) (cond p (Going t q) (cond f (Refused 21) (Going (insert compare_bounds b t) (enqueue b.component q)))) ≡ Going t' q'
+        → (Memᴰ b t × (t ≡ t') × (q ≡ q') × (depth b.type ≤ 255)) ⊎ (New b t × (insert compare_bounds b t ≡ t') × (enqueue b.component q ≡ q'))
     go true d p pe f fe k = absurd (refused-going 20 t' q' k)
     go false d true pe f fe k =
         let e = going-table t t' q q' k in
-        inl ((present-exactly compareBounds bounds-total b t).0 pe, e.0, e.1, ltb-false 255 (depth b.type) d)
+        inl ((present-exactly compare_bounds bounds-total b t).0 pe, e.0, e.1, ltb-false 255 (depth b.type) d)
     go false d false pe true fe k = absurd (refused-going 21 t' q' k)
     go false d false pe false fe k =
-        let e = going-table (insert compareBounds b t) t' (enqueue b.component q) q' k in
+        let e = going-table (insert compare_bounds b t) t' (enqueue b.component q) q' k in
         let x = ltb-false 255 (depth b.type) d in
         let y = leb-false room (length t) fe in
         inr (record { flat = omega arith; absent = pe; fits = omega arith }, e.0, e.1)
@@ -127,53 +127,53 @@ insert-cases b t q t' q' h = go (ltb 255 (depth b.type)) refl (present compareBo
 -- ---- a turn: insertions in a row
 
 -- a refusal stays
-pub all-refused : (adds : List Addition) (k : ℕ) → insertAll adds (Refused k) ≡ Refused k
-unfolding insertAll
+pub all-refused : (adds : List Addition) (k : ℕ) → insert_all adds (Refused k) ≡ Refused k
+unfolding insert_all
 all-refused [] k = refl
 all-refused (a ∷ rest) k = refl
 
 -- WHAT INSERTIONS OF CERTAIN BOUNDS KEEP, A TURN THAT INSERTS SUCH KEEPS
 module _ (Q : Bound → Type 0) (P : Table → List ℕ → Type 0)
-    (step : (b : Bound) (t : Table) (q : List ℕ) → Q b → New b t → P t q → P (insert compareBounds b t) (enqueue b.component q)) where
+    (step : (b : Bound) (t : Table) (q : List ℕ) → Q b → New b t → P t q → P (insert compare_bounds b t) (enqueue b.component q)) where
   pub all-keeps-of : (adds : List Addition) → ((a : Addition) → Memᴰ a adds → Q a.adds)
-      → (t : Table) (q : List ℕ) (t' : Table) (q' : List ℕ) → insertAll adds (Going t q) ≡ Going t' q' → P t q → P t' q'
-  unfolding insertAll
+      → (t : Table) (q : List ℕ) (t' : Table) (q' : List ℕ) → insert_all adds (Going t q) ≡ Going t' q' → P t q → P t' q'
+  unfolding insert_all
   all-keeps-of [] such t q t' q' h p =
       let e = going-table t t' q q' h in
       subst (λ (x : Table). P x q') e.0 (subst (λ (x : List ℕ). P t x) e.1 p)
-  all-keeps-of (a ∷ rest) such t q t' q' h p = go (insertBound a.adds t q) refl h (all-keeps-of rest (λ x m. such x (Memᴰ.tail m)))
+  all-keeps-of (a ∷ rest) such t q t' q' h p = go (insert_bound a.adds t q) refl h (all-keeps-of rest (λ x m. such x (Memᴰ.tail m)))
     where
-      go : (o : Outcome) → insertBound a.adds t q ≡ o → insertAll rest o ≡ Going t' q'
-          → ((u : Table) (r : List ℕ) (u' : Table) (r' : List ℕ) → insertAll rest (Going u r) ≡ Going u' r' → P u r → P u' r') → P t' q'
+      go : (o : Outcome) → insert_bound a.adds t q ≡ o → insert_all rest o ≡ Going t' q'
+          → ((u : Table) (r : List ℕ) (u' : Table) (r' : List ℕ) → insert_all rest (Going u r) ≡ Going u' r' → P u r → P u' r') → P t' q'
       go (Refused k) e f ih = absurd (refused-going k t' q' (sym (all-refused rest k) ∙ f))
       go (Going u r) e f ih =
           ih u r t' q' f
           (⊎_elim (λ c. subst (λ (x : Table). P x r) c.1 (subst (λ (x : List ℕ). P t x) c.2 p))
           (λ c.
           subst (λ (x : Table). P x r) c.1
-          (subst (λ (x : List ℕ). P (insert compareBounds a.adds t) x) c.2 (step a.adds t q (such a (Memᴰ.head refl)) c.0 p)))
+          (subst (λ (x : List ℕ). P (insert compare_bounds a.adds t) x) c.2 (step a.adds t q (such a (Memᴰ.head refl)) c.0 p)))
           (insert-cases a.adds t q u r e))
 
 -- WHAT INSERTIONS KEEP, A TURN KEEPS
 pub all-keeps : (P : Table → List ℕ → Type 0)
-    → ((b : Bound) (t : Table) (q : List ℕ) → New b t → P t q → P (insert compareBounds b t) (enqueue b.component q))
-    → (adds : List Addition) (t : Table) (q : List ℕ) (t' : Table) (q' : List ℕ) → insertAll adds (Going t q) ≡ Going t' q' → P t q → P t' q'
+    → ((b : Bound) (t : Table) (q : List ℕ) → New b t → P t q → P (insert compare_bounds b t) (enqueue b.component q))
+    → (adds : List Addition) (t : Table) (q : List ℕ) (t' : Table) (q' : List ℕ) → insert_all adds (Going t q) ≡ Going t' q' → P t q → P t' q'
 all-keeps P step adds = all-keeps-of (λ b. Unit {0}) P (λ b t q such. step b t q) adds (λ a m. tt)
 
 -- what was there stays there
-pub turn-members : (z : Bound) (adds : List Addition) (t : Table) (q : List ℕ) (t' : Table) (q' : List ℕ) → insertAll adds (Going t q) ≡ Going t' q'
+pub turn-members : (z : Bound) (adds : List Addition) (t : Table) (q : List ℕ) (t' : Table) (q' : List ℕ) → insert_all adds (Going t q) ≡ Going t' q'
     → Memᴰ z t → Memᴰ z t'
-turn-members z = all-keeps (λ t q. Memᴰ z t) (λ b t q n m. insert-keeps compareBounds b z t m)
+turn-members z = all-keeps (λ t q. Memᴰ z t) (λ b t q n m. insert-keeps compare_bounds b z t m)
 
 -- ALL THAT A TURN INSERTS IS THERE AFTER IT
-pub turn-inserts : (adds : List Addition) (t : Table) (q : List ℕ) (t' : Table) (q' : List ℕ) → insertAll adds (Going t q) ≡ Going t' q'
+pub turn-inserts : (adds : List Addition) (t : Table) (q : List ℕ) (t' : Table) (q' : List ℕ) → insert_all adds (Going t q) ≡ Going t' q'
     → (a : Addition) → Memᴰ a adds → Memᴰ a.adds t'
-unfolding insertAll
+unfolding insert_all
 turn-inserts [] t q t' q' h a m = absurd (Memᴰ.not-nil m)
-turn-inserts (x ∷ rest) t q t' q' h a m = go (insertBound x.adds t q) refl h (turn-inserts rest)
+turn-inserts (x ∷ rest) t q t' q' h a m = go (insert_bound x.adds t q) refl h (turn-inserts rest)
   where
-    go : (o : Outcome) → insertBound x.adds t q ≡ o → insertAll rest o ≡ Going t' q'
-        → ((u : Table) (r : List ℕ) (u' : Table) (r' : List ℕ) → insertAll rest (Going u r) ≡ Going u' r' → (y : Addition) → Memᴰ y rest → Memᴰ y.adds u')
+    go : (o : Outcome) → insert_bound x.adds t q ≡ o → insert_all rest o ≡ Going t' q'
+        → ((u : Table) (r : List ℕ) (u' : Table) (r' : List ℕ) → insert_all rest (Going u r) ≡ Going u' r' → (y : Addition) → Memᴰ y rest → Memᴰ y.adds u')
         → Memᴰ a.adds t'
     go (Refused k) e f ih = absurd (refused-going k t' q' (sym (all-refused rest k) ∙ f))
     go (Going u r) e f ih = ⊎_elim (λ z. subst (λ (y : Addition). Memᴰ y.adds t') (sym z) first) (ih u r t' q' f a) (Memᴰ.cases_cons m)
@@ -181,19 +181,19 @@ turn-inserts (x ∷ rest) t q t' q' h a m = go (insertBound x.adds t q) refl h (
         there : Memᴰ x.adds u
         there =
             ⊎_elim (λ c. subst (λ (y : Table). Memᴰ x.adds y) c.1 c.0)
-            (λ c. subst (λ (y : Table). Memᴰ x.adds y) c.1 (insert-has compareBounds bounds-total x.adds t))
+            (λ c. subst (λ (y : Table). Memᴰ x.adds y) c.1 (insert-has compare_bounds bounds-total x.adds t))
             (insert-cases x.adds t q u r e)
 
         first : Memᴰ x.adds t'
         first = turn-members x.adds rest u r t' q' f there
 
-pub all-refuses : (adds : List Addition) (t : Table) (q : List ℕ) (k : ℕ) → insertAll adds (Going t q) ≡ Refused k → (k ≡ 20) ⊎ (k ≡ 21)
-unfolding insertAll
+pub all-refuses : (adds : List Addition) (t : Table) (q : List ℕ) (k : ℕ) → insert_all adds (Going t q) ≡ Refused k → (k ≡ 20) ⊎ (k ≡ 21)
+unfolding insert_all
 all-refuses [] t q k h = absurd (refused-going k t q (sym h))
-all-refuses (a ∷ rest) t q k h = go (insertBound a.adds t q) refl h (all-refuses rest)
+all-refuses (a ∷ rest) t q k h = go (insert_bound a.adds t q) refl h (all-refuses rest)
   where
-    go : (o : Outcome) → insertBound a.adds t q ≡ o → insertAll rest o ≡ Refused k
-        → ((u : Table) (r : List ℕ) (j : ℕ) → insertAll rest (Going u r) ≡ Refused j → (j ≡ 20) ⊎ (j ≡ 21)) → (k ≡ 20) ⊎ (k ≡ 21)
+    go : (o : Outcome) → insert_bound a.adds t q ≡ o → insert_all rest o ≡ Refused k
+        → ((u : Table) (r : List ℕ) (j : ℕ) → insert_all rest (Going u r) ≡ Refused j → (j ≡ 20) ⊎ (j ≡ 21)) → (k ≡ 20) ⊎ (k ≡ 21)
     go (Refused j) e f ih = insert-refused a.adds t q k (e ∙ sym (all-refused rest j) ∙ f)
     go (Going u r) e f ih = ih u r k f
 

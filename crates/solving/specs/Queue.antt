@@ -31,10 +31,10 @@ not-in-without n x (y ∷ ys) h = go (eqb y n) (not-in-without n x ys h.1)
     go true r = r
     go false r = (h.0, r)
 
-distinct_without : (n : ℕ) (l : List ℕ) → Distinct l → Distinct (without n l)
+distinct-without : (n : ℕ) (l : List ℕ) → Distinct l → Distinct (without n l)
 unfolding without
-distinct_without n [] h = tt
-distinct_without n (y ∷ ys) h = go (eqb y n) (distinct_without n ys h.1)
+distinct-without n [] h = tt
+distinct-without n (y ∷ ys) h = go (eqb y n) (distinct-without n ys h.1)
   where
     go : (t : Bool) → Distinct (without n ys) → Distinct (cond t (without n ys) (y ∷ without n ys))
     go true r = r
@@ -54,10 +54,10 @@ unfolding without
 without-same n [] h = refl
 without-same n (y ∷ ys) h = ap (λ (t : Bool). cond t (without n ys) (y ∷ without n ys)) (ne_eqb y n h.0) ∙ ap (λ (l : List ℕ). y ∷ l) (without-same n ys h.1)
 
-length_without : (n : ℕ) (l : List ℕ) → Distinct l → length l ≤ suc (length (without n l))
+length-without : (n : ℕ) (l : List ℕ) → Distinct l → length l ≤ suc (length (without n l))
 unfolding without
-length_without n [] h = omega arith
-length_without n (y ∷ ys) h = go (eqb y n) refl (length_without n ys h.1)
+length-without n [] h = omega arith
+length-without n (y ∷ ys) h = go (eqb y n) refl (length-without n ys h.1)
   where
     go : (t : Bool) → eqb y n ≡ t → length ys ≤ suc (length (without n ys)) → suc (length ys) ≤ suc (length (cond t (without n ys) (y ∷ without n ys)))
     go true e r = let z = ap length (without-same n ys (subst (λ (k : ℕ). NotIn k ys) (eqb-true y n e) h.0)) in omega arith
@@ -67,15 +67,15 @@ pub pigeon : (n : ℕ) (l : List ℕ) → Distinct l → Below n l → length l 
 pigeon zero [] d b = omega arith
 pigeon zero (x ∷ xs) d b = absurd (let k = b.0 in omega arith)
 pigeon (suc n) l d b =
-    let r = pigeon n (without n l) (distinct_without n l d) (below-without n l b) in
-    let s = length_without n l d in
+    let r = pigeon n (without n l) (distinct-without n l d) (below-without n l b) in
+    let s = length-without n l d in
     omega arith
 
 -- ---- a queue
 
-pub below_more : (n m : ℕ) (l : List ℕ) → n ≤ m → Below n l → Below m l
-below_more n m [] h b = tt
-below_more n m (x ∷ l) h b = (let k = b.0 in omega arith, below_more n m l h b.1)
+pub below-more : (n m : ℕ) (l : List ℕ) → n ≤ m → Below n l → Below m l
+below-more n m [] h b = tt
+below-more n m (x ∷ l) h b = (let k = b.0 in omega arith, below-more n m l h b.1)
 
 -- who is no member
 elem-not-in : (c : ℕ) (q : List ℕ) → elem c q ≡ false → NotIn c q

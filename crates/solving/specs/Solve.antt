@@ -7,10 +7,10 @@ use mathlib.Core.List.Memᴰ
 use mathlib.Core.List.{List, [], ◌∷◌, ◌++◌, Memᴰ}
 use Rattle.std.proofs.Math.Logic.{⊎_elim}
 use Rattle.std.proofs.Math.Option.{Option, some, none}
-use Rattle.ty.specs.Types.{ArgType, isConcrete}
+use Rattle.ty.specs.Types.{ArgType, is_concrete}
 use Rattle.lattice.specs.Lattice.{World, Lawful}
 use Rattle.solving.specs.Ordered.{Ascending}
-use Rattle.solving.specs.OrderedLaws.{Has, SameMembers, set-has, set-only, set-ascending, set_same}
+use Rattle.solving.specs.OrderedLaws.{Has, SameMembers, set-has, set-only, set-ascending, set-same}
 use Rattle.solving.specs.Orders.{bounds-total, pairs-total}
 use Rattle.solving.specs.Runs.{propagate-keeps, propagate-ascending, propagate-fits, propagate-turns}
 use Rattle.solving.specs.Closed.{Closed, propagate-closed}
@@ -18,17 +18,17 @@ use Rattle.solving.specs.Tidy.{LegalBound, Tidy, Among, propagate-tidy}
 use Rattle.solving.specs.Queue.{numbers-distinct, numbers-below}
 use Rattle.view.specs.View.{numbers}
 use Rattle.solving.specs.Ways.{Fitting, answer-concrete}
-use Rattle.solving.specs.Chains.{Chain, Within, Demand, swapped-has, chain_fits}
-use Rattle.solving.specs.Solving.{Bound, Table, compareBounds, state_of, Pair, comparePairs, room, Finish, Stopped, Ended, propagate, resolveState, Problem, swapped, linksOf, table_of, answers, Solved, solution, solve}
+use Rattle.solving.specs.Chains.{Chain, Within, Demand, swapped-has, chain-fits}
+use Rattle.solving.specs.Solving.{Bound, Table, compare_bounds, state_of, Pair, compare_pairs, room, Finish, Stopped, Ended, propagate, resolve_state, Problem, swapped, links_of, table_of, answers, Solved, solution, solve}
 
 -- ---- the answers
 
 -- each variable has its component's
-pub answers_at : (w : World) (t : Table) (vs : List ℕ) (i : ℕ) → i < length vs → get_or (answers w t vs) i none ≡ resolveState w (state_of t (get_or vs i 0))
+pub answers-at : (w : World) (t : Table) (vs : List ℕ) (i : ℕ) → i < length vs → get_or (answers w t vs) i none ≡ resolve_state w (state_of t (get_or vs i 0))
 unfolding answers
-answers_at w t [] i h = absurd (omega arith)
-answers_at w t (c ∷ vs) zero h = refl
-answers_at w t (c ∷ vs) (suc i) h = answers_at w t vs i (omega arith)
+answers-at w t [] i h = absurd (omega arith)
+answers-at w t (c ∷ vs) zero h = refl
+answers-at w t (c ∷ vs) (suc i) h = answers-at w t vs i (omega arith)
 
 pub answers-length : (w : World) (t : Table) (vs : List ℕ) → length (answers w t vs) ≡ length vs
 unfolding answers
@@ -49,51 +49,51 @@ solved-ended w vs (Ended u q m) t n given h =
 
 module _ (w : World) (p : Problem) (t : Table) (n : ℕ) (given : List (Option ArgType)) (h : solve w p ≡ Solved t n given) where
   -- it is a run that ended
-  pub solve-ended : (q : List ℕ) × (propagate w (linksOf p) p.components (table_of p) ≡ Ended t q n) × (given ≡ answers w t p.variables)
+  pub solve-ended : (q : List ℕ) × (propagate w (links_of p) p.components (table_of p) ≡ Ended t q n) × (given ≡ answers w t p.variables)
   unfolding solve
-  solve-ended = solved-ended w p.variables (propagate w (linksOf p) p.components (table_of p)) t n given h
+  solve-ended = solved-ended w p.variables (propagate w (links_of p) p.components (table_of p)) t n given h
 
   -- IT KEEPS EVERY GIVEN BOUND
   pub solve-keeps : (b : Bound) → Memᴰ b p.bounds → Memᴰ b t
   unfolding table_of
-  solve-keeps b m = propagate-keeps w (linksOf p) p.components (table_of p) t solve-ended.0 n solve-ended.1 b (set-has compareBounds bounds-total b p.bounds m)
+  solve-keeps b m = propagate-keeps w (links_of p) p.components (table_of p) t solve-ended.0 n solve-ended.1 b (set-has compare_bounds bounds-total b p.bounds m)
 
   -- STRICTLY ASCENDING by component, kind, type
-  pub solve-ascending : Ascending compareBounds t
+  pub solve-ascending : Ascending compare_bounds t
   unfolding table_of
-  solve-ascending = propagate-ascending w (linksOf p) p.components (table_of p) t solve-ended.0 n solve-ended.1 (set-ascending compareBounds bounds-total p.bounds)
+  solve-ascending = propagate-ascending w (links_of p) p.components (table_of p) t solve-ended.0 n solve-ended.1 (set-ascending compare_bounds bounds-total p.bounds)
 
   -- WITHIN 4,096 if the given ones are
   pub solve-fits : length (table_of p) ≤ room → length t ≤ room
-  solve-fits = propagate-fits w (linksOf p) p.components (table_of p) t solve-ended.0 n solve-ended.1
+  solve-fits = propagate-fits w (links_of p) p.components (table_of p) t solve-ended.0 n solve-ended.1
 
   -- TURNS ARE AT MOST COMPONENTS PLUS BOUNDS ADDED
   pub solve-turns : (length (table_of p) ≤ length t) × (n ≤ p.components + (length t - length (table_of p)))
-  solve-turns = propagate-turns w (linksOf p) p.components (table_of p) t solve-ended.0 n solve-ended.1
+  solve-turns = propagate-turns w (links_of p) p.components (table_of p) t solve-ended.0 n solve-ended.1
 
   -- NO RULE WOULD ADD A BOUND
-  pub solve-closed : Closed w (linksOf p) p.components t
-  solve-closed = propagate-closed w (linksOf p) p.components (table_of p) t solve-ended.0 n solve-ended.1
+  pub solve-closed : Closed w (links_of p) p.components t
+  solve-closed = propagate-closed w (links_of p) p.components (table_of p) t solve-ended.0 n solve-ended.1
 
   -- THE ANSWERS ARE THOSE OF resolve_state over it, variable by variable
   pub solve-answered : given ≡ answers w t p.variables
   solve-answered = solve-ended.2
 
   -- A VARIABLE'S ANSWER IS resolve_state OF ITS COMPONENT'S FINAL BOUNDS
-  pub solve-answers : (length given ≡ length p.variables) × ((i : ℕ) → i < length p.variables → get_or given i none ≡ resolveState w (state_of t (get_or p.variables i 0)))
+  pub solve-answers : (length given ≡ length p.variables) × ((i : ℕ) → i < length p.variables → get_or given i none ≡ resolve_state w (state_of t (get_or p.variables i 0)))
   solve-answers = (
     ap length solve-ended.2 ∙ answers-length w t p.variables,
-    λ i k. ap (λ (l : List (Option ArgType)). get_or l i none) solve-ended.2 ∙ answers_at w t p.variables i k,
+    λ i k. ap (λ (l : List (Option ArgType)). get_or l i none) solve-ended.2 ∙ answers-at w t p.variables i k,
   )
 
   -- it is concrete
-  pub solve-concrete : (i : ℕ) → i < length p.variables → (v : ArgType) → get_or given i none ≡ some v → isConcrete v ≡ true
+  pub solve-concrete : (i : ℕ) → i < length p.variables → (v : ArgType) → get_or given i none ≡ some v → is_concrete v ≡ true
   solve-concrete i k v e = answer-concrete w (state_of t (get_or p.variables i 0)) v (sym (solve-answers.1 i k) ∙ e)
 
   -- AND ALONG A CHAIN OF ONE OR MORE FLOWS AND UPPER FLOWS it is assignable to every upper and exact bound at the end, or both are references
   pub solve-chain : Within p → (i : ℕ) → i < length p.variables → (v : ArgType) → get_or given i none ≡ some v
       → (d : ℕ) (u : ArgType) → Chain p (get_or p.variables i 0) d → Demand t d u → Fitting w v u
-  solve-chain within i k v e d u r m = chain_fits p w t solve-closed within (get_or p.variables i 0) d u v r m (sym (solve-answers.1 i k) ∙ e)
+  solve-chain within i k v e d u r m = chain-fits p w t solve-closed within (get_or p.variables i 0) d u v r m (sym (solve-answers.1 i k) ∙ e)
 
 -- ---- rows that were checked
 
@@ -102,7 +102,7 @@ pub record Checked (names : ℕ) (p : Problem) : Type 0 where
   pub bounds : (b : Bound) → Memᴰ b p.bounds → LegalBound names p.components b
   pub few : length (table_of p) ≤ room
   pub flows : (r : Pair) → Memᴰ r p.flows → (r.0 < p.components) × (r.1 < p.components)
-  pub upperFlows : (r : Pair) → Memᴰ r p.upperFlows → (r.0 < p.components) × (r.1 < p.components)
+  pub upper_flows : (r : Pair) → Memᴰ r p.upper_flows → (r.0 < p.components) × (r.1 < p.components)
   pub reads : (r : Pair) → Memᴰ r p.reads → (r.0 < p.components) × (r.1 < p.components)
   pub writes : (r : Pair) → Memᴰ r p.writes → (r.0 < p.components) × (r.1 < p.components)
 
@@ -113,26 +113,26 @@ swapped-member c d (p ∷ ps) m = ⊎_elim (λ e. Memᴰ.head (λ i. ((e i).1, (
 
 module _ (names : ℕ) (p : Problem) (k : Checked names p) where
   pub checked-within : Within p
-  checked-within c d = ⊎_elim (λ m. (k.flows (c, d) m).1) (λ m. (k.upperFlows (c, d) m).1)
+  checked-within c d = ⊎_elim (λ m. (k.flows (c, d) m).1) (λ m. (k.upper_flows (c, d) m).1)
 
-  pub checked-among : Among p.components (linksOf p)
-  unfolding linksOf
+  pub checked-among : Among p.components (links_of p)
+  unfolding links_of
   checked-among = record {
-    flows = λ r m. (k.flows r (set-only comparePairs r p.flows m)).1;
+    flows = λ r m. (k.flows r (set-only compare_pairs r p.flows m)).1;
     incoming = λ r m.
-        ⊎_elim (λ n. (k.flows (r.1, r.0) n).0) (λ n. (k.upperFlows (r.1, r.0) n).0)
-        (Memᴰ.append_cases p.flows (swapped-member r.0 r.1 (p.flows ++ p.upperFlows) (set-only comparePairs r (swapped (p.flows ++ p.upperFlows)) m)));
-    reads = λ r m. k.reads r (set-only comparePairs r p.reads m);
-    writes = λ r m. k.writes r (set-only comparePairs r p.writes m);
+        ⊎_elim (λ n. (k.flows (r.1, r.0) n).0) (λ n. (k.upper_flows (r.1, r.0) n).0)
+        (Memᴰ.append_cases p.flows (swapped-member r.0 r.1 (p.flows ++ p.upper_flows) (set-only compare_pairs r (swapped (p.flows ++ p.upper_flows)) m)));
+    reads = λ r m. k.reads r (set-only compare_pairs r p.reads m);
+    writes = λ r m. k.writes r (set-only compare_pairs r p.writes m);
   }
 
   -- what a run starts with is tidy
   pub checked-tidy : Tidy names p.components (table_of p) (numbers 0 p.components)
   unfolding table_of
   checked-tidy = record {
-    ascends = set-ascending compareBounds bounds-total p.bounds;
+    ascends = set-ascending compare_bounds bounds-total p.bounds;
     fits = k.few;
-    legal = λ b m. k.bounds b (set-only compareBounds b p.bounds m);
+    legal = λ b m. k.bounds b (set-only compare_bounds b p.bounds m);
     distinct = numbers-distinct 0 p.components;
     below = numbers-below p.components;
   }
@@ -142,7 +142,7 @@ pub solve-legal : (w : World) (p : Problem) (t : Table) (n : ℕ) (given : List 
     → Lawful w → Checked w.names p → (b : Bound) → Memᴰ b t → LegalBound w.names p.components b
 solve-legal w p t n given h good k =
     let e = solve-ended w p t n given h in
-    (propagate-tidy w good p.components (linksOf p) (checked-among w.names p k) (table_of p) t e.0 n e.1 (checked-tidy w.names p k)).legal
+    (propagate-tidy w good p.components (links_of p) (checked-among w.names p k) (table_of p) t e.0 n e.1 (checked-tidy w.names p k)).legal
 
 -- ---- the sets of rows alone
 
@@ -157,26 +157,26 @@ pub record SameRows (p r : Problem) : Type 0 where
   pub variables : p.variables ≡ r.variables
   pub bounds : SameMembers p.bounds r.bounds
   pub flows : SameMembers p.flows r.flows
-  pub upperFlows : SameMembers p.upperFlows r.upperFlows
+  pub upper_flows : SameMembers p.upper_flows r.upper_flows
   pub reads : SameMembers p.reads r.reads
   pub writes : SameMembers p.writes r.writes
 
 module _ (p r : Problem) (s : SameRows p r) where
-  same-links : linksOf p ≡ linksOf r
-  unfolding linksOf
+  same-links : links_of p ≡ links_of r
+  unfolding links_of
   same-links =
-      let a = set_same comparePairs pairs-total p.flows r.flows s.flows in
-      let b = set_same comparePairs pairs-total (swapped (p.flows ++ p.upperFlows)) (swapped (r.flows ++ r.upperFlows)) (
-        incoming-has p.flows r.flows p.upperFlows r.upperFlows s.flows.0 s.upperFlows.0,
-        incoming-has r.flows p.flows r.upperFlows p.upperFlows s.flows.1 s.upperFlows.1,
+      let a = set-same compare_pairs pairs-total p.flows r.flows s.flows in
+      let b = set-same compare_pairs pairs-total (swapped (p.flows ++ p.upper_flows)) (swapped (r.flows ++ r.upper_flows)) (
+        incoming-has p.flows r.flows p.upper_flows r.upper_flows s.flows.0 s.upper_flows.0,
+        incoming-has r.flows p.flows r.upper_flows p.upper_flows s.flows.1 s.upper_flows.1,
       ) in
-      let c = set_same comparePairs pairs-total p.reads r.reads s.reads in
-      let d = set_same comparePairs pairs-total p.writes r.writes s.writes in
+      let c = set-same compare_pairs pairs-total p.reads r.reads s.reads in
+      let d = set-same compare_pairs pairs-total p.writes r.writes s.writes in
       λ i. record { flows = a i; incoming = b i; reads = c i; writes = d i }
 
   same-table : table_of p ≡ table_of r
   unfolding table_of
-  same-table = set_same compareBounds bounds-total p.bounds r.bounds s.bounds
+  same-table = set-same compare_bounds bounds-total p.bounds r.bounds s.bounds
 
   -- THE RESULT, REFUSED OR NOT, TURNS INCLUDED, DEPENDS ON THE SETS OF ROWS ALONE
   pub solve-same : (w : World) → solve w p ≡ solve w r

@@ -2,13 +2,13 @@
 -- rules of propagate, turns, and the five ways of resolve_state. A component is its number.
 use Rattle.std.specs.Prelude.{Bool, true, false, cond, List, [], ◌∷◌, ◌++◌, ℕ, zero, suc, ◌+◌, eqb, leb, ltb, length}
 use Rattle.std.proofs.Math.Option.{Option, some, none}
-use Rattle.order.specs.Compare.{then, compareNumbers}
+use Rattle.order.specs.Compare.{then, compare_numbers}
 use Rattle.order.specs.Lists.{elem}
 use Rattle.order.specs.declared.Order.{Order}
-use Rattle.ty.specs.Types.{ArgType, Array, depth, element, isConcrete, concreteHint, compare}
+use Rattle.ty.specs.Types.{ArgType, Array, depth, element, is_concrete, concrete_hint, compare}
 use Rattle.view.specs.View.{numbers}
-use Rattle.lattice.specs.Lattice.{World, isAssignable, producerBoundCompatible, domainAccepts, joinAll, mostSpecificUpper}
-use Rattle.solving.specs.Ordered.{present, insert, setOf}
+use Rattle.lattice.specs.Lattice.{World, is_assignable, producer_bound_compatible, domain_accepts, join_all, most_specific_upper}
+use Rattle.solving.specs.Ordered.{present, insert, set_of}
 
 -- ---- bounds and the table
 
@@ -37,8 +37,8 @@ abbrev pub bound : ℕ → ℕ → ArgType → Bound
 bound c k t = record { component = c; kind = k; type = t }
 
 -- by component, then by kind, then by type
-unfoldable pub compareBounds : Bound → Bound → Order
-compareBounds a b = then (compareNumbers a.component b.component) (then (compareNumbers a.kind b.kind) (compare a.type b.type))
+unfoldable pub compare_bounds : Bound → Bound → Order
+compare_bounds a b = then (compare_numbers a.component b.component) (then (compare_numbers a.kind b.kind) (compare a.type b.type))
 
 -- a table of bounds is strictly ascending
 abbrev pub Table : Type 0
@@ -72,8 +72,8 @@ abbrev pub evidence : List ArgType → List ArgType → List ArgType
 evidence [] lower = lower
 evidence (t ∷ ts) lower = t ∷ ts
 
-unfoldable pub producedType : World → TypeState → Option ArgType
-producedType w s = joinAll w (evidence s.exact s.lower)
+unfoldable pub produced_type : World → TypeState → Option ArgType
+produced_type w s = join_all w (evidence s.exact s.lower)
 
 -- ---- small helpers on what may be missing
 
@@ -82,13 +82,13 @@ or_else none other = other
 or_else (some t) other = some t
 
 -- .filter(is_concrete)
-abbrev pub onlyConcrete : Option ArgType → Option ArgType
-onlyConcrete none = none
-onlyConcrete (some t) = cond (isConcrete t) (some t) none
+abbrev pub only_concrete : Option ArgType → Option ArgType
+only_concrete none = none
+only_concrete (some t) = cond (is_concrete t) (some t) none
 
-abbrev pub elementOf : Option ArgType → Option ArgType
-elementOf none = none
-elementOf (some t) = element t
+abbrev pub element_of : Option ArgType → Option ArgType
+element_of none = none
+element_of (some t) = element t
 
 -- into_iter
 abbrev pub list_of : Option ArgType → List ArgType
@@ -96,24 +96,24 @@ list_of none = []
 list_of (some t) = t ∷ []
 
 -- array_element: of the produced type, or of the most specific upper bound if nothing is produced
-unfoldable pub arrayElement : World → TypeState → Option ArgType
-arrayElement w s = elementOf (or_else (producedType w s) (mostSpecificUpper w s.upper))
+unfoldable pub array_element : World → TypeState → Option ArgType
+array_element w s = element_of (or_else (produced_type w s) (most_specific_upper w s.upper))
 
 -- the array of a concrete produced type
 abbrev pub array_of : Option ArgType → List ArgType
 array_of none = []
 array_of (some t) = Array t ∷ []
 
-unfoldable pub producedArray : World → TypeState → List ArgType
-producedArray w s = array_of (onlyConcrete (producedType w s))
+unfoldable pub produced_array : World → TypeState → List ArgType
+produced_array w s = array_of (only_concrete (produced_type w s))
 
 -- ---- links between components, each a strictly ascending list of pairs
 
 abbrev pub Pair : Type 0
 Pair = ℕ × ℕ
 
-unfoldable pub comparePairs : Pair → Pair → Order
-comparePairs p q = then (compareNumbers p.0 q.0) (compareNumbers p.1 q.1)
+unfoldable pub compare_pairs : Pair → Pair → Order
+compare_pairs p q = then (compare_numbers p.0 q.0) (compare_numbers p.1 q.1)
 
 pub record Links : Type 0 where
   -- source, target
@@ -138,31 +138,31 @@ pub record Addition : Type 0 where
   pub adds : Bound
 
 -- some types to one component
-unfoldable pub toOne : ℕ → ℕ → List ArgType → ℕ → List Addition
-toOne rule kind [] c = []
-toOne rule kind (t ∷ ts) c = record { rule = rule; adds = bound c kind t } ∷ toOne rule kind ts c
+unfoldable pub to_one : ℕ → ℕ → List ArgType → ℕ → List Addition
+to_one rule kind [] c = []
+to_one rule kind (t ∷ ts) c = record { rule = rule; adds = bound c kind t } ∷ to_one rule kind ts c
 
 -- and to each of a list of components
-unfoldable pub toEach : ℕ → ℕ → List ArgType → List ℕ → List Addition
-toEach rule kind ts [] = []
-toEach rule kind ts (c ∷ cs) = toOne rule kind ts c ++ toEach rule kind ts cs
+unfoldable pub to_each : ℕ → ℕ → List ArgType → List ℕ → List Addition
+to_each rule kind ts [] = []
+to_each rule kind ts (c ∷ cs) = to_one rule kind ts c ++ to_each rule kind ts cs
 
 -- array constraints in the order of pairs: from the array's side where the array is the root, else from the other side where that is
-unfoldable pub arrayRules : ℕ → ℕ → List ArgType → ℕ → List ArgType → ℕ → List Pair → List Addition
-arrayRules near kind elements far arrays root [] = []
-arrayRules near kind elements far arrays root (p ∷ ps) =
-    cond (eqb p.0 root) (toOne near kind elements p.1) (cond (eqb p.1 root) (toOne far Lower arrays p.0) [])
-    ++ arrayRules near kind elements far arrays root ps
+unfoldable pub array_rules : ℕ → ℕ → List ArgType → ℕ → List ArgType → ℕ → List Pair → List Addition
+array_rules near kind elements far arrays root [] = []
+array_rules near kind elements far arrays root (p ∷ ps) =
+    cond (eqb p.0 root) (to_one near kind elements p.1) (cond (eqb p.1 root) (to_one far Lower arrays p.0) [])
+    ++ array_rules near kind elements far arrays root ps
 
 -- 1 the produced type to the targets; 2 fallbacks to the targets; 3 upper and exact to the sources; 4 a read's element to its result;
 -- 5 a read's result to its array; 6 a write's element to its value; 7 a write's value to its array
 unfoldable pub additions : World → Links → ℕ → TypeState → List Addition
 additions w l root s =
-    toEach 1 Lower (list_of (producedType w s)) (partners root l.flows)
-    ++ (toEach 2 Fallback s.fallback (partners root l.flows)
-    ++ (toEach 3 Upper (s.upper ++ s.exact) (partners root l.incoming)
-    ++ (arrayRules 4 Exact (list_of (arrayElement w s)) 5 (producedArray w s) root l.reads
-    ++ arrayRules 6 Upper (list_of (arrayElement w s)) 7 (producedArray w s) root l.writes)))
+    to_each 1 Lower (list_of (produced_type w s)) (partners root l.flows)
+    ++ (to_each 2 Fallback s.fallback (partners root l.flows)
+    ++ (to_each 3 Upper (s.upper ++ s.exact) (partners root l.incoming)
+    ++ (array_rules 4 Exact (list_of (array_element w s)) 5 (produced_array w s) root l.reads
+    ++ array_rules 6 Upper (list_of (array_element w s)) 7 (produced_array w s) root l.writes)))
 
 -- ---- insert_bound, with the limits' refusals: a table and the queue, each component in it at most once
 
@@ -177,22 +177,22 @@ pub data Outcome : Type 0 where
 unfoldable pub enqueue : ℕ → List ℕ → List ℕ
 enqueue c queue = cond (elem c queue) queue (queue ++ (c ∷ []))
 
-unfoldable pub insertBound : Bound → Table → List ℕ → Outcome
-insertBound b table queue =
+unfoldable pub insert_bound : Bound → Table → List ℕ → Outcome
+insert_bound b table queue =
     cond (ltb 255 (depth b.type)) (Refused 20)
-    (cond (present compareBounds b table) (Going table queue)
-    (cond (leb room (length table)) (Refused 21) (Going (insert compareBounds b table) (enqueue b.component queue))))
+    (cond (present compare_bounds b table) (Going table queue)
+    (cond (leb room (length table)) (Refused 21) (Going (insert compare_bounds b table) (enqueue b.component queue))))
 
-unfoldable pub insertAll : List Addition → Outcome → Outcome
-insertAll [] o = o
-insertAll (a ∷ rest) (Refused k) = Refused k
-insertAll (a ∷ rest) (Going table queue) = insertAll rest (insertBound a.adds table queue)
+unfoldable pub insert_all : List Addition → Outcome → Outcome
+insert_all [] o = o
+insert_all (a ∷ rest) (Refused k) = Refused k
+insert_all (a ∷ rest) (Going table queue) = insert_all rest (insert_bound a.adds table queue)
 
 -- ---- propagate
 
 -- the turn of a component that was taken from the front
 unfoldable pub turn : World → Links → ℕ → Table → List ℕ → Outcome
-turn w l root table queue = insertAll (additions w l root (state_of table root)) (Going table queue)
+turn w l root table queue = insert_all (additions w l root (state_of table root)) (Going table queue)
 
 pub data Finish : Type 0 where
   Stopped : ℕ → Finish
@@ -225,12 +225,12 @@ pub data Tried : Type 0 where
   Because : Cause → Tried
 
 -- the first of a kind's types that fails
-unfoldable pub firstFailing : ℕ → (ArgType → Bool) → List ArgType → Option Cause
-firstFailing kind test [] = none
-firstFailing kind test (t ∷ ts) = cond (test t) (firstFailing kind test ts) (some (Fails kind t))
+unfoldable pub first_failing : ℕ → (ArgType → Bool) → List ArgType → Option Cause
+first_failing kind test [] = none
+first_failing kind test (t ∷ ts) = cond (test t) (first_failing kind test ts) (some (Fails kind t))
 
-unfoldable pub domainCause : List ArgType → ArgType → Option Cause
-domainCause domain candidate = cond (domainAccepts domain candidate) none (some OutsideDomain)
+unfoldable pub domain_cause : List ArgType → ArgType → Option Cause
+domain_cause domain candidate = cond (domain_accepts domain candidate) none (some OutsideDomain)
 
 abbrev pub judged : ArgType → Option Cause → Tried
 judged candidate none = Answer candidate
@@ -242,57 +242,57 @@ tried none test = Because NoCandidate
 tried (some candidate) test = judged candidate (test candidate)
 
 -- 1: evidence that fits
-unfoldable pub evidenceFits : World → TypeState → Tried
-evidenceFits w s = tried (onlyConcrete (producedType w s)) (λ ty. firstFailing Upper (isAssignable w ty) s.upper)
+unfoldable pub evidence_fits : World → TypeState → Tried
+evidence_fits w s = tried (only_concrete (produced_type w s)) (λ ty. first_failing Upper (is_assignable w ty) s.upper)
 
 -- 2: the upper candidate
-unfoldable pub upperCandidate : World → TypeState → Tried
-upperCandidate w s =
-    tried (mostSpecificUpper w s.upper)
+unfoldable pub upper_candidate : World → TypeState → Tried
+upper_candidate w s =
+    tried (most_specific_upper w s.upper)
     (λ candidate.
-    or_else (firstFailing Lower (λ b. producerBoundCompatible w b candidate) s.lower)
-    (or_else (firstFailing Exact (λ b. producerBoundCompatible w b candidate) s.exact) (domainCause s.domain candidate)))
+    or_else (first_failing Lower (λ b. producer_bound_compatible w b candidate) s.lower)
+    (or_else (first_failing Exact (λ b. producer_bound_compatible w b candidate) s.exact) (domain_cause s.domain candidate)))
 
 -- 3: evidence that needs a cast
-unfoldable pub evidenceCast : World → TypeState → Tried
-evidenceCast w s =
-    tried (onlyConcrete (producedType w s))
-    (λ ty. or_else (firstFailing Upper (producerBoundCompatible w ty) s.upper) (domainCause s.domain ty))
+unfoldable pub evidence_cast : World → TypeState → Tried
+evidence_cast w s =
+    tried (only_concrete (produced_type w s))
+    (λ ty. or_else (first_failing Upper (producer_bound_compatible w ty) s.upper) (domain_cause s.domain ty))
 
 -- 4: fallback
-unfoldable pub fallbackJoin : World → TypeState → Tried
-fallbackJoin w s =
-    tried (onlyConcrete (joinAll w s.fallback))
-    (λ candidate. or_else (firstFailing Upper (isAssignable w candidate) s.upper) (domainCause s.domain candidate))
+unfoldable pub fallback_join : World → TypeState → Tried
+fallback_join w s =
+    tried (only_concrete (join_all w s.fallback))
+    (λ candidate. or_else (first_failing Upper (is_assignable w candidate) s.upper) (domain_cause s.domain candidate))
 
 -- 5: the one hint of the domain
-abbrev pub hintOf : Option ArgType → List ArgType → List ArgType
-hintOf none hints = hints
-hintOf (some t) hints = insert compare t hints
+abbrev pub hint_of : Option ArgType → List ArgType → List ArgType
+hint_of none hints = hints
+hint_of (some t) hints = insert compare t hints
 
-unfoldable pub hintsOf : ℕ → List ArgType → List ArgType
-hintsOf object [] = []
-hintsOf object (t ∷ ts) = hintOf (concreteHint object t) (hintsOf object ts)
+unfoldable pub hints_of : ℕ → List ArgType → List ArgType
+hints_of object [] = []
+hints_of object (t ∷ ts) = hint_of (concrete_hint object t) (hints_of object ts)
 
-abbrev pub onlyOne : List ArgType → (ArgType → Option Cause) → Tried
-onlyOne [] test = Because NoCandidate
-onlyOne (candidate ∷ []) test = judged candidate (test candidate)
-onlyOne (candidate ∷ other ∷ rest) test = Because TwoCandidates
+abbrev pub only_one : List ArgType → (ArgType → Option Cause) → Tried
+only_one [] test = Because NoCandidate
+only_one (candidate ∷ []) test = judged candidate (test candidate)
+only_one (candidate ∷ other ∷ rest) test = Because TwoCandidates
 
-unfoldable pub domainHint : World → TypeState → Tried
-domainHint w s = onlyOne (hintsOf w.object s.domain) (λ candidate. firstFailing Upper (isAssignable w candidate) s.upper)
+unfoldable pub domain_hint : World → TypeState → Tried
+domain_hint w s = only_one (hints_of w.object s.domain) (λ candidate. first_failing Upper (is_assignable w candidate) s.upper)
 
 -- the ways in their order; the first that answers gives the answer
 unfoldable pub ways : World → TypeState → List Tried
-ways w s = evidenceFits w s ∷ upperCandidate w s ∷ evidenceCast w s ∷ fallbackJoin w s ∷ domainHint w s ∷ []
+ways w s = evidence_fits w s ∷ upper_candidate w s ∷ evidence_cast w s ∷ fallback_join w s ∷ domain_hint w s ∷ []
 
-unfoldable pub firstAnswer : List Tried → Option ArgType
-firstAnswer [] = none
-firstAnswer (Answer t ∷ rest) = some t
-firstAnswer (Because cause ∷ rest) = firstAnswer rest
+unfoldable pub first_answer : List Tried → Option ArgType
+first_answer [] = none
+first_answer (Answer t ∷ rest) = some t
+first_answer (Because cause ∷ rest) = first_answer rest
 
-unfoldable pub resolveState : World → TypeState → Option ArgType
-resolveState w s = firstAnswer (ways w s)
+unfoldable pub resolve_state : World → TypeState → Option ArgType
+resolve_state w s = first_answer (ways w s)
 
 -- ---- solve
 
@@ -303,7 +303,7 @@ pub record Problem : Type 0 where
   -- rows in any order
   pub bounds : List Bound
   pub flows : List Pair
-  pub upperFlows : List Pair
+  pub upper_flows : List Pair
   pub reads : List Pair
   pub writes : List Pair
 
@@ -311,20 +311,20 @@ unfoldable pub swapped : List Pair → List Pair
 swapped [] = []
 swapped (p ∷ ps) = (p.1, p.0) ∷ swapped ps
 
-unfoldable pub linksOf : Problem → Links
-linksOf p = record {
-  flows = setOf comparePairs p.flows;
-  incoming = setOf comparePairs (swapped (p.flows ++ p.upperFlows));
-  reads = setOf comparePairs p.reads;
-  writes = setOf comparePairs p.writes;
+unfoldable pub links_of : Problem → Links
+links_of p = record {
+  flows = set_of compare_pairs p.flows;
+  incoming = set_of compare_pairs (swapped (p.flows ++ p.upper_flows));
+  reads = set_of compare_pairs p.reads;
+  writes = set_of compare_pairs p.writes;
 }
 
 unfoldable pub table_of : Problem → Table
-table_of p = setOf compareBounds p.bounds
+table_of p = set_of compare_bounds p.bounds
 
 unfoldable pub answers : World → Table → List ℕ → List (Option ArgType)
 answers w table [] = []
-answers w table (c ∷ cs) = resolveState w (state_of table c) ∷ answers w table cs
+answers w table (c ∷ cs) = resolve_state w (state_of table c) ∷ answers w table cs
 
 pub data Solution : Type 0 where
   -- 20 or 21
@@ -337,22 +337,22 @@ solution w variables (Stopped k) = Unsolved k
 solution w variables (Ended table queue turns) = Solved table turns (answers w table variables)
 
 unfoldable pub solve : World → Problem → Solution
-solve w p = solution w p.variables (propagate w (linksOf p) p.components (table_of p))
+solve w p = solution w p.variables (propagate w (links_of p) p.components (table_of p))
 
 -- ---- closed: no rule would add a bound
 
-unfoldable pub allPresent : List Addition → Table → Bool
-allPresent [] table = true
-allPresent (a ∷ rest) table = cond (present compareBounds a.adds table) (allPresent rest table) false
+unfoldable pub all_present : List Addition → Table → Bool
+all_present [] table = true
+all_present (a ∷ rest) table = cond (present compare_bounds a.adds table) (all_present rest table) false
 
 -- no rule adds to a table from a component's state
 unfoldable pub settled : World → Links → Table → ℕ → Bool
-settled w l table c = allPresent (additions w l c (state_of table c)) table
+settled w l table c = all_present (additions w l c (state_of table c)) table
 
-unfoldable pub allSettled : World → Links → Table → List ℕ → Bool
-allSettled w l table [] = true
-allSettled w l table (c ∷ cs) = cond (settled w l table c) (allSettled w l table cs) false
+unfoldable pub all_settled : World → Links → Table → List ℕ → Bool
+all_settled w l table [] = true
+all_settled w l table (c ∷ cs) = cond (settled w l table c) (all_settled w l table cs) false
 
 -- nor from that of any component
 unfoldable pub closed : World → Links → ℕ → Table → Bool
-closed w l components table = allSettled w l table (numbers 0 components)
+closed w l components table = all_settled w l table (numbers 0 components)

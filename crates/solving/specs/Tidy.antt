@@ -10,34 +10,34 @@ use mathlib.Core.List.{List, [], ◌∷◌, ◌++◌, Memᴰ}
 use Rattle.std.proofs.Math.Logic.{⊎_elim}
 use Rattle.std.proofs.Math.Option.{Option, some, none}
 use Rattle.std.proofs.Math.Dec.{eqb}
-use Rattle.ty.specs.Types.{ArgType, Primitive, Object, Array, Unknown, element, isConcrete}
-use Rattle.ty.specs.Words.{legalAtBase, legalType}
+use Rattle.ty.specs.Types.{ArgType, Primitive, Object, Array, Unknown, element, is_concrete}
+use Rattle.ty.specs.Words.{legal_at_base, legal_type}
 use Rattle.ty.specs.Round.{legal-type-more}
 use Rattle.view.specs.View.{numbers}
-use Rattle.lattice.specs.Lattice.{World, Lawful, mostSpecificUpper}
-use Rattle.lattice.specs.Legality.{legal-base, legal-both, joinAll-legal, specific-legal}
+use Rattle.lattice.specs.Lattice.{World, Lawful, most_specific_upper}
+use Rattle.lattice.specs.Legality.{legal-base, legal-both, join_all-legal, specific-legal}
 use Rattle.solving.specs.Ordered.{insert, Ascending}
 use Rattle.solving.specs.OrderedLaws.{insert-only, insert-length, insert-ascending, ascending-part, member-part}
 use Rattle.solving.specs.Orders.{bounds-total}
-use Rattle.solving.specs.Queue.{Distinct, Below, pigeon, below_more, enqueue-distinct, enqueue-below}
+use Rattle.solving.specs.Queue.{Distinct, Below, pigeon, below-more, enqueue-distinct, enqueue-below}
 use Rattle.solving.specs.Inserts.{New, all-keeps-of, run-keeps}
 use Rattle.solving.specs.Chains.{types-only}
-use Rattle.solving.specs.Solving.{Domain, Fallback, Upper, Lower, Exact, Bound, bound, Table, compareBounds, types_of, TypeState, state_of, evidence, producedType, or_else, onlyConcrete, elementOf, list_of, arrayElement, array_of, producedArray, Pair, Links, partners, Addition, toOne, toEach, arrayRules, additions, room, enqueue, Going, turn, Ended, propagate}
+use Rattle.solving.specs.Solving.{Domain, Fallback, Upper, Lower, Exact, Bound, bound, Table, compare_bounds, types_of, TypeState, state_of, evidence, produced_type, or_else, only_concrete, element_of, list_of, array_element, array_of, produced_array, Pair, Links, partners, Addition, to_one, to_each, array_rules, additions, room, enqueue, Going, turn, Ended, propagate}
 
 -- a bound of one of n components, over so many names
 pub record LegalBound (names n : ℕ) (b : Bound) : Type 0 where
   pub component : b.component < n
   pub kind : b.kind < 5
-  pub type : legalType names b.type ≡ true
+  pub type : legal_type names b.type ≡ true
 
 -- what a rule may give: a legal bound but for its depth
 pub record Given (names n : ℕ) (b : Bound) : Type 0 where
   pub component : b.component < n
   pub kind : b.kind < 5
-  pub base : legalAtBase names b.type ≡ true
+  pub base : legal_at_base names b.type ≡ true
 
 pub record Tidy (names n : ℕ) (t : Table) (q : List ℕ) : Type 0 where
-  pub ascends : Ascending compareBounds t
+  pub ascends : Ascending compare_bounds t
   pub fits : length t ≤ room
   pub legal : (b : Bound) → Memᴰ b t → LegalBound names n b
   pub distinct : Distinct q
@@ -59,11 +59,11 @@ queue-room names n t q y = pigeon n q y.distinct y.below
 module _ (names n : ℕ) where
   -- ONE INSERTION KEEPS IT
   pub insert-tidy : (b : Bound) (t : Table) (q : List ℕ) → Given names n b → New b t → Tidy names n t q
-      → Tidy names n (insert compareBounds b t) (enqueue b.component q)
+      → Tidy names n (insert compare_bounds b t) (enqueue b.component q)
   insert-tidy b t q g new y = record {
-    ascends = insert-ascending compareBounds bounds-total b t y.ascends;
-    fits = omega (arith, insert-length compareBounds b t new.absent, new.fits);
-    legal = λ x m. ⊎_elim (λ e. subst (LegalBound names n) (sym e) own) (y.legal x) (insert-only compareBounds b x t m);
+    ascends = insert-ascending compare_bounds bounds-total b t y.ascends;
+    fits = omega (arith, insert-length compare_bounds b t new.absent, new.fits);
+    legal = λ x m. ⊎_elim (λ e. subst (LegalBound names n) (sym e) own) (y.legal x) (insert-only compare_bounds b x t m);
     distinct = enqueue-distinct b.component q y.distinct;
     below = enqueue-below n b.component q g.component y.below;
   }
@@ -78,7 +78,7 @@ module _ (names n : ℕ) where
   -- A PART OF A TIDY TABLE IS TIDY
   pub part-tidy : (t : Table) (q : List ℕ) (a b : ℕ) → Tidy names n t q → Tidy names n (take b (drop a t)) q
   part-tidy t q a b y = record {
-    ascends = ascending-part compareBounds bounds-total a b t y.ascends;
+    ascends = ascending-part compare_bounds bounds-total a b t y.ascends;
     fits = omega (arith, length-take b (drop a t), length-drop a t, y.fits);
     legal = λ x m. y.legal x (member-part x a b t m);
     distinct = y.distinct;
@@ -87,16 +87,16 @@ module _ (names n : ℕ) where
 
 -- ---- over more names and components: code counts on the limits alone, `Tidy 1024 512`
 
-base_more : (names more : ℕ) (t : ArgType) → names ≤ more → legalAtBase names t ≡ true → legalAtBase more t ≡ true
-unfolding legalAtBase
-base_more names more (Primitive k) m h = h
-base_more names more (Object c) m h = let b = ltb-true c names h in lt-ltb c more (omega arith)
-base_more names more (Array t) m h = base_more names more t m h
-base_more names more (Unknown cs) m h = h
+base-more : (names more : ℕ) (t : ArgType) → names ≤ more → legal_at_base names t ≡ true → legal_at_base more t ≡ true
+unfolding legal_at_base
+base-more names more (Primitive k) m h = h
+base-more names more (Object c) m h = let b = ltb-true c names h in lt-ltb c more (omega arith)
+base-more names more (Array t) m h = base-more names more t m h
+base-more names more (Unknown cs) m h = h
 
 module _ (names more n m : ℕ) (few : names ≤ more) (within : n ≤ m) where
   pub given-more : (b : Bound) → Given names n b → Given more m b
-  given-more b g = let c = g.component in record { component = omega arith; kind = g.kind; base = base_more names more b.type few g.base }
+  given-more b g = let c = g.component in record { component = omega arith; kind = g.kind; base = base-more names more b.type few g.base }
 
   pub tidy-more : (t : Table) (q : List ℕ) → Tidy names n t q → Tidy more m t q
   tidy-more t q y = record {
@@ -104,63 +104,63 @@ module _ (names more n m : ℕ) (few : names ≤ more) (within : n ≤ m) where
     fits = y.fits;
     legal = λ b i. let g = y.legal b i in let c = g.component in record { component = omega arith; kind = g.kind; type = legal-type-more names more b.type few g.type };
     distinct = y.distinct;
-    below = below_more n m q within y.below;
+    below = below-more n m q within y.below;
   }
 
 -- ---- what the rules give, by cases
 
 module _ (P : Addition → Type 0) where
   pub one-by : (rule kind : ℕ) (ts : List ArgType) (c : ℕ) → ((u : ArgType) → Memᴰ u ts → P (record { rule = rule; adds = bound c kind u }))
-      → (a : Addition) → Memᴰ a (toOne rule kind ts c) → P a
-  unfolding toOne
+      → (a : Addition) → Memᴰ a (to_one rule kind ts c) → P a
+  unfolding to_one
   one-by rule kind [] c f a m = absurd (Memᴰ.not-nil m)
   one-by rule kind (t ∷ ts) c f a m =
       ⊎_elim (λ e. subst P (sym e) (f t (Memᴰ.head refl))) (one-by rule kind ts c (λ u n. f u (Memᴰ.tail n)) a) (Memᴰ.cases_cons m)
 
   pub each-by : (rule kind : ℕ) (ts : List ArgType) (cs : List ℕ) → ((c : ℕ) → Memᴰ c cs → (u : ArgType) → Memᴰ u ts → P (record { rule = rule; adds = bound c kind u }))
-      → (a : Addition) → Memᴰ a (toEach rule kind ts cs) → P a
-  unfolding toEach
+      → (a : Addition) → Memᴰ a (to_each rule kind ts cs) → P a
+  unfolding to_each
   each-by rule kind ts [] f a m = absurd (Memᴰ.not-nil m)
   each-by rule kind ts (c ∷ cs) f a m =
       ⊎_elim (one-by rule kind ts c (f c (Memᴰ.head refl)) a) (each-by rule kind ts cs (λ d n. f d (Memᴰ.tail n)) a)
-      (Memᴰ.append_cases (toOne rule kind ts c) m)
+      (Memᴰ.append_cases (to_one rule kind ts c) m)
 
   pub arrays-by : (near kind : ℕ) (elements : List ArgType) (far : ℕ) (arrays : List ArgType) (root : ℕ) (ps : List Pair)
       → ((p : Pair) → Memᴰ p ps → p.0 ≡ root → (u : ArgType) → Memᴰ u elements → P (record { rule = near; adds = bound p.1 kind u }))
       → ((p : Pair) → Memᴰ p ps → p.1 ≡ root → (u : ArgType) → Memᴰ u arrays → P (record { rule = far; adds = bound p.0 Lower u }))
-      → (a : Addition) → Memᴰ a (arrayRules near kind elements far arrays root ps) → P a
-  unfolding arrayRules
+      → (a : Addition) → Memᴰ a (array_rules near kind elements far arrays root ps) → P a
+  unfolding array_rules
   arrays-by near kind elements far arrays root [] f g a m = absurd (Memᴰ.not-nil m)
   arrays-by near kind elements far arrays root (p ∷ ps) f g a m =
       ⊎_elim (own (eqb p.0 root) refl (eqb p.1 root) refl) (arrays-by near kind elements far arrays root ps (λ r n. f r (Memᴰ.tail n)) (λ r n. g r (Memᴰ.tail n)) a)
-      (Memᴰ.append_cases (cond (eqb p.0 root) (toOne near kind elements p.1) (cond (eqb p.1 root) (toOne far Lower arrays p.0) [])) m)
+      (Memᴰ.append_cases (cond (eqb p.0 root) (to_one near kind elements p.1) (cond (eqb p.1 root) (to_one far Lower arrays p.0) [])) m)
     where
-      own : (x : Bool) → eqb p.0 root ≡ x → (y : Bool) → eqb p.1 root ≡ y → Memᴰ a (cond x (toOne near kind elements p.1) (cond y (toOne far Lower arrays p.0) [])) → P a
+      own : (x : Bool) → eqb p.0 root ≡ x → (y : Bool) → eqb p.1 root ≡ y → Memᴰ a (cond x (to_one near kind elements p.1) (cond y (to_one far Lower arrays p.0) [])) → P a
       own true e y q n = one-by near kind elements p.1 (f p (Memᴰ.head refl) (eqb-true p.0 root e)) a n
       own false e true q n = one-by far Lower arrays p.0 (g p (Memᴰ.head refl) (eqb-true p.1 root q)) a n
       own false e false q n = absurd (Memᴰ.not-nil n)
 
   -- WHAT IS SHOWN OF EACH RULE IS SHOWN OF ALL THAT A TURN INSERTS
   pub additions-by : (w : World) (l : Links) (root : ℕ) (s : TypeState)
-      → ((c : ℕ) → Memᴰ c (partners root l.flows) → (u : ArgType) → Memᴰ u (list_of (producedType w s)) → P (record { rule = 1; adds = bound c Lower u }))
+      → ((c : ℕ) → Memᴰ c (partners root l.flows) → (u : ArgType) → Memᴰ u (list_of (produced_type w s)) → P (record { rule = 1; adds = bound c Lower u }))
       → ((c : ℕ) → Memᴰ c (partners root l.flows) → (u : ArgType) → Memᴰ u s.fallback → P (record { rule = 2; adds = bound c Fallback u }))
       → ((c : ℕ) → Memᴰ c (partners root l.incoming) → (u : ArgType) → Memᴰ u (s.upper ++ s.exact) → P (record { rule = 3; adds = bound c Upper u }))
-      → ((p : Pair) → Memᴰ p l.reads → p.0 ≡ root → (u : ArgType) → Memᴰ u (list_of (arrayElement w s)) → P (record { rule = 4; adds = bound p.1 Exact u }))
-      → ((p : Pair) → Memᴰ p l.reads → p.1 ≡ root → (u : ArgType) → Memᴰ u (producedArray w s) → P (record { rule = 5; adds = bound p.0 Lower u }))
-      → ((p : Pair) → Memᴰ p l.writes → p.0 ≡ root → (u : ArgType) → Memᴰ u (list_of (arrayElement w s)) → P (record { rule = 6; adds = bound p.1 Upper u }))
-      → ((p : Pair) → Memᴰ p l.writes → p.1 ≡ root → (u : ArgType) → Memᴰ u (producedArray w s) → P (record { rule = 7; adds = bound p.0 Lower u }))
+      → ((p : Pair) → Memᴰ p l.reads → p.0 ≡ root → (u : ArgType) → Memᴰ u (list_of (array_element w s)) → P (record { rule = 4; adds = bound p.1 Exact u }))
+      → ((p : Pair) → Memᴰ p l.reads → p.1 ≡ root → (u : ArgType) → Memᴰ u (produced_array w s) → P (record { rule = 5; adds = bound p.0 Lower u }))
+      → ((p : Pair) → Memᴰ p l.writes → p.0 ≡ root → (u : ArgType) → Memᴰ u (list_of (array_element w s)) → P (record { rule = 6; adds = bound p.1 Upper u }))
+      → ((p : Pair) → Memᴰ p l.writes → p.1 ≡ root → (u : ArgType) → Memᴰ u (produced_array w s) → P (record { rule = 7; adds = bound p.0 Lower u }))
       → (a : Addition) → Memᴰ a (additions w l root s) → P a
   unfolding additions
   additions-by w l root s r1 r2 r3 r4 r5 r6 r7 a m =
-      ⊎_elim (each-by 1 Lower (list_of (producedType w s)) (partners root l.flows) r1 a)
+      ⊎_elim (each-by 1 Lower (list_of (produced_type w s)) (partners root l.flows) r1 a)
       (λ m2. ⊎_elim (each-by 2 Fallback s.fallback (partners root l.flows) r2 a)
       (λ m3. ⊎_elim (each-by 3 Upper (s.upper ++ s.exact) (partners root l.incoming) r3 a)
-      (λ m4. ⊎_elim (arrays-by 4 Exact (list_of (arrayElement w s)) 5 (producedArray w s) root l.reads r4 r5 a)
-      (arrays-by 6 Upper (list_of (arrayElement w s)) 7 (producedArray w s) root l.writes r6 r7 a)
-      (Memᴰ.append_cases (arrayRules 4 Exact (list_of (arrayElement w s)) 5 (producedArray w s) root l.reads) m4))
-      (Memᴰ.append_cases (toEach 3 Upper (s.upper ++ s.exact) (partners root l.incoming)) m3))
-      (Memᴰ.append_cases (toEach 2 Fallback s.fallback (partners root l.flows)) m2))
-      (Memᴰ.append_cases (toEach 1 Lower (list_of (producedType w s)) (partners root l.flows)) m)
+      (λ m4. ⊎_elim (arrays-by 4 Exact (list_of (array_element w s)) 5 (produced_array w s) root l.reads r4 r5 a)
+      (arrays-by 6 Upper (list_of (array_element w s)) 7 (produced_array w s) root l.writes r6 r7 a)
+      (Memᴰ.append_cases (array_rules 4 Exact (list_of (array_element w s)) 5 (produced_array w s) root l.reads) m4))
+      (Memᴰ.append_cases (to_each 3 Upper (s.upper ++ s.exact) (partners root l.incoming)) m3))
+      (Memᴰ.append_cases (to_each 2 Fallback s.fallback (partners root l.flows)) m2))
+      (Memᴰ.append_cases (to_each 1 Lower (list_of (produced_type w s)) (partners root l.flows)) m)
 
 -- a partner is the second of a pair
 pub partner-of : (c d : ℕ) (ps : List Pair) → Memᴰ d (partners c ps) → Memᴰ {A = Pair} (c, d) ps
@@ -179,15 +179,15 @@ list-of : (o : Option ArgType) (u : ArgType) → Memᴰ u (list_of o) → o ≡ 
 list-of none u m = absurd (Memᴰ.not-nil m)
 list-of (some t) u m = ⊎_elim (λ e. ap some (sym e)) (λ n. absurd (Memᴰ.not-nil n)) (Memᴰ.cases_cons m)
 
-array-of : (o : Option ArgType) (u : ArgType) → Memᴰ u (array_of (onlyConcrete o)) → (t : ArgType) × (o ≡ some t) × (u ≡ Array t)
+array-of : (o : Option ArgType) (u : ArgType) → Memᴰ u (array_of (only_concrete o)) → (t : ArgType) × (o ≡ some t) × (u ≡ Array t)
 array-of none u m = absurd (Memᴰ.not-nil m)
-array-of (some t) u m = go (isConcrete t) m
+array-of (some t) u m = go (is_concrete t) m
   where
     go : (b : Bool) → Memᴰ u (array_of (cond b (some t) none)) → (x : ArgType) × (some t ≡ some x) × (u ≡ Array x)
     go true n = ⊎_elim (λ e. (t, refl, e)) (λ k. absurd (Memᴰ.not-nil k)) (Memᴰ.cases_cons n)
     go false n = absurd (Memᴰ.not-nil n)
 
-element-of : (o : Option ArgType) (u : ArgType) → elementOf o ≡ some u → o ≡ some (Array u)
+element-of : (o : Option ArgType) (u : ArgType) → element_of o ≡ some u → o ≡ some (Array u)
 unfolding element
 element-of none u h = absurd (let z : ◌≡◌ {A = ℕ} 0 1 = cc in omega arith)
 element-of (some (Primitive k)) u h = absurd (let z : ◌≡◌ {A = ℕ} 0 1 = cc in omega arith)
@@ -197,7 +197,7 @@ element-of (some (Unknown cs)) u h = absurd (let z : ◌≡◌ {A = ℕ} 0 1 = c
 
 module _ (w : World) (good : Lawful w) where
   abbrev AllLegal : List ArgType → Type 0
-  AllLegal ts = (u : ArgType) → Memᴰ u ts → legalType w.names u ≡ true
+  AllLegal ts = (u : ArgType) → Memᴰ u ts → legal_type w.names u ≡ true
 
   pub record LegalState (s : TypeState) : Type 0 where
     pub exact : AllLegal s.exact
@@ -211,27 +211,27 @@ module _ (w : World) (good : Lawful w) where
   evidence-legal (t ∷ ts) lower e l = e
 
   module _ (s : TypeState) (y : LegalState s) where
-    pub produced-legal : (u : ArgType) → producedType w s ≡ some u → legalType w.names u ≡ true
-    unfolding producedType
-    produced-legal u h = joinAll-legal w good (evidence s.exact s.lower) u h (evidence-legal s.exact s.lower y.exact y.lower)
+    pub produced-legal : (u : ArgType) → produced_type w s ≡ some u → legal_type w.names u ≡ true
+    unfolding produced_type
+    produced-legal u h = join_all-legal w good (evidence s.exact s.lower) u h (evidence-legal s.exact s.lower y.exact y.lower)
 
-    array-base : (u : ArgType) → legalType w.names (Array u) ≡ true → legalAtBase w.names u ≡ true
-    unfolding legalAtBase
+    array-base : (u : ArgType) → legal_type w.names (Array u) ≡ true → legal_at_base w.names u ≡ true
+    unfolding legal_at_base
     array-base u h = legal-base w.names (Array u) h
 
-    element-base : (u : ArgType) → arrayElement w s ≡ some u → legalAtBase w.names u ≡ true
-    unfolding arrayElement
-    element-base u h = go (producedType w s) refl (element-of (or_else (producedType w s) (mostSpecificUpper w s.upper)) u h)
+    element-base : (u : ArgType) → array_element w s ≡ some u → legal_at_base w.names u ≡ true
+    unfolding array_element
+    element-base u h = go (produced_type w s) refl (element-of (or_else (produced_type w s) (most_specific_upper w s.upper)) u h)
       where
-        go : (o : Option ArgType) → producedType w s ≡ o → or_else o (mostSpecificUpper w s.upper) ≡ some (Array u) → legalAtBase w.names u ≡ true
+        go : (o : Option ArgType) → produced_type w s ≡ o → or_else o (most_specific_upper w s.upper) ≡ some (Array u) → legal_at_base w.names u ≡ true
         go none e k = array-base u (specific-legal w good s.upper (Array u) k y.upper)
         go (some t) e k = array-base u (produced-legal (Array u) (e ∙ k))
 
-    array-given : (u : ArgType) → Memᴰ u (producedArray w s) → legalAtBase w.names u ≡ true
-    unfolding producedArray legalAtBase
+    array-given : (u : ArgType) → Memᴰ u (produced_array w s) → legal_at_base w.names u ≡ true
+    unfolding produced_array legal_at_base
     array-given u m =
-        let r = array-of (producedType w s) u m in
-        ap (legalAtBase w.names) r.2 ∙ legal-base w.names r.0 (produced-legal r.0 r.1)
+        let r = array-of (produced_type w s) u m in
+        ap (legal_at_base w.names) r.2 ∙ legal-base w.names r.0 (produced-legal r.0 r.1)
 
     both-legal : AllLegal (s.upper ++ s.exact)
     both-legal u m = ⊎_elim (y.upper u) (y.exact u) (Memᴰ.append_cases s.upper m)
@@ -240,12 +240,12 @@ module _ (w : World) (good : Lawful w) where
     pub additions-given : (n : ℕ) (l : Links) → Among n l → (root : ℕ) → (a : Addition) → Memᴰ a (additions w l root s) → Given w.names n a.adds
     additions-given n l among root =
         additions-by (λ a. Given w.names n a.adds) w l root s
-        (λ c m u k. record { component = among.flows (root, c) (partner-of root c l.flows m); kind = omega arith; base = legal-base w.names u (produced-legal u (list-of (producedType w s) u k)) })
+        (λ c m u k. record { component = among.flows (root, c) (partner-of root c l.flows m); kind = omega arith; base = legal-base w.names u (produced-legal u (list-of (produced_type w s) u k)) })
         (λ c m u k. record { component = among.flows (root, c) (partner-of root c l.flows m); kind = omega arith; base = legal-base w.names u (y.fallback u k) })
         (λ c m u k. record { component = among.incoming (root, c) (partner-of root c l.incoming m); kind = omega arith; base = legal-base w.names u (both-legal u k) })
-        (λ p m e u k. record { component = (among.reads p m).1; kind = omega arith; base = element-base u (list-of (arrayElement w s) u k) })
+        (λ p m e u k. record { component = (among.reads p m).1; kind = omega arith; base = element-base u (list-of (array_element w s) u k) })
         (λ p m e u k. record { component = (among.reads p m).0; kind = omega arith; base = array-given u k })
-        (λ p m e u k. record { component = (among.writes p m).1; kind = omega arith; base = element-base u (list-of (arrayElement w s) u k) })
+        (λ p m e u k. record { component = (among.writes p m).1; kind = omega arith; base = element-base u (list-of (array_element w s) u k) })
         (λ p m e u k. record { component = (among.writes p m).0; kind = omega arith; base = array-given u k })
 
   module _ (n : ℕ) where

@@ -4,21 +4,21 @@ use Rattle.std.proofs.Math.Path.{ap}
 use Rattle.std.proofs.Common.{◌∙◌}
 use mathlib.Core.List.{List}
 use Rattle.columns.specs.Fold.{Row}
-use Rattle.columns.specs.Given.{noMarks}
-use Rattle.layercolumns.specs.Fold.{told, stackRun, stackStart, stack-fold}
+use Rattle.columns.specs.Given.{no_marks}
+use Rattle.layercolumns.specs.Fold.{told, stack_run, stack_start, stack-fold}
 use Rattle.tableview.specs.TableRows.{Rows}
-use Rattle.tableview.specs.Canonical.{columnsOf, tableRows, rows-held, rows_back}
-use Rattle.stackview.specs.LayerRows.{shownTable, shownIn}
-use Rattle.stackview.specs.Agrees.{stackIn}
+use Rattle.tableview.specs.Canonical.{columns_of, table_rows, rows-held, rows-back}
+use Rattle.stackview.specs.LayerRows.{shown_table, shown_in}
+use Rattle.stackview.specs.Agrees.{stack_in}
 
 module _ (t : Rows) where
-  pub stack_rows : stackIn (columnsOf t) ≡ told (stackRun (tableRows t) (stackStart noMarks))
-  unfolding stackIn
-  stack_rows =
-      stack-fold (columnsOf t).names (columnsOf t).name_at (columnsOf t).name_len (columnsOf t).parents (columnsOf t).rec_flags (columnsOf t).rec_class (columnsOf t).rec_at (columnsOf t).rec_len noMarks
-      ∙ ap (λ (rows : List Row). told (stackRun rows (stackStart noMarks))) (rows-held t)
+  pub stack-rows : stack_in (columns_of t) ≡ told (stack_run (table_rows t) (stack_start no_marks))
+  unfolding stack_in
+  stack-rows =
+      stack-fold (columns_of t).names (columns_of t).name_at (columns_of t).name_len (columns_of t).parents (columns_of t).rec_flags (columns_of t).rec_class (columns_of t).rec_at (columns_of t).rec_len no_marks
+      ∙ ap (λ (rows : List Row). told (stack_run rows (stack_start no_marks))) (rows-held t)
 
   -- and they show what the rows show
-  pub shown-back : shownIn (columnsOf t) ≡ shownTable t
-  unfolding shownIn
-  shown-back = ap shownTable (rows_back t)
+  pub shown-back : shown_in (columns_of t) ≡ shown_table t
+  unfolding shown_in
+  shown-back = ap shown_table (rows-back t)

@@ -6,9 +6,9 @@ use Rattle.std.proofs.Math.Option.{Option, some, none}
 use Rattle.std.proofs.Math.Decide.{ℕ_discrete}
 use Rattle.sorted.specs.Sorted.{put}
 use Rattle.view.specs.View.{View}
-use Rattle.tableview.specs.TableRows.{Record, isRecorded, listedParents, setOf, declares, lastDeclared, factFrom, any_flags, interfaceFlag, finalFlag, rowsView}
+use Rattle.tableview.specs.TableRows.{Record, is_recorded, listed_parents, set_of, declares, last_declared, fact_from, any_flags, interface_flag, final_flag, rows_view}
 use Rattle.tableview.specs.Taken.{fact-later}
-use Rattle.stackview.specs.LayerRows.{opensLayer, hasRecord, recordedAbove, hidden, shownRows}
+use Rattle.stackview.specs.LayerRows.{opens_layer, has_record, recorded_above, hidden, shown_rows}
 use Rattle.stackview.specs.Taken.{shown-recorded}
 
 -- ---- what one layer says, and a layer over a table
@@ -20,13 +20,13 @@ pub record Layer : Type 0 where
   pub interface : ℕ → Bool
   pub final : ℕ → Bool
 
-unfoldable pub layerOf : List Record → Layer
-layerOf rs = record {
-  recorded = λ c. isRecorded c rs;
-  parents = λ c. setOf (listedParents c rs);
-  declared = λ c. factFrom any_flags (lastDeclared c rs) false;
-  interface = λ c. factFrom interfaceFlag (lastDeclared c rs) false;
-  final = λ c. factFrom finalFlag (lastDeclared c rs) false;
+unfoldable pub layer_of : List Record → Layer
+layer_of rs = record {
+  recorded = λ c. is_recorded c rs;
+  parents = λ c. set_of (listed_parents c rs);
+  declared = λ c. fact_from any_flags (last_declared c rs) false;
+  interface = λ c. fact_from interface_flag (last_declared c rs) false;
+  final = λ c. fact_from final_flag (last_declared c rs) false;
 }
 
 -- a record hides the one below, and the facts are looked up apart from it
@@ -42,38 +42,38 @@ onto l v = record {
 }
 
 -- the layers of some rows: the lowest, and those above it
-unfoldable pub lowestLayer : List Record → List Record
-lowestLayer [] = []
-lowestLayer (r ∷ rs) = cond (opensLayer r) [] (r ∷ lowestLayer rs)
+unfoldable pub lowest_layer : List Record → List Record
+lowest_layer [] = []
+lowest_layer (r ∷ rs) = cond (opens_layer r) [] (r ∷ lowest_layer rs)
 
-unfoldable pub layersAbove : List Record → List (List Record)
-layersAbove [] = []
-layersAbove (r ∷ rs) = cond (opensLayer r) (lowestLayer rs ∷ layersAbove rs) (layersAbove rs)
+unfoldable pub layers_above : List Record → List (List Record)
+layers_above [] = []
+layers_above (r ∷ rs) = cond (opens_layer r) (lowest_layer rs ∷ layers_above rs) (layers_above rs)
 
 -- one layer over the other
 unfoldable pub through : View → List (List Record) → View
 through v [] = v
-through v (rs ∷ layers) = through (onto (layerOf rs) v) layers
+through v (rs ∷ layers) = through (onto (layer_of rs) v) layers
 
 -- ---- a lookup through layers, class by class
 
-recordedIn : ℕ → List (List Record) → Bool → Bool
-recordedIn c [] d = d
-recordedIn c (rs ∷ layers) d = recordedIn c layers (isRecorded c rs || d)
+recorded_in : ℕ → List (List Record) → Bool → Bool
+recorded_in c [] d = d
+recorded_in c (rs ∷ layers) d = recorded_in c layers (is_recorded c rs || d)
 
-parentsIn : ℕ → List (List Record) → List ℕ → List ℕ
-parentsIn c [] d = d
-parentsIn c (rs ∷ layers) d = parentsIn c layers (cond (isRecorded c rs) (setOf (listedParents c rs)) d)
+parents_in : ℕ → List (List Record) → List ℕ → List ℕ
+parents_in c [] d = d
+parents_in c (rs ∷ layers) d = parents_in c layers (cond (is_recorded c rs) (set_of (listed_parents c rs)) d)
 
-factIn : (ℕ → Bool) → ℕ → List (List Record) → Bool → Bool
-factIn f c [] d = d
-factIn f c (rs ∷ layers) d = factIn f c layers (factFrom f (lastDeclared c rs) d)
+fact_in : (ℕ → Bool) → ℕ → List (List Record) → Bool → Bool
+fact_in f c [] d = d
+fact_in f c (rs ∷ layers) d = fact_in f c layers (fact_from f (last_declared c rs) d)
 
-any_fact : (o : Option ℕ) (d : Bool) → (factFrom any_flags o false || d) ≡ factFrom any_flags o d
-any_fact none d = refl
-any_fact (some x) d = refl
+any-fact : (o : Option ℕ) (d : Bool) → (fact_from any_flags o false || d) ≡ fact_from any_flags o d
+any-fact none d = refl
+any-fact (some x) d = refl
 
-told-fact : (f : ℕ → Bool) (o : Option ℕ) (d : Bool) → cond (factFrom any_flags o false) (factFrom f o false) d ≡ factFrom f o d
+told-fact : (f : ℕ → Bool) (o : Option ℕ) (d : Bool) → cond (fact_from any_flags o false) (fact_from f o false) d ≡ fact_from f o d
 told-fact f none d = refl
 told-fact f (some x) d = refl
 
@@ -81,43 +81,43 @@ through-is : (v : View) (layers : List (List Record))
     → through v layers ≡ record {
       names = v.names;
       object = v.object;
-      recorded = λ c. recordedIn c layers (v.recorded c);
-      parents = λ c. parentsIn c layers (v.parents c);
-      declared = λ c. factIn any_flags c layers (v.declared c);
-      interface = λ c. factIn interfaceFlag c layers (v.interface c);
-      final = λ c. factIn finalFlag c layers (v.final c);
+      recorded = λ c. recorded_in c layers (v.recorded c);
+      parents = λ c. parents_in c layers (v.parents c);
+      declared = λ c. fact_in any_flags c layers (v.declared c);
+      interface = λ c. fact_in interface_flag c layers (v.interface c);
+      final = λ c. fact_in final_flag c layers (v.final c);
     }
-unfolding through layerOf recordedIn parentsIn factIn
+unfolding through layer_of recorded_in parents_in fact_in
 through-is v [] = refl
 through-is v (rs ∷ layers) =
-    through-is (onto (layerOf rs) v) layers
+    through-is (onto (layer_of rs) v) layers
     ∙ (λ i. record {
       names = v.names;
       object = v.object;
-      recorded = λ c. recordedIn c layers (isRecorded c rs || v.recorded c);
-      parents = λ c. parentsIn c layers (cond (isRecorded c rs) (setOf (listedParents c rs)) (v.parents c));
-      declared = λ c. factIn any_flags c layers (any_fact (lastDeclared c rs) (v.declared c) i);
-      interface = λ c. factIn interfaceFlag c layers (told-fact interfaceFlag (lastDeclared c rs) (v.interface c) i);
-      final = λ c. factIn finalFlag c layers (told-fact finalFlag (lastDeclared c rs) (v.final c) i);
+      recorded = λ c. recorded_in c layers (is_recorded c rs || v.recorded c);
+      parents = λ c. parents_in c layers (cond (is_recorded c rs) (set_of (listed_parents c rs)) (v.parents c));
+      declared = λ c. fact_in any_flags c layers (any-fact (last_declared c rs) (v.declared c) i);
+      interface = λ c. fact_in interface_flag c layers (told-fact interface_flag (last_declared c rs) (v.interface c) i);
+      final = λ c. fact_in final_flag c layers (told-fact final_flag (last_declared c rs) (v.final c) i);
     })
 
 -- ---- the layers of a row more
 
 module _ (r : Record) (rs : List Record) where
-  pub open-lowest : opensLayer r ≡ true → lowestLayer (r ∷ rs) ≡ []
-  unfolding lowestLayer
+  pub open-lowest : opens_layer r ≡ true → lowest_layer (r ∷ rs) ≡ []
+  unfolding lowest_layer
   open-lowest o = rw o
 
-  pub open-layers : opensLayer r ≡ true → layersAbove (r ∷ rs) ≡ lowestLayer rs ∷ layersAbove rs
-  unfolding layersAbove
+  pub open-layers : opens_layer r ≡ true → layers_above (r ∷ rs) ≡ lowest_layer rs ∷ layers_above rs
+  unfolding layers_above
   open-layers o = rw o
 
-  pub record-lowest : opensLayer r ≡ false → lowestLayer (r ∷ rs) ≡ r ∷ lowestLayer rs
-  unfolding lowestLayer
+  pub record-lowest : opens_layer r ≡ false → lowest_layer (r ∷ rs) ≡ r ∷ lowest_layer rs
+  unfolding lowest_layer
   record-lowest o = rw o
 
-  pub record-layers : opensLayer r ≡ false → layersAbove (r ∷ rs) ≡ layersAbove rs
-  unfolding layersAbove
+  pub record-layers : opens_layer r ≡ false → layers_above (r ∷ rs) ≡ layers_above rs
+  unfolding layers_above
   record-layers o = rw o
 
 -- ---- recorded
@@ -128,99 +128,99 @@ or-move true false d = refl
 or-move false b d = refl
 
 -- where no layer above records the class the lookup comes to the table below, else it does not
-recorded-split : (c : ℕ) (layers : List (List Record)) (d : Bool) → recordedIn c layers d ≡ (recordedIn c layers false || d)
-unfolding recordedIn
+recorded-split : (c : ℕ) (layers : List (List Record)) (d : Bool) → recorded_in c layers d ≡ (recorded_in c layers false || d)
+unfolding recorded_in
 recorded-split c [] d = refl
 recorded-split c (rs ∷ layers) d =
-    recorded-split c layers (isRecorded c rs || d) ∙ or_assoc (recordedIn c layers false) (isRecorded c rs) d
-    ∙ ap (λ (t : Bool). t || d) (sym (recorded-split c layers (isRecorded c rs || false) ∙ ap (λ (t : Bool). recordedIn c layers false || t) (or-false (isRecorded c rs))))
+    recorded-split c layers (is_recorded c rs || d) ∙ or-assoc (recorded_in c layers false) (is_recorded c rs) d
+    ∙ ap (λ (t : Bool). t || d) (sym (recorded-split c layers (is_recorded c rs || false) ∙ ap (λ (t : Bool). recorded_in c layers false || t) (or-false (is_recorded c rs))))
   where
-    or_assoc : (x y z : Bool) → (x || (y || z)) ≡ ((x || y) || z)
-    or_assoc true y z = refl
-    or_assoc false y z = refl
+    or-assoc : (x y z : Bool) → (x || (y || z)) ≡ ((x || y) || z)
+    or-assoc true y z = refl
+    or-assoc false y z = refl
 
     or-false : (x : Bool) → (x || false) ≡ x
     or-false true = refl
     or-false false = refl
 
 -- a class is recorded above exactly if a layer above records it
-mutual-has : (c : ℕ) (rs : List Record) → (hasRecord c rs ≡ recordedIn c (layersAbove rs) (isRecorded c (lowestLayer rs))) × (recordedAbove c rs ≡ recordedIn c (layersAbove rs) false)
-unfolding hasRecord recordedAbove lowestLayer layersAbove recordedIn isRecorded
+mutual-has : (c : ℕ) (rs : List Record) → (has_record c rs ≡ recorded_in c (layers_above rs) (is_recorded c (lowest_layer rs))) × (recorded_above c rs ≡ recorded_in c (layers_above rs) false)
+unfolding has_record recorded_above lowest_layer layers_above recorded_in is_recorded
 mutual-has c [] = (refl, refl)
-mutual-has c (r ∷ rs) = go (opensLayer r) (mutual-has c rs)
+mutual-has c (r ∷ rs) = go (opens_layer r) (mutual-has c rs)
   where
-    go : (o : Bool) → (hasRecord c rs ≡ recordedIn c (layersAbove rs) (isRecorded c (lowestLayer rs))) × (recordedAbove c rs ≡ recordedIn c (layersAbove rs) false)
-        → (cond o (hasRecord c rs) (eqb r.class c || hasRecord c rs) ≡ recordedIn c (cond o (lowestLayer rs ∷ layersAbove rs) (layersAbove rs)) (isRecorded c (cond o [] (r ∷ lowestLayer rs))))
-        × (cond o (hasRecord c rs) (recordedAbove c rs) ≡ recordedIn c (cond o (lowestLayer rs ∷ layersAbove rs) (layersAbove rs)) false)
-    go true ih = let e = ih.0 ∙ ap (recordedIn c (layersAbove rs)) (sym (or-none (isRecorded c (lowestLayer rs)))) in (e, e)
+    go : (o : Bool) → (has_record c rs ≡ recorded_in c (layers_above rs) (is_recorded c (lowest_layer rs))) × (recorded_above c rs ≡ recorded_in c (layers_above rs) false)
+        → (cond o (has_record c rs) (eqb r.class c || has_record c rs) ≡ recorded_in c (cond o (lowest_layer rs ∷ layers_above rs) (layers_above rs)) (is_recorded c (cond o [] (r ∷ lowest_layer rs))))
+        × (cond o (has_record c rs) (recorded_above c rs) ≡ recorded_in c (cond o (lowest_layer rs ∷ layers_above rs) (layers_above rs)) false)
+    go true ih = let e = ih.0 ∙ ap (recorded_in c (layers_above rs)) (sym (or-none (is_recorded c (lowest_layer rs)))) in (e, e)
       where
         or-none : (x : Bool) → (x || false) ≡ x
         or-none true = refl
         or-none false = refl
     go false ih = (
-      ap (λ (t : Bool). eqb r.class c || t) (ih.0 ∙ recorded-split c (layersAbove rs) (isRecorded c (lowestLayer rs)))
-          ∙ or-move (eqb r.class c) (recordedIn c (layersAbove rs) false) (isRecorded c (lowestLayer rs))
-          ∙ sym (recorded-split c (layersAbove rs) (eqb r.class c || isRecorded c (lowestLayer rs))),
+      ap (λ (t : Bool). eqb r.class c || t) (ih.0 ∙ recorded-split c (layers_above rs) (is_recorded c (lowest_layer rs)))
+          ∙ or-move (eqb r.class c) (recorded_in c (layers_above rs) false) (is_recorded c (lowest_layer rs))
+          ∙ sym (recorded-split c (layers_above rs) (eqb r.class c || is_recorded c (lowest_layer rs))),
       ih.1,
     )
 
-shown-recorded-in : (c : ℕ) (rs : List Record) → isRecorded c (shownRows rs) ≡ recordedIn c (layersAbove rs) (isRecorded c (lowestLayer rs))
+shown-recorded-in : (c : ℕ) (rs : List Record) → is_recorded c (shown_rows rs) ≡ recorded_in c (layers_above rs) (is_recorded c (lowest_layer rs))
 shown-recorded-in c rs = shown-recorded c rs ∙ (mutual-has c rs).0
 
 -- ---- facts
 
-shown-fact : (f : ℕ → Bool) (c : ℕ) (rs : List Record) (d : Bool) → factFrom f (lastDeclared c (shownRows rs)) d ≡ factIn f c (layersAbove rs) (factFrom f (lastDeclared c (lowestLayer rs)) d)
-unfolding shownRows lowestLayer layersAbove factIn lastDeclared
+shown-fact : (f : ℕ → Bool) (c : ℕ) (rs : List Record) (d : Bool) → fact_from f (last_declared c (shown_rows rs)) d ≡ fact_in f c (layers_above rs) (fact_from f (last_declared c (lowest_layer rs)) d)
+unfolding shown_rows lowest_layer layers_above fact_in last_declared
 shown-fact f c [] d = refl
-shown-fact f c (r ∷ rs) d = go (opensLayer r) (recordedAbove r.class rs) (shown-fact f c rs)
+shown-fact f c (r ∷ rs) d = go (opens_layer r) (recorded_above r.class rs) (shown-fact f c rs)
   where
-    go : (o h : Bool) → ((e : Bool) → factFrom f (lastDeclared c (shownRows rs)) e ≡ factIn f c (layersAbove rs) (factFrom f (lastDeclared c (lowestLayer rs)) e))
-        → factFrom f (lastDeclared c (cond o (shownRows rs) (hidden h r ∷ shownRows rs))) d
-        ≡ factIn f c (cond o (lowestLayer rs ∷ layersAbove rs) (layersAbove rs)) (factFrom f (lastDeclared c (cond o [] (r ∷ lowestLayer rs))) d)
+    go : (o h : Bool) → ((e : Bool) → fact_from f (last_declared c (shown_rows rs)) e ≡ fact_in f c (layers_above rs) (fact_from f (last_declared c (lowest_layer rs)) e))
+        → fact_from f (last_declared c (cond o (shown_rows rs) (hidden h r ∷ shown_rows rs))) d
+        ≡ fact_in f c (cond o (lowest_layer rs ∷ layers_above rs) (layers_above rs)) (fact_from f (last_declared c (cond o [] (r ∷ lowest_layer rs))) d)
     go true h ih = ih d
     go false true ih =
-        sym (fact-later f (lastDeclared c (shownRows rs)) (declares c r.flags r.class) d) ∙ ih (factFrom f (declares c r.flags r.class) d)
-        ∙ ap (factIn f c (layersAbove rs)) (fact-later f (lastDeclared c (lowestLayer rs)) (declares c r.flags r.class) d)
+        sym (fact-later f (last_declared c (shown_rows rs)) (declares c r.flags r.class) d) ∙ ih (fact_from f (declares c r.flags r.class) d)
+        ∙ ap (fact_in f c (layers_above rs)) (fact-later f (last_declared c (lowest_layer rs)) (declares c r.flags r.class) d)
     go false false ih =
-        sym (fact-later f (lastDeclared c (shownRows rs)) (declares c r.flags r.class) d) ∙ ih (factFrom f (declares c r.flags r.class) d)
-        ∙ ap (factIn f c (layersAbove rs)) (fact-later f (lastDeclared c (lowestLayer rs)) (declares c r.flags r.class) d)
+        sym (fact-later f (last_declared c (shown_rows rs)) (declares c r.flags r.class) d) ∙ ih (fact_from f (declares c r.flags r.class) d)
+        ∙ ap (fact_in f c (layers_above rs)) (fact-later f (last_declared c (lowest_layer rs)) (declares c r.flags r.class) d)
 
 -- ---- parents
 
 -- what is not recorded lists nothing
-unlisted : (c : ℕ) (rs : List Record) → isRecorded c rs ≡ false → listedParents c rs ≡ []
-unfolding isRecorded listedParents
+unlisted : (c : ℕ) (rs : List Record) → is_recorded c rs ≡ false → listed_parents c rs ≡ []
+unfolding is_recorded listed_parents
 unlisted c [] e = refl
 unlisted c (r ∷ rs) e = go (eqb r.class c) e (unlisted c rs)
   where
-    go : (t : Bool) → (t || isRecorded c rs) ≡ false → (isRecorded c rs ≡ false → listedParents c rs ≡ []) → cond t (r.parents ++ listedParents c rs) (listedParents c rs) ≡ []
+    go : (t : Bool) → (t || is_recorded c rs) ≡ false → (is_recorded c rs ≡ false → listed_parents c rs ≡ []) → cond t (r.parents ++ listed_parents c rs) (listed_parents c rs) ≡ []
     go true k ih = absurd (true≢false k)
     go false k ih = ih k
 
-set_rest : (ps xs ys : List ℕ) → setOf xs ≡ setOf ys → setOf (ps ++ xs) ≡ setOf (ps ++ ys)
-unfolding setOf
-set_rest [] xs ys e = e
-set_rest (p ∷ ps) xs ys e = ap (put p) (set_rest ps xs ys e)
+set-rest : (ps xs ys : List ℕ) → set_of xs ≡ set_of ys → set_of (ps ++ xs) ≡ set_of (ps ++ ys)
+unfolding set_of
+set-rest [] xs ys e = e
+set-rest (p ∷ ps) xs ys e = ap (put p) (set-rest ps xs ys e)
 
 -- a layer above that records the class hides what is below
-parents-hidden : (c : ℕ) (layers : List (List Record)) → recordedIn c layers false ≡ true → (d e : List ℕ) → parentsIn c layers d ≡ parentsIn c layers e
-unfolding recordedIn parentsIn
+parents-hidden : (c : ℕ) (layers : List (List Record)) → recorded_in c layers false ≡ true → (d e : List ℕ) → parents_in c layers d ≡ parents_in c layers e
+unfolding recorded_in parents_in
 parents-hidden c [] h d e = absurd (true≢false (sym h))
-parents-hidden c (rs ∷ layers) h d e = go (isRecorded c rs) h (λ k. parents-hidden c layers k d e)
+parents-hidden c (rs ∷ layers) h d e = go (is_recorded c rs) h (λ k. parents-hidden c layers k d e)
   where
-    go : (t : Bool) → recordedIn c layers (t || false) ≡ true → (recordedIn c layers false ≡ true → parentsIn c layers d ≡ parentsIn c layers e)
-        → parentsIn c layers (cond t (setOf (listedParents c rs)) d) ≡ parentsIn c layers (cond t (setOf (listedParents c rs)) e)
+    go : (t : Bool) → recorded_in c layers (t || false) ≡ true → (recorded_in c layers false ≡ true → parents_in c layers d ≡ parents_in c layers e)
+        → parents_in c layers (cond t (set_of (listed_parents c rs)) d) ≡ parents_in c layers (cond t (set_of (listed_parents c rs)) e)
     go true k ih = refl
     go false k ih = ih k
 
 -- where none does the lookup comes to it
-parents-below : (c : ℕ) (layers : List (List Record)) → recordedIn c layers false ≡ false → (d : List ℕ) → parentsIn c layers d ≡ d
-unfolding recordedIn parentsIn
+parents-below : (c : ℕ) (layers : List (List Record)) → recorded_in c layers false ≡ false → (d : List ℕ) → parents_in c layers d ≡ d
+unfolding recorded_in parents_in
 parents-below c [] h d = refl
-parents-below c (rs ∷ layers) h d = go (isRecorded c rs) h (λ k. parents-below c layers k d)
+parents-below c (rs ∷ layers) h d = go (is_recorded c rs) h (λ k. parents-below c layers k d)
   where
-    go : (t : Bool) → recordedIn c layers (t || false) ≡ false → (recordedIn c layers false ≡ false → parentsIn c layers d ≡ d) → parentsIn c layers (cond t (setOf (listedParents c rs)) d) ≡ d
-    go true k ih = absurd (true≢false (sym (recorded-split c layers true ∙ either (recordedIn c layers false)) ∙ k))
+    go : (t : Bool) → recorded_in c layers (t || false) ≡ false → (recorded_in c layers false ≡ false → parents_in c layers d ≡ d) → parents_in c layers (cond t (set_of (listed_parents c rs)) d) ≡ d
+    go true k ih = absurd (true≢false (sym (recorded-split c layers true ∙ either (recorded_in c layers false)) ∙ k))
       where
         either : (t : Bool) → (t || true) ≡ true
         either true = refl
@@ -228,69 +228,69 @@ parents-below c (rs ∷ layers) h d = go (isRecorded c rs) h (λ k. parents-belo
     go false k ih = ih k
 
 -- of a layer that does not record the class, what it lists
-listed-or-none : (c : ℕ) (rs : List Record) → cond (isRecorded c rs) (setOf (listedParents c rs)) [] ≡ setOf (listedParents c rs)
-unfolding setOf
-listed-or-none c rs = go (isRecorded c rs) refl
+listed-or-none : (c : ℕ) (rs : List Record) → cond (is_recorded c rs) (set_of (listed_parents c rs)) [] ≡ set_of (listed_parents c rs)
+unfolding set_of
+listed-or-none c rs = go (is_recorded c rs) refl
   where
-    go : (t : Bool) → isRecorded c rs ≡ t → cond t (setOf (listedParents c rs)) [] ≡ setOf (listedParents c rs)
+    go : (t : Bool) → is_recorded c rs ≡ t → cond t (set_of (listed_parents c rs)) [] ≡ set_of (listed_parents c rs)
     go true e = refl
-    go false e = sym (ap setOf (unlisted c rs e))
+    go false e = sym (ap set_of (unlisted c rs e))
 
-shown-parents : (c : ℕ) (rs : List Record) → setOf (listedParents c (shownRows rs)) ≡ parentsIn c (layersAbove rs) (setOf (listedParents c (lowestLayer rs)))
-unfolding shownRows lowestLayer layersAbove parentsIn listedParents setOf
+shown-parents : (c : ℕ) (rs : List Record) → set_of (listed_parents c (shown_rows rs)) ≡ parents_in c (layers_above rs) (set_of (listed_parents c (lowest_layer rs)))
+unfolding shown_rows lowest_layer layers_above parents_in listed_parents set_of
 shown-parents c [] = refl
-shown-parents c (r ∷ rs) = go (opensLayer r) (ℕ_discrete r.class c) (recordedAbove r.class rs) refl (shown-parents c rs)
+shown-parents c (r ∷ rs) = go (opens_layer r) (ℕ_discrete r.class c) (recorded_above r.class rs) refl (shown-parents c rs)
   where
-    above : (h : Bool) → recordedAbove r.class rs ≡ h → r.class ≡ c → recordedIn c (layersAbove rs) false ≡ h
-    above h e q = sym (mutual-has c rs).1 ∙ ap (λ (d : ℕ). recordedAbove d rs) (sym q) ∙ e
+    above : (h : Bool) → recorded_above r.class rs ≡ h → r.class ≡ c → recorded_in c (layers_above rs) false ≡ h
+    above h e q = sym (mutual-has c rs).1 ∙ ap (λ (d : ℕ). recorded_above d rs) (sym q) ∙ e
 
-    same : (h : Bool) → recordedAbove r.class rs ≡ h → r.class ≡ c → setOf (listedParents c (shownRows rs)) ≡ parentsIn c (layersAbove rs) (setOf (listedParents c (lowestLayer rs)))
-        → setOf ((hidden h r).parents ++ listedParents c (shownRows rs)) ≡ parentsIn c (layersAbove rs) (setOf (r.parents ++ listedParents c (lowestLayer rs)))
-    same true e q ih = ih ∙ parents-hidden c (layersAbove rs) (above true e q) (setOf (listedParents c (lowestLayer rs))) (setOf (r.parents ++ listedParents c (lowestLayer rs)))
+    same : (h : Bool) → recorded_above r.class rs ≡ h → r.class ≡ c → set_of (listed_parents c (shown_rows rs)) ≡ parents_in c (layers_above rs) (set_of (listed_parents c (lowest_layer rs)))
+        → set_of ((hidden h r).parents ++ listed_parents c (shown_rows rs)) ≡ parents_in c (layers_above rs) (set_of (r.parents ++ listed_parents c (lowest_layer rs)))
+    same true e q ih = ih ∙ parents-hidden c (layers_above rs) (above true e q) (set_of (listed_parents c (lowest_layer rs))) (set_of (r.parents ++ listed_parents c (lowest_layer rs)))
     same false e q ih =
         let none = above false e q in
-        set_rest r.parents (listedParents c (shownRows rs)) (listedParents c (lowestLayer rs)) (ih ∙ parents-below c (layersAbove rs) none (setOf (listedParents c (lowestLayer rs))))
-        ∙ sym (parents-below c (layersAbove rs) none (setOf (r.parents ++ listedParents c (lowestLayer rs))))
+        set-rest r.parents (listed_parents c (shown_rows rs)) (listed_parents c (lowest_layer rs)) (ih ∙ parents-below c (layers_above rs) none (set_of (listed_parents c (lowest_layer rs))))
+        ∙ sym (parents-below c (layers_above rs) none (set_of (r.parents ++ listed_parents c (lowest_layer rs))))
 
     class-kept : (h : Bool) → (hidden h r).class ≡ r.class
     class-kept true = refl
     class-kept false = refl
 
-    go : (o : Bool) → Dec (r.class ≡ c) → (h : Bool) → recordedAbove r.class rs ≡ h
-        → setOf (listedParents c (shownRows rs)) ≡ parentsIn c (layersAbove rs) (setOf (listedParents c (lowestLayer rs)))
-        → setOf (listedParents c (cond o (shownRows rs) (hidden h r ∷ shownRows rs)))
-        ≡ parentsIn c (cond o (lowestLayer rs ∷ layersAbove rs) (layersAbove rs)) (setOf (listedParents c (cond o [] (r ∷ lowestLayer rs))))
-    go true d h e ih = ih ∙ ap (parentsIn c (layersAbove rs)) (sym (listed-or-none c (lowestLayer rs)))
+    go : (o : Bool) → Dec (r.class ≡ c) → (h : Bool) → recorded_above r.class rs ≡ h
+        → set_of (listed_parents c (shown_rows rs)) ≡ parents_in c (layers_above rs) (set_of (listed_parents c (lowest_layer rs)))
+        → set_of (listed_parents c (cond o (shown_rows rs) (hidden h r ∷ shown_rows rs)))
+        ≡ parents_in c (cond o (lowest_layer rs ∷ layers_above rs) (layers_above rs)) (set_of (listed_parents c (cond o [] (r ∷ lowest_layer rs))))
+    go true d h e ih = ih ∙ ap (parents_in c (layers_above rs)) (sym (listed-or-none c (lowest_layer rs)))
     go false (yes q) h e ih = rw (class-kept h, eq-eqb r.class c q) (same h e q ih)
     go false (no n) h e ih = rw (class-kept h, ne_eqb r.class c n) ih
 
 -- THE ROWS THAT ARE SHOWN HAVE THE VIEW THROUGH THE LAYERS
 pub shown-through : (ns : List (List ℕ)) (rs : List Record)
-    → rowsView (record { names = ns; records = shownRows rs }) ≡ through (rowsView (record { names = ns; records = lowestLayer rs })) (layersAbove rs)
-unfolding rowsView
+    → rows_view (record { names = ns; records = shown_rows rs }) ≡ through (rows_view (record { names = ns; records = lowest_layer rs })) (layers_above rs)
+unfolding rows_view
 shown-through ns rs =
     (λ i. record {
-      names = (rowsView (record { names = ns; records = [] })).names;
-      object = (rowsView (record { names = ns; records = [] })).object;
+      names = (rows_view (record { names = ns; records = [] })).names;
+      object = (rows_view (record { names = ns; records = [] })).object;
       recorded = λ c. shown-recorded-in c rs i;
       parents = λ c. shown-parents c rs i;
       declared = λ c. shown-fact any_flags c rs false i;
-      interface = λ c. shown-fact interfaceFlag c rs false i;
-      final = λ c. shown-fact finalFlag c rs false i;
+      interface = λ c. shown-fact interface_flag c rs false i;
+      final = λ c. shown-fact final_flag c rs false i;
     })
-    ∙ sym (through-is (rowsView (record { names = ns; records = lowestLayer rs })) (layersAbove rs))
+    ∙ sym (through-is (rows_view (record { names = ns; records = lowest_layer rs })) (layers_above rs))
 
 -- A TABLE WITHOUT A ROW THAT OPENS A LAYER SHOWS ITS OWN ROWS
-abbrev pub noneOpens : List Record → Type 0
-noneOpens [] = Unit {0}
-noneOpens (r ∷ rs) = (opensLayer r ≡ false) × noneOpens rs
+abbrev pub none_opens : List Record → Type 0
+none_opens [] = Unit {0}
+none_opens (r ∷ rs) = (opens_layer r ≡ false) × none_opens rs
 
-none_above : (c : ℕ) (rs : List Record) → noneOpens rs → recordedAbove c rs ≡ false
-unfolding recordedAbove
-none_above c [] n = refl
-none_above c (r ∷ rs) n = rw n.0 (none_above c rs n.1)
+none-above : (c : ℕ) (rs : List Record) → none_opens rs → recorded_above c rs ≡ false
+unfolding recorded_above
+none-above c [] n = refl
+none-above c (r ∷ rs) n = rw n.0 (none-above c rs n.1)
 
-pub one-layer : (rs : List Record) → noneOpens rs → shownRows rs ≡ rs
-unfolding shownRows
+pub one-layer : (rs : List Record) → none_opens rs → shown_rows rs ≡ rs
+unfolding shown_rows
 one-layer [] n = refl
-one-layer (r ∷ rs) n = rw (n.0, none_above r.class rs n.1) (ap (λ (l : List Record). r ∷ l) (one-layer rs n.1))
+one-layer (r ∷ rs) n = rw (n.0, none-above r.class rs n.1) (ap (λ (l : List Record). r ∷ l) (one-layer rs n.1))

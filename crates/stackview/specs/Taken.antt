@@ -15,21 +15,21 @@ use borrow.Author.Tests.{eq-eqb, ne_eqb, eqb-true, eqb-false, lt-leb, leb-false}
 use Rattle.order.specs.Lists.{elem}
 use Rattle.sets.specs.Sets.{member}
 use Rattle.sets.specs.Laws.{member-empty, member-insert}
-use Rattle.tables.specs.Table.{namesRoom}
-use Rattle.rows.specs.Rows.{State, key, put_all, isMarked, recordMarks, withRecord}
+use Rattle.tables.specs.Table.{names_room}
+use Rattle.rows.specs.Rows.{State, key, put_all, is_marked, record_marks, with_record}
 use Rattle.rows.specs.Keys.{all-has}
 use Rattle.rows.specs.Laws.{Sound, GoodRecord, record-good, record-taken}
 use Rattle.columns.specs.Columns.{inside}
-use Rattle.layers.specs.Layers.{Layered, keysWithout, keysLeft, withLayerRecord, opened}
+use Rattle.layers.specs.Layers.{Layered, keys_without, keys_left, with_layer_record, opened}
 use Rattle.layers.specs.Laws.{elem-without, layer-taken}
-use Rattle.layers.specs.Stacks.{Stack, StackRan, ground, topKeys, stackRefusal, stackRow, openRefusal, openRow, Upright}
+use Rattle.layers.specs.Stacks.{Stack, StackRan, ground, top_keys, stack_refusal, stack_row, open_refusal, open_row, Upright}
 use Rattle.layers.specs.StackLaws.{upright-ground, upright-row, upright-open, row-lowest, row-layer, refusal-lowest, refusal-layer, refusal-top}
-use Rattle.layercolumns.specs.LayerColumns.{openFlags, openingRow, placedRow, stackRows}
-use Rattle.layercolumns.specs.Laws.{row-outside, row_opens, row-records, opening-classed, opening-listed, opening-good}
-use Rattle.tableview.specs.TableRows.{Record, isRecorded, listedParents, declares, later, lastDeclared, factFrom, any_flags, interfaceFlag, finalFlag, recordsOf}
+use Rattle.layercolumns.specs.LayerColumns.{open_flags, opening_row, placed_row, stack_rows}
+use Rattle.layercolumns.specs.Laws.{row-outside, row-opens, row-records, opening-classed, opening-listed, opening-good}
+use Rattle.tableview.specs.TableRows.{Record, is_recorded, listed_parents, declares, later, last_declared, fact_from, any_flags, interface_flag, final_flag, records_of}
 use Rattle.rows.specs.Marks.{declared-gives}
-use Rattle.tableview.specs.Taken.{SameNumbers, After, or_assoc, elem-append, elem_below, keys_of, recorded-step, fact-step, fact-later}
-use Rattle.stackview.specs.LayerRows.{opensLayer, hasRecord, recordedAbove, hidden, shownRows}
+use Rattle.tableview.specs.Taken.{SameNumbers, After, or-assoc, elem-append, elem-below, keys-of, recorded-step, fact-step, fact-later}
+use Rattle.stackview.specs.LayerRows.{opens_layer, has_record, recorded_above, hidden, shown_rows}
 
 -- ---- a record that is taken
 
@@ -38,26 +38,26 @@ unfoldable stays : Stack → ℕ → Bool
 stays s c = eqb s.under 0 || member s.top.own c
 
 -- the keys beside it
-abbrev keysBeside : Stack → ℕ → List ℕ
-keysBeside s c = cond (stays s c) s.top.shown.keys (keysWithout c s.top.shown.keys)
+abbrev keys_beside : Stack → ℕ → List ℕ
+keys_beside s c = cond (stays s c) s.top.shown.keys (keys_without c s.top.shown.keys)
 
-module _ (s : Stack) (g : Upright s) (flags class : ℕ) (parents : List ℕ) (z : stackRefusal s flags class parents ≡ 0) where
-  good : GoodRecord s.top.shown.tables.names (topKeys s) flags class parents
-  good = record-good s.top.shown.tables.names (topKeys s) flags class parents (sym (refusal-top s flags class parents) ∙ z)
+module _ (s : Stack) (g : Upright s) (flags class : ℕ) (parents : List ℕ) (z : stack_refusal s flags class parents ≡ 0) where
+  good : GoodRecord s.top.shown.tables.names (top_keys s) flags class parents
+  good = record-good s.top.shown.tables.names (top_keys s) flags class parents (sym (refusal-top s flags class parents) ∙ z)
 
   small : class < 1024
   small = omega (arith, good.class-in, g.few)
 
   beside : State
-  beside = record { tables = s.top.shown.tables; keys = keysBeside s class; marks = s.top.shown.marks }
+  beside = record { tables = s.top.shown.tables; keys = keys_beside s class; marks = s.top.shown.marks }
 
-  taken-shown : (stackRow s flags class parents).top.shown ≡ withRecord beside flags class parents
-  unfolding stays beside withLayerRecord keysLeft
+  taken-shown : (stack_row s flags class parents).top.shown ≡ with_record beside flags class parents
+  unfolding stays beside with_layer_record keys_left
   taken-shown = go (eqb s.under 0) refl
     where
       go : (t : Bool) → eqb s.under 0 ≡ t
-          → (stackRow s flags class parents).top.shown
-          ≡ withRecord (record { tables = s.top.shown.tables; keys = cond (t || member s.top.own class) s.top.shown.keys (keysWithout class s.top.shown.keys); marks = s.top.shown.marks }) flags class parents
+          → (stack_row s flags class parents).top.shown
+          ≡ with_record (record { tables = s.top.shown.tables; keys = cond (t || member s.top.own class) s.top.shown.keys (keys_without class s.top.shown.keys); marks = s.top.shown.marks }) flags class parents
       go true e =
           let u = eqb-true s.under 0 e in
           ap (λ (x : Stack). x.top.shown) (row-lowest s flags class parents u) ∙ record-taken s.top.shown flags class parents (sym (refusal-lowest s flags class parents u) ∙ z)
@@ -67,11 +67,11 @@ module _ (s : Stack) (g : Upright s) (flags class : ℕ) (parents : List ℕ) (z
           ∙ ap (λ (x : Layered). x.shown) (layer-taken s.top flags class parents (sym (refusal-layer s flags class parents n) ∙ z))
 
   -- afterwards what is there of the class stays, and of another as before
-  stays-now : stays (stackRow s flags class parents) class ≡ true
-  unfolding stays withLayerRecord
+  stays-now : stays (stack_row s flags class parents) class ≡ true
+  unfolding stays with_layer_record
   stays-now = go (eqb s.under 0) refl
     where
-      go : (t : Bool) → eqb s.under 0 ≡ t → (eqb (stackRow s flags class parents).under 0 || member (stackRow s flags class parents).top.own class) ≡ true
+      go : (t : Bool) → eqb s.under 0 ≡ t → (eqb (stack_row s flags class parents).under 0 || member (stack_row s flags class parents).top.own class) ≡ true
       go true e = ap (λ (x : Stack). eqb x.under 0 || member x.top.own class) (row-lowest s flags class parents (eqb-true s.under 0 e))
       go false e =
           let n = eqb-false s.under 0 e in
@@ -79,11 +79,11 @@ module _ (s : Stack) (g : Upright s) (flags class : ℕ) (parents : List ℕ) (z
           ∙ ap (λ (x : Layered). eqb s.under 0 || member x.own class) (layer-taken s.top flags class parents (sym (refusal-layer s flags class parents n) ∙ z))
           ∙ rw (e, member-insert s.top.own class class (let w = g.own-wide in let k = small in omega arith), eq-eqb class class refl)
 
-  stays-else : (c : ℕ) → (class ≡ c → ⊥) → stays (stackRow s flags class parents) c ≡ stays s c
-  unfolding stays withLayerRecord
+  stays-else : (c : ℕ) → (class ≡ c → ⊥) → stays (stack_row s flags class parents) c ≡ stays s c
+  unfolding stays with_layer_record
   stays-else c d = go (eqb s.under 0) refl
     where
-      go : (t : Bool) → eqb s.under 0 ≡ t → (eqb (stackRow s flags class parents).under 0 || member (stackRow s flags class parents).top.own c) ≡ (eqb s.under 0 || member s.top.own c)
+      go : (t : Bool) → eqb s.under 0 ≡ t → (eqb (stack_row s flags class parents).under 0 || member (stack_row s flags class parents).top.own c) ≡ (eqb s.under 0 || member s.top.own c)
       go true e = ap (λ (x : Stack). eqb x.under 0 || member x.top.own c) (row-lowest s flags class parents (eqb-true s.under 0 e)) ∙ rw e
       go false e =
           let n = eqb-false s.under 0 e in
@@ -95,16 +95,16 @@ module _ (s : Stack) (g : Upright s) (flags class : ℕ) (parents : List ℕ) (z
 
 -- what is there of a class goes where it is recorded again: by a layer above, or, where it does not stay, by any record
 abbrev covered : Stack → ℕ → List Record → Bool
-covered s c rs = cond (stays s c) (recordedAbove c rs) (hasRecord c rs)
+covered s c rs = cond (stays s c) (recorded_above c rs) (has_record c rs)
 
 -- the rows that are shown record what some row records
-pub shown-recorded : (c : ℕ) (rs : List Record) → isRecorded c (shownRows rs) ≡ hasRecord c rs
-unfolding isRecorded shownRows hasRecord
+pub shown-recorded : (c : ℕ) (rs : List Record) → is_recorded c (shown_rows rs) ≡ has_record c rs
+unfolding is_recorded shown_rows has_record
 shown-recorded c [] = refl
-shown-recorded c (r ∷ rs) = go (opensLayer r) (recordedAbove r.class rs) (shown-recorded c rs)
+shown-recorded c (r ∷ rs) = go (opens_layer r) (recorded_above r.class rs) (shown-recorded c rs)
   where
-    go : (o h : Bool) → isRecorded c (shownRows rs) ≡ hasRecord c rs
-        → isRecorded c (cond o (shownRows rs) (hidden h r ∷ shownRows rs)) ≡ cond o (hasRecord c rs) (eqb r.class c || hasRecord c rs)
+    go : (o h : Bool) → is_recorded c (shown_rows rs) ≡ has_record c rs
+        → is_recorded c (cond o (shown_rows rs) (hidden h r ∷ shown_rows rs)) ≡ cond o (has_record c rs) (eqb r.class c || has_record c rs)
     go true h e = e
     go false true e = ap (λ (t : Bool). eqb r.class c || t) e
     go false false e = ap (λ (t : Bool). eqb r.class c || t) e
@@ -112,23 +112,23 @@ shown-recorded c (r ∷ rs) = go (opensLayer r) (recordedAbove r.class rs) (show
 -- what rows make of a stack s, of whose classes some are covered: `rows` are those that are shown
 record Leaves (s : Stack) (rows : List Record) (gone : ℕ → Bool) (u : Stack) : Type 0 where
   pub numbers : SameNumbers u.top.shown.tables s.top.shown.tables
-  pub pairs : (c p : ℕ) → p < 1024 → elem (key c p) u.top.shown.keys ≡ (elem p (listedParents c rows) || (elem (key c p) s.top.shown.keys && not (gone c)))
-  pub recorded : (c : ℕ) → c < 1024 → isMarked 0 c u.top.shown.marks ≡ (isRecorded c rows || isMarked 0 c s.top.shown.marks)
-  pub declared : (c : ℕ) → c < 1024 → isMarked 1 c u.top.shown.marks ≡ factFrom any_flags (lastDeclared c rows) (isMarked 1 c s.top.shown.marks)
-  pub interface : (c : ℕ) → c < 1024 → isMarked 2 c u.top.shown.marks ≡ factFrom interfaceFlag (lastDeclared c rows) (isMarked 2 c s.top.shown.marks)
-  pub final : (c : ℕ) → c < 1024 → isMarked 3 c u.top.shown.marks ≡ factFrom finalFlag (lastDeclared c rows) (isMarked 3 c s.top.shown.marks)
+  pub pairs : (c p : ℕ) → p < 1024 → elem (key c p) u.top.shown.keys ≡ (elem p (listed_parents c rows) || (elem (key c p) s.top.shown.keys && not (gone c)))
+  pub recorded : (c : ℕ) → c < 1024 → is_marked 0 c u.top.shown.marks ≡ (is_recorded c rows || is_marked 0 c s.top.shown.marks)
+  pub declared : (c : ℕ) → c < 1024 → is_marked 1 c u.top.shown.marks ≡ fact_from any_flags (last_declared c rows) (is_marked 1 c s.top.shown.marks)
+  pub interface : (c : ℕ) → c < 1024 → is_marked 2 c u.top.shown.marks ≡ fact_from interface_flag (last_declared c rows) (is_marked 2 c s.top.shown.marks)
+  pub final : (c : ℕ) → c < 1024 → is_marked 3 c u.top.shown.marks ≡ fact_from final_flag (last_declared c rows) (is_marked 3 c s.top.shown.marks)
   -- every row is of classes of the table
-  pub class-in : (c : ℕ) → isRecorded c rows ≡ true → c < s.top.shown.tables.names
-  pub parent_in : (c p : ℕ) → elem p (listedParents c rows) ≡ true → (c < s.top.shown.tables.names) × (p < s.top.shown.tables.names)
+  pub class-in : (c : ℕ) → is_recorded c rows ≡ true → c < s.top.shown.tables.names
+  pub parent-in : (c p : ℕ) → elem p (listed_parents c rows) ≡ true → (c < s.top.shown.tables.names) × (p < s.top.shown.tables.names)
 
 abbrev StackAfter : Stack → List Record → Stack → Type 0
-StackAfter s rs u = Leaves s (shownRows rs) (λ c. covered s c rs) u
+StackAfter s rs u = Leaves s (shown_rows rs) (λ c. covered s c rs) u
 
 -- ---- no row
 
-after_none : (s : Stack) → StackAfter s [] s
-unfolding shownRows listedParents isRecorded lastDeclared elem hasRecord recordedAbove
-after_none s = record {
+after-none : (s : Stack) → StackAfter s [] s
+unfolding shown_rows listed_parents is_recorded last_declared elem has_record recorded_above
+after-none s = record {
   numbers = record { names = refl; bytes = refl; object = refl; cloneable = refl; serializable = refl };
   pairs = λ c p h. sym (stay (elem (key c p) s.top.shown.keys) (stays s c));
   recorded = λ c h. refl;
@@ -136,7 +136,7 @@ after_none s = record {
   interface = λ c h. refl;
   final = λ c h. refl;
   class-in = λ c h. absurd (false≢true h);
-  parent_in = λ c p h. absurd (false≢true h);
+  parent-in = λ c p h. absurd (false≢true h);
 }
   where
     stay : (e k : Bool) → (e && not (cond k false false)) ≡ e
@@ -146,97 +146,97 @@ after_none s = record {
 
 -- ---- a layer opened
 
-module _ (r : Record) (rs : List Record) (o : opensLayer r ≡ true) where
-  pub open-shown : shownRows (r ∷ rs) ≡ shownRows rs
-  unfolding shownRows
+module _ (r : Record) (rs : List Record) (o : opens_layer r ≡ true) where
+  pub open-shown : shown_rows (r ∷ rs) ≡ shown_rows rs
+  unfolding shown_rows
   open-shown = rw o
 
-  pub open-has : (c : ℕ) → hasRecord c (r ∷ rs) ≡ hasRecord c rs
-  unfolding hasRecord
+  pub open-has : (c : ℕ) → has_record c (r ∷ rs) ≡ has_record c rs
+  unfolding has_record
   open-has c = rw o
 
-  pub open_above : (c : ℕ) → recordedAbove c (r ∷ rs) ≡ hasRecord c rs
-  unfolding recordedAbove
-  open_above c = rw o
+  pub open-above : (c : ℕ) → recorded_above c (r ∷ rs) ≡ has_record c rs
+  unfolding recorded_above
+  open-above c = rw o
 
   -- what was there is below now, and goes by any record
   open-covered : (s : Stack) (c : ℕ) → covered (record { top = opened s.top.shown; under = s.under + 1 }) c rs ≡ covered s c (r ∷ rs)
   unfolding stays
   open-covered s c =
       rw (ne_eqb (s.under + 1) 0 (λ e. omega arith), member-empty 16 c)
-      (sym (ap₂ (λ (x y : Bool). cond (eqb s.under 0 || member s.top.own c) x y) (open_above c) (open-has c) ∙ either (eqb s.under 0 || member s.top.own c)))
+      (sym (ap₂ (λ (x y : Bool). cond (eqb s.under 0 || member s.top.own c) x y) (open-above c) (open-has c) ∙ either (eqb s.under 0 || member s.top.own c)))
     where
-      either : (t : Bool) → cond t (hasRecord c rs) (hasRecord c rs) ≡ hasRecord c rs
+      either : (t : Bool) → cond t (has_record c rs) (has_record c rs) ≡ has_record c rs
       either true = refl
       either false = refl
 
-  after_open : (s u : Stack) → StackAfter (record { top = opened s.top.shown; under = s.under + 1 }) rs u → StackAfter s (r ∷ rs) u
-  after_open s u a =
+  after-open : (s u : Stack) → StackAfter (record { top = opened s.top.shown; under = s.under + 1 }) rs u → StackAfter s (r ∷ rs) u
+  after-open s u a =
       subst (λ (rows : List Record). Leaves s rows (λ c. covered s c (r ∷ rs)) u) (sym open-shown) (record {
         numbers = a.numbers;
-        pairs = λ c p h. a.pairs c p h ∙ ap (λ (t : Bool). elem p (listedParents c (shownRows rs)) || (elem (key c p) s.top.shown.keys && not t)) (open-covered s c);
+        pairs = λ c p h. a.pairs c p h ∙ ap (λ (t : Bool). elem p (listed_parents c (shown_rows rs)) || (elem (key c p) s.top.shown.keys && not t)) (open-covered s c);
         recorded = a.recorded;
         declared = a.declared;
         interface = a.interface;
         final = a.final;
         class-in = a.class-in;
-        parent_in = a.parent_in;
+        parent-in = a.parent-in;
       })
 
 -- ---- a record taken
 
-module _ (r : Record) (rs : List Record) (o : opensLayer r ≡ false) where
-  pub record-shown : shownRows (r ∷ rs) ≡ hidden (recordedAbove r.class rs) r ∷ shownRows rs
-  unfolding shownRows
+module _ (r : Record) (rs : List Record) (o : opens_layer r ≡ false) where
+  pub record-shown : shown_rows (r ∷ rs) ≡ hidden (recorded_above r.class rs) r ∷ shown_rows rs
+  unfolding shown_rows
   record-shown = rw o
 
-  pub record-has : (c : ℕ) → hasRecord c (r ∷ rs) ≡ (eqb r.class c || hasRecord c rs)
-  unfolding hasRecord
+  pub record-has : (c : ℕ) → has_record c (r ∷ rs) ≡ (eqb r.class c || has_record c rs)
+  unfolding has_record
   record-has c = rw o
 
-  pub record-above : (c : ℕ) → recordedAbove c (r ∷ rs) ≡ recordedAbove c rs
-  unfolding recordedAbove
+  pub record-above : (c : ℕ) → recorded_above c (r ∷ rs) ≡ recorded_above c rs
+  unfolding recorded_above
   record-above c = rw o
 
   -- what the row lists where it is not hidden
-  hidden-parents : (c p : ℕ) (h : Bool) → elem p (listedParents c (hidden h r ∷ shownRows rs)) ≡ ((eqb r.class c && (not h && elem p r.parents)) || elem p (listedParents c (shownRows rs)))
-  unfolding listedParents elem
+  hidden-parents : (c p : ℕ) (h : Bool) → elem p (listed_parents c (hidden h r ∷ shown_rows rs)) ≡ ((eqb r.class c && (not h && elem p r.parents)) || elem p (listed_parents c (shown_rows rs)))
+  unfolding listed_parents elem
   hidden-parents c p true = go (eqb r.class c)
     where
-      go : (t : Bool) → elem p (cond t (listedParents c (shownRows rs)) (listedParents c (shownRows rs))) ≡ ((t && false) || elem p (listedParents c (shownRows rs)))
+      go : (t : Bool) → elem p (cond t (listed_parents c (shown_rows rs)) (listed_parents c (shown_rows rs))) ≡ ((t && false) || elem p (listed_parents c (shown_rows rs)))
       go true = refl
       go false = refl
   hidden-parents c p false = go (eqb r.class c)
     where
-      go : (t : Bool) → elem p (cond t (r.parents ++ listedParents c (shownRows rs)) (listedParents c (shownRows rs))) ≡ ((t && elem p r.parents) || elem p (listedParents c (shownRows rs)))
-      go true = elem-append p r.parents (listedParents c (shownRows rs))
+      go : (t : Bool) → elem p (cond t (r.parents ++ listed_parents c (shown_rows rs)) (listed_parents c (shown_rows rs))) ≡ ((t && elem p r.parents) || elem p (listed_parents c (shown_rows rs)))
+      go true = elem-append p r.parents (listed_parents c (shown_rows rs))
       go false = refl
 
-  pub hidden-recorded : (c : ℕ) (h : Bool) → isRecorded c (hidden h r ∷ shownRows rs) ≡ (eqb r.class c || isRecorded c (shownRows rs))
-  unfolding isRecorded
+  pub hidden-recorded : (c : ℕ) (h : Bool) → is_recorded c (hidden h r ∷ shown_rows rs) ≡ (eqb r.class c || is_recorded c (shown_rows rs))
+  unfolding is_recorded
   hidden-recorded c true = refl
   hidden-recorded c false = refl
 
-  pub hidden-declared : (c : ℕ) (h : Bool) → lastDeclared c (hidden h r ∷ shownRows rs) ≡ later (lastDeclared c (shownRows rs)) (declares c r.flags r.class)
-  unfolding lastDeclared
+  pub hidden-declared : (c : ℕ) (h : Bool) → last_declared c (hidden h r ∷ shown_rows rs) ≡ later (last_declared c (shown_rows rs)) (declares c r.flags r.class)
+  unfolding last_declared
   hidden-declared c true = refl
   hidden-declared c false = refl
 
 -- the keys of a class beside a record of it, and beside one of another class
 module _ (s : Stack) (c p : ℕ) (h : p < 1024) where
-  beside-own : elem (key c p) (keysBeside s c) ≡ (stays s c && elem (key c p) s.top.shown.keys)
+  beside-own : elem (key c p) (keys_beside s c) ≡ (stays s c && elem (key c p) s.top.shown.keys)
   beside-own = go (stays s c)
     where
-      go : (t : Bool) → elem (key c p) (cond t s.top.shown.keys (keysWithout c s.top.shown.keys)) ≡ (t && elem (key c p) s.top.shown.keys)
+      go : (t : Bool) → elem (key c p) (cond t s.top.shown.keys (keys_without c s.top.shown.keys)) ≡ (t && elem (key c p) s.top.shown.keys)
       go true = refl
-      go false = elem-without (key c p) c s.top.shown.keys ∙ rw (eq-eqb (key c p / namesRoom) c (omega arith))
+      go false = elem-without (key c p) c s.top.shown.keys ∙ rw (eq-eqb (key c p / names_room) c (omega arith))
 
-  beside-other : (d : ℕ) → (d ≡ c → ⊥) → elem (key c p) (keysBeside s d) ≡ elem (key c p) s.top.shown.keys
+  beside-other : (d : ℕ) → (d ≡ c → ⊥) → elem (key c p) (keys_beside s d) ≡ elem (key c p) s.top.shown.keys
   beside-other d n = go (stays s d)
     where
-      go : (t : Bool) → elem (key c p) (cond t s.top.shown.keys (keysWithout d s.top.shown.keys)) ≡ elem (key c p) s.top.shown.keys
+      go : (t : Bool) → elem (key c p) (cond t s.top.shown.keys (keys_without d s.top.shown.keys)) ≡ elem (key c p) s.top.shown.keys
       go true = refl
-      go false = elem-without (key c p) d s.top.shown.keys ∙ rw (ne_eqb (key c p / namesRoom) d (λ e. n (omega arith)))
+      go false = elem-without (key c p) d s.top.shown.keys ∙ rw (ne_eqb (key c p / names_room) d (λ e. n (omega arith)))
 
 own-pairs : (l p st e a : Bool) → (l || ((p || (st && e)) && not a)) ≡ (((not a && p) || l) || (e && not (cond st a true)))
 own-pairs true true true true true = refl
@@ -272,84 +272,84 @@ own-pairs false false false true false = refl
 own-pairs false false false false true = refl
 own-pairs false false false false false = refl
 
-module _ (s : Stack) (g : Upright s) (flags class : ℕ) (parents : List ℕ) (z : stackRefusal s flags class parents ≡ 0) (rs : List Record) (u : Stack)
-    (n : eqb flags openFlags ≡ false) (a : StackAfter (stackRow s flags class parents) rs u) where
+module _ (s : Stack) (g : Upright s) (flags class : ℕ) (parents : List ℕ) (z : stack_refusal s flags class parents ≡ 0) (rs : List Record) (u : Stack)
+    (n : eqb flags open_flags ≡ false) (a : StackAfter (stack_row s flags class parents) rs u) where
   row : Record
   row = record { flags = flags; class = class; parents = parents }
 
-  shown-is : (stackRow s flags class parents).top.shown ≡ withRecord (record { tables = s.top.shown.tables; keys = keysBeside s class; marks = s.top.shown.marks }) flags class parents
+  shown-is : (stack_row s flags class parents).top.shown ≡ with_record (record { tables = s.top.shown.tables; keys = keys_beside s class; marks = s.top.shown.marks }) flags class parents
   unfolding beside
   shown-is = taken-shown s g flags class parents z
 
-  keys-are : (stackRow s flags class parents).top.shown.keys ≡ put_all class parents (keysBeside s class)
-  unfolding withRecord
+  keys-are : (stack_row s flags class parents).top.shown.keys ≡ put_all class parents (keys_beside s class)
+  unfolding with_record
   keys-are = ap (λ (x : State). x.keys) shown-is
 
-  marks-are : (stackRow s flags class parents).top.shown.marks ≡ recordMarks flags class s.top.shown.marks
-  unfolding withRecord
+  marks-are : (stack_row s flags class parents).top.shown.marks ≡ record_marks flags class s.top.shown.marks
+  unfolding with_record
   marks-are = ap (λ (x : State). x.marks) shown-is
 
-  names-are : (stackRow s flags class parents).top.shown.tables.names ≡ s.top.shown.tables.names
-  unfolding withRecord
+  names-are : (stack_row s flags class parents).top.shown.tables.names ≡ s.top.shown.tables.names
+  unfolding with_record
   names-are = ap (λ (x : State). x.tables.names) shown-is
 
-  is-good : GoodRecord s.top.shown.tables.names (topKeys s) flags class parents
+  is-good : GoodRecord s.top.shown.tables.names (top_keys s) flags class parents
   is-good = good s g flags class parents z
 
   is-small : class < 1024
   is-small = small s g flags class parents z
 
   -- of the keys after the record
-  key-now : (c p : ℕ) → p < 1024 → elem (key c p) (stackRow s flags class parents).top.shown.keys ≡ ((eqb class c && elem p parents) || elem (key c p) (keysBeside s class))
+  key-now : (c p : ℕ) → p < 1024 → elem (key c p) (stack_row s flags class parents).top.shown.keys ≡ ((eqb class c && elem p parents) || elem (key c p) (keys_beside s class))
   key-now c p h =
-      ap (elem (key c p)) keys-are ∙ all-has class (key c p) parents (keysBeside s class)
-      ∙ ap (λ (t : Bool). t || elem (key c p) (keysBeside s class)) (keys_of class c p parents h (λ i k. let x = is-good.parents-in i k in let y = g.few in omega arith))
+      ap (elem (key c p)) keys-are ∙ all-has class (key c p) parents (keys_beside s class)
+      ∙ ap (λ (t : Bool). t || elem (key c p) (keys_beside s class)) (keys-of class c p parents h (λ i k. let x = is-good.parents-in i k in let y = g.few in omega arith))
 
   pairs-step : (c p : ℕ) → p < 1024
-      → (elem p (listedParents c (shownRows rs)) || (elem (key c p) (stackRow s flags class parents).top.shown.keys && not (covered (stackRow s flags class parents) c rs)))
-      ≡ (elem p (listedParents c (hidden (recordedAbove class rs) row ∷ shownRows rs)) || (elem (key c p) s.top.shown.keys && not (covered s c (row ∷ rs))))
+      → (elem p (listed_parents c (shown_rows rs)) || (elem (key c p) (stack_row s flags class parents).top.shown.keys && not (covered (stack_row s flags class parents) c rs)))
+      ≡ (elem p (listed_parents c (hidden (recorded_above class rs) row ∷ shown_rows rs)) || (elem (key c p) s.top.shown.keys && not (covered s c (row ∷ rs))))
   unfolding row
   pairs-step c p h = go (ℕ_discrete class c)
     where
-      listed : elem p (listedParents c (hidden (recordedAbove class rs) row ∷ shownRows rs)) ≡ ((eqb class c && (not (recordedAbove class rs) && elem p parents)) || elem p (listedParents c (shownRows rs)))
-      listed = hidden-parents row rs n c p (recordedAbove class rs)
+      listed : elem p (listed_parents c (hidden (recorded_above class rs) row ∷ shown_rows rs)) ≡ ((eqb class c && (not (recorded_above class rs) && elem p parents)) || elem p (listed_parents c (shown_rows rs)))
+      listed = hidden-parents row rs n c p (recorded_above class rs)
 
       go : Dec (class ≡ c)
-          → (elem p (listedParents c (shownRows rs)) || (elem (key c p) (stackRow s flags class parents).top.shown.keys && not (covered (stackRow s flags class parents) c rs)))
-          ≡ (elem p (listedParents c (hidden (recordedAbove class rs) row ∷ shownRows rs)) || (elem (key c p) s.top.shown.keys && not (covered s c (row ∷ rs))))
+          → (elem p (listed_parents c (shown_rows rs)) || (elem (key c p) (stack_row s flags class parents).top.shown.keys && not (covered (stack_row s flags class parents) c rs)))
+          ≡ (elem p (listed_parents c (hidden (recorded_above class rs) row ∷ shown_rows rs)) || (elem (key c p) s.top.shown.keys && not (covered s c (row ∷ rs))))
       go (yes e) =
-          let lp = elem p (listedParents c (shownRows rs)) in
-          let now : elem (key c p) (stackRow s flags class parents).top.shown.keys ≡ (elem p parents || (stays s c && elem (key c p) s.top.shown.keys)) =
-          key-now c p h ∙ ap₂ (λ (x y : Bool). (x && elem p parents) || y) (eq-eqb class c e) (ap (λ (d : ℕ). elem (key c p) (keysBeside s d)) e ∙ beside-own s c p h) in
-          let cov : covered (stackRow s flags class parents) c rs ≡ recordedAbove c rs =
-          ap (λ (t : Bool). cond t (recordedAbove c rs) (hasRecord c rs)) (subst (λ (d : ℕ). stays (stackRow s flags class parents) d ≡ true) e (stays-now s g flags class parents z)) in
-          let right : covered s c (row ∷ rs) ≡ cond (stays s c) (recordedAbove c rs) true =
-          ap₂ (λ (x y : Bool). cond (stays s c) x y) (record-above row rs n c) (record-has row rs n c ∙ ap (λ (t : Bool). t || hasRecord c rs) (eq-eqb class c e)) in
+          let lp = elem p (listed_parents c (shown_rows rs)) in
+          let now : elem (key c p) (stack_row s flags class parents).top.shown.keys ≡ (elem p parents || (stays s c && elem (key c p) s.top.shown.keys)) =
+          key-now c p h ∙ ap₂ (λ (x y : Bool). (x && elem p parents) || y) (eq-eqb class c e) (ap (λ (d : ℕ). elem (key c p) (keys_beside s d)) e ∙ beside-own s c p h) in
+          let cov : covered (stack_row s flags class parents) c rs ≡ recorded_above c rs =
+          ap (λ (t : Bool). cond t (recorded_above c rs) (has_record c rs)) (subst (λ (d : ℕ). stays (stack_row s flags class parents) d ≡ true) e (stays-now s g flags class parents z)) in
+          let right : covered s c (row ∷ rs) ≡ cond (stays s c) (recorded_above c rs) true =
+          ap₂ (λ (x y : Bool). cond (stays s c) x y) (record-above row rs n c) (record-has row rs n c ∙ ap (λ (t : Bool). t || has_record c rs) (eq-eqb class c e)) in
           ap₂ (λ (x y : Bool). lp || (x && not y)) now cov
-          ∙ own-pairs lp (elem p parents) (stays s c) (elem (key c p) s.top.shown.keys) (recordedAbove c rs)
-          ∙ sym (ap₂ (λ (x y : Bool). x || (elem (key c p) s.top.shown.keys && not y)) (listed ∙ ap₂ (λ (x y : Bool). (x && (not y && elem p parents)) || lp) (eq-eqb class c e) (ap (λ (d : ℕ). recordedAbove d rs) e)) right)
+          ∙ own-pairs lp (elem p parents) (stays s c) (elem (key c p) s.top.shown.keys) (recorded_above c rs)
+          ∙ sym (ap₂ (λ (x y : Bool). x || (elem (key c p) s.top.shown.keys && not y)) (listed ∙ ap₂ (λ (x y : Bool). (x && (not y && elem p parents)) || lp) (eq-eqb class c e) (ap (λ (d : ℕ). recorded_above d rs) e)) right)
       go (no d) =
-          let lp = elem p (listedParents c (shownRows rs)) in
-          let now : elem (key c p) (stackRow s flags class parents).top.shown.keys ≡ elem (key c p) s.top.shown.keys =
+          let lp = elem p (listed_parents c (shown_rows rs)) in
+          let now : elem (key c p) (stack_row s flags class parents).top.shown.keys ≡ elem (key c p) s.top.shown.keys =
           key-now c p h ∙ ap₂ (λ (x y : Bool). (x && elem p parents) || y) (ne_eqb class c d) (beside-other s c p h class d) in
-          let cov : covered (stackRow s flags class parents) c rs ≡ covered s c rs = ap (λ (t : Bool). cond t (recordedAbove c rs) (hasRecord c rs)) (stays-else s g flags class parents z c d) in
+          let cov : covered (stack_row s flags class parents) c rs ≡ covered s c rs = ap (λ (t : Bool). cond t (recorded_above c rs) (has_record c rs)) (stays-else s g flags class parents z c d) in
           let right : covered s c (row ∷ rs) ≡ covered s c rs =
-          ap₂ (λ (x y : Bool). cond (stays s c) x y) (record-above row rs n c) (record-has row rs n c ∙ ap (λ (t : Bool). t || hasRecord c rs) (ne_eqb class c d)) in
+          ap₂ (λ (x y : Bool). cond (stays s c) x y) (record-above row rs n c) (record-has row rs n c ∙ ap (λ (t : Bool). t || has_record c rs) (ne_eqb class c d)) in
           ap₂ (λ (x y : Bool). lp || (x && not y)) now cov
-          ∙ sym (ap₂ (λ (x y : Bool). x || (elem (key c p) s.top.shown.keys && not y)) (listed ∙ ap (λ (x : Bool). (x && (not (recordedAbove class rs) && elem p parents)) || lp) (ne_eqb class c d)) right)
+          ∙ sym (ap₂ (λ (x y : Bool). x || (elem (key c p) s.top.shown.keys && not y)) (listed ∙ ap (λ (x : Bool). (x && (not (recorded_above class rs) && elem p parents)) || lp) (ne_eqb class c d)) right)
 
-  marked_step : (k : ℕ) (f : ℕ → Bool) → 1 ≤ k → (c : ℕ) → c < 1024 → (flags % 2 ≡ 1 → isMarked k class (recordMarks flags class s.top.shown.marks) ≡ f flags)
-      → isMarked k c u.top.shown.marks ≡ factFrom f (lastDeclared c (shownRows rs)) (isMarked k c (stackRow s flags class parents).top.shown.marks)
-      → isMarked k c u.top.shown.marks ≡ factFrom f (lastDeclared c (hidden (recordedAbove class rs) row ∷ shownRows rs)) (isMarked k c s.top.shown.marks)
+  marked-step : (k : ℕ) (f : ℕ → Bool) → 1 ≤ k → (c : ℕ) → c < 1024 → (flags % 2 ≡ 1 → is_marked k class (record_marks flags class s.top.shown.marks) ≡ f flags)
+      → is_marked k c u.top.shown.marks ≡ fact_from f (last_declared c (shown_rows rs)) (is_marked k c (stack_row s flags class parents).top.shown.marks)
+      → is_marked k c u.top.shown.marks ≡ fact_from f (last_declared c (hidden (recorded_above class rs) row ∷ shown_rows rs)) (is_marked k c s.top.shown.marks)
   unfolding row
-  marked_step k f b c h law e =
-      e ∙ ap (λ (m : List ℕ). factFrom f (lastDeclared c (shownRows rs)) (isMarked k c m)) marks-are
-      ∙ ap (factFrom f (lastDeclared c (shownRows rs))) (fact-step flags class s.top.shown.marks is-small g.wide c h k f b law)
-      ∙ fact-later f (lastDeclared c (shownRows rs)) (declares c flags class) (isMarked k c s.top.shown.marks)
-      ∙ ap (λ (o : Option ℕ). factFrom f o (isMarked k c s.top.shown.marks)) (sym (hidden-declared row rs n c (recordedAbove class rs)))
+  marked-step k f b c h law e =
+      e ∙ ap (λ (m : List ℕ). fact_from f (last_declared c (shown_rows rs)) (is_marked k c m)) marks-are
+      ∙ ap (fact_from f (last_declared c (shown_rows rs))) (fact-step flags class s.top.shown.marks is-small g.wide c h k f b law)
+      ∙ fact-later f (last_declared c (shown_rows rs)) (declares c flags class) (is_marked k c s.top.shown.marks)
+      ∙ ap (λ (o : Option ℕ). fact_from f o (is_marked k c s.top.shown.marks)) (sym (hidden-declared row rs n c (recorded_above class rs)))
 
   after-record : StackAfter s (row ∷ rs) u
-  unfolding row withRecord
+  unfolding row with_record
   after-record =
       subst (λ (rows : List Record). Leaves s rows (λ c. covered s c (row ∷ rs)) u) (sym (record-shown row rs n)) (record {
         numbers = record {
@@ -361,32 +361,32 @@ module _ (s : Stack) (g : Upright s) (flags class : ℕ) (parents : List ℕ) (z
         };
         pairs = λ c p h. a.pairs c p h ∙ pairs-step c p h;
         recorded = λ c h.
-            a.recorded c h ∙ ap (λ (m : List ℕ). isRecorded c (shownRows rs) || isMarked 0 c m) marks-are
-            ∙ ap (λ (t : Bool). isRecorded c (shownRows rs) || t) (recorded-step flags class s.top.shown.marks is-small g.wide c h)
-            ∙ or_assoc (isRecorded c (shownRows rs)) (eqb class c) (isMarked 0 c s.top.shown.marks)
-            ∙ ap (λ (t : Bool). t || isMarked 0 c s.top.shown.marks) (sym (hidden-recorded row rs n c (recordedAbove class rs)));
-        declared = λ c h. marked_step 1 any_flags (omega arith) c h (λ d. (declared-gives flags class s.top.shown.marks is-small g.wide d).0) (a.declared c h);
-        interface = λ c h. marked_step 2 interfaceFlag (omega arith) c h (λ d. (declared-gives flags class s.top.shown.marks is-small g.wide d).1) (a.interface c h);
-        final = λ c h. marked_step 3 finalFlag (omega arith) c h (λ d. (declared-gives flags class s.top.shown.marks is-small g.wide d).2) (a.final c h);
-        class-in = λ c h. class-go c (eqb class c) refl (sym (hidden-recorded row rs n c (recordedAbove class rs)) ∙ h);
-        parent_in = λ c p h. parent-go c p (eqb class c) refl (recordedAbove class rs) (elem p parents) refl (sym (hidden-parents row rs n c p (recordedAbove class rs)) ∙ h);
+            a.recorded c h ∙ ap (λ (m : List ℕ). is_recorded c (shown_rows rs) || is_marked 0 c m) marks-are
+            ∙ ap (λ (t : Bool). is_recorded c (shown_rows rs) || t) (recorded-step flags class s.top.shown.marks is-small g.wide c h)
+            ∙ or-assoc (is_recorded c (shown_rows rs)) (eqb class c) (is_marked 0 c s.top.shown.marks)
+            ∙ ap (λ (t : Bool). t || is_marked 0 c s.top.shown.marks) (sym (hidden-recorded row rs n c (recorded_above class rs)));
+        declared = λ c h. marked-step 1 any_flags (omega arith) c h (λ d. (declared-gives flags class s.top.shown.marks is-small g.wide d).0) (a.declared c h);
+        interface = λ c h. marked-step 2 interface_flag (omega arith) c h (λ d. (declared-gives flags class s.top.shown.marks is-small g.wide d).1) (a.interface c h);
+        final = λ c h. marked-step 3 final_flag (omega arith) c h (λ d. (declared-gives flags class s.top.shown.marks is-small g.wide d).2) (a.final c h);
+        class-in = λ c h. class-go c (eqb class c) refl (sym (hidden-recorded row rs n c (recorded_above class rs)) ∙ h);
+        parent-in = λ c p h. parent-go c p (eqb class c) refl (recorded_above class rs) (elem p parents) refl (sym (hidden-parents row rs n c p (recorded_above class rs)) ∙ h);
       })
     where
-      class-go : (c : ℕ) (t : Bool) → eqb class c ≡ t → (t || isRecorded c (shownRows rs)) ≡ true → c < s.top.shown.tables.names
+      class-go : (c : ℕ) (t : Bool) → eqb class c ≡ t → (t || is_recorded c (shown_rows rs)) ≡ true → c < s.top.shown.tables.names
       class-go c true e h = let x = eqb-true class c e in let y = is-good.class-in in omega arith
       class-go c false e h = let x = a.class-in c h in let y = names-are in omega arith
 
-      parent-go : (c p : ℕ) (t : Bool) → eqb class c ≡ t → (k b : Bool) → elem p parents ≡ b → ((t && (not k && b)) || elem p (listedParents c (shownRows rs))) ≡ true
+      parent-go : (c p : ℕ) (t : Bool) → eqb class c ≡ t → (k b : Bool) → elem p parents ≡ b → ((t && (not k && b)) || elem p (listed_parents c (shown_rows rs))) ≡ true
           → (c < s.top.shown.tables.names) × (p < s.top.shown.tables.names)
-      parent-go c p true e false true m h = (let x = eqb-true class c e in let y = is-good.class-in in omega arith, elem_below s.top.shown.tables.names p parents is-good.parents-in m)
-      parent-go c p true e true b m h = let x = a.parent_in c p h in let y = names-are in (omega arith, omega arith)
-      parent-go c p true e false false m h = let x = a.parent_in c p h in let y = names-are in (omega arith, omega arith)
-      parent-go c p false e k b m h = let x = a.parent_in c p h in let y = names-are in (omega arith, omega arith)
+      parent-go c p true e false true m h = (let x = eqb-true class c e in let y = is-good.class-in in omega arith, elem-below s.top.shown.tables.names p parents is-good.parents-in m)
+      parent-go c p true e true b m h = let x = a.parent-in c p h in let y = names-are in (omega arith, omega arith)
+      parent-go c p true e false false m h = let x = a.parent-in c p h in let y = names-are in (omega arith, omega arith)
+      parent-go c p false e k b m h = let x = a.parent-in c p h in let y = names-are in (omega arith, omega arith)
 
 -- ---- all rows
 
 -- a row that is taken opens a layer, or is a record that is not refused
-module _ (parents : List ℕ) (f c a l : ℕ) (s : Stack) (z : (placedRow parents f c a l s).refusal ≡ 0) where
+module _ (parents : List ℕ) (f c a l : ℕ) (s : Stack) (z : (placed_row parents f c a l s).refusal ≡ 0) where
   pub taken-inside : inside (length parents) a l ≡ true
   taken-inside = go (inside (length parents) a l) refl
     where
@@ -394,15 +394,15 @@ module _ (parents : List ℕ) (f c a l : ℕ) (s : Stack) (z : (placedRow parent
       go true e = refl
       go false e = absurd (let k = sym (ap (λ (x : StackRan). x.refusal) (row-outside parents f c a l s e)) ∙ z in omega arith)
 
-  module _ (e : eqb f openFlags ≡ true) where
-    opening : placedRow parents f c a l s ≡ openingRow c l s
-    opening = row_opens parents f c a l s taken-inside (eqb-true f openFlags e)
+  module _ (e : eqb f open_flags ≡ true) where
+    opening : placed_row parents f c a l s ≡ opening_row c l s
+    opening = row-opens parents f c a l s taken-inside (eqb-true f open_flags e)
 
     -- it is of class 0 and lists no parent
     pub opened-plain : (c ≡ 0) × (l ≡ 0)
     opened-plain = go (ℕ_discrete c 0) (ℕ_discrete l 0)
       where
-        told : (openingRow c l s).refusal ≡ 0
+        told : (opening_row c l s).refusal ≡ 0
         told = sym (ap (λ (x : StackRan). x.refusal) opening) ∙ z
 
         go : Dec (c ≡ 0) → Dec (l ≡ 0) → (c ≡ 0) × (l ≡ 0)
@@ -410,11 +410,11 @@ module _ (parents : List ℕ) (f c a l : ℕ) (s : Stack) (z : (placedRow parent
         go (yes p) (no q) = absurd (let k = sym (ap (λ (x : StackRan). x.refusal) (opening-listed c l s p q)) ∙ told in omega arith)
         go (no p) q = absurd (let k = sym (ap (λ (x : StackRan). x.refusal) (opening-classed c l s p)) ∙ told in omega arith)
 
-    pub opened-taken : (s.under < 3) × ((placedRow parents f c a l s).state ≡ record { top = opened s.top.shown; under = s.under + 1 })
-    unfolding openRefusal openRow
+    pub opened-taken : (s.under < 3) × ((placed_row parents f c a l s).state ≡ record { top = opened s.top.shown; under = s.under + 1 })
+    unfolding open_refusal open_row
     opened-taken = go (ℕ_discrete c 0) (ℕ_discrete l 0)
       where
-        told : (openingRow c l s).refusal ≡ 0
+        told : (opening_row c l s).refusal ≡ 0
         told = sym (ap (λ (x : StackRan). x.refusal) opening) ∙ z
 
         next : (b : Bool) → leb 3 s.under ≡ b → cond {A = ℕ} b 8 0 ≡ 0
@@ -422,7 +422,7 @@ module _ (parents : List ℕ) (f c a l : ℕ) (s : Stack) (z : (placedRow parent
         next true q k = absurd (omega arith)
         next false q k = (leb-false 3 s.under q, refl)
 
-        go : Dec (c ≡ 0) → Dec (l ≡ 0) → (s.under < 3) × ((placedRow parents f c a l s).state ≡ record { top = opened s.top.shown; under = s.under + 1 })
+        go : Dec (c ≡ 0) → Dec (l ≡ 0) → (s.under < 3) × ((placed_row parents f c a l s).state ≡ record { top = opened s.top.shown; under = s.under + 1 })
         go (yes p) (yes q) =
             let is = opening-good c l s p q in
             let w = next (leb 3 s.under) refl (sym (ap (λ (x : StackRan). x.refusal) is) ∙ told) in
@@ -430,60 +430,60 @@ module _ (parents : List ℕ) (f c a l : ℕ) (s : Stack) (z : (placedRow parent
         go (yes p) (no q) = absurd (let k = sym (ap (λ (x : StackRan). x.refusal) (opening-listed c l s p q)) ∙ told in omega arith)
         go (no p) q = absurd (let k = sym (ap (λ (x : StackRan). x.refusal) (opening-classed c l s p)) ∙ told in omega arith)
 
-  module _ (e : eqb f openFlags ≡ false) where
-    pub recording : (stackRefusal s f c (take l (drop a parents)) ≡ 0) × ((placedRow parents f c a l s).state ≡ stackRow s f c (take l (drop a parents)))
+  module _ (e : eqb f open_flags ≡ false) where
+    pub recording : (stack_refusal s f c (take l (drop a parents)) ≡ 0) × ((placed_row parents f c a l s).state ≡ stack_row s f c (take l (drop a parents)))
     recording =
-        let is = row-records parents f c a l s taken-inside (eqb-false f openFlags e) in
+        let is = row-records parents f c a l s taken-inside (eqb-false f open_flags e) in
         (sym (ap (λ (x : StackRan). x.refusal) is) ∙ z, ap (λ (x : StackRan). x.state) is)
 
   -- the stack stays upright
-  pub taken-upright : Upright s → Upright (placedRow parents f c a l s).state
-  unfolding openRow
-  taken-upright g = go (eqb f openFlags) refl
+  pub taken-upright : Upright s → Upright (placed_row parents f c a l s).state
+  unfolding open_row
+  taken-upright g = go (eqb f open_flags) refl
     where
-      go : (b : Bool) → eqb f openFlags ≡ b → Upright (placedRow parents f c a l s).state
+      go : (b : Bool) → eqb f open_flags ≡ b → Upright (placed_row parents f c a l s).state
       go true e = let w = opened-taken e in subst Upright (sym w.1) (rw (lt-leb 3 s.under w.0) at (upright-open s g))
       go false e = subst Upright (sym (recording e).1) (upright-row s f c (take l (drop a parents)) g)
 
   -- and comes to what the rows say, if the rest does
-  taken-after : Upright s → (rs : List Record) (u : Stack) → StackAfter (placedRow parents f c a l s).state rs u
+  taken-after : Upright s → (rs : List Record) (u : Stack) → StackAfter (placed_row parents f c a l s).state rs u
       → StackAfter s (record { flags = f; class = c; parents = take l (drop a parents) } ∷ rs) u
   unfolding row
-  taken-after g rs u after = go (eqb f openFlags) refl
+  taken-after g rs u after = go (eqb f open_flags) refl
     where
       r : Record
       r = record { flags = f; class = c; parents = take l (drop a parents) }
 
-      go : (b : Bool) → eqb f openFlags ≡ b → StackAfter s (r ∷ rs) u
-      go true e = after_open r rs e s u (subst (λ (x : Stack). StackAfter x rs u) (opened-taken e).1 after)
+      go : (b : Bool) → eqb f open_flags ≡ b → StackAfter s (r ∷ rs) u
+      go true e = after-open r rs e s u (subst (λ (x : Stack). StackAfter x rs u) (opened-taken e).1 after)
       go false e = after-record s g f c (take l (drop a parents)) (recording e).0 rs u e (subst (λ (x : Stack). StackAfter x rs u) (recording e).1 after)
 
-stack-after : (parents fs cs ats ls : List ℕ) (s : Stack) → Upright s → (stackRows parents fs cs ats ls s).refusal ≡ 0
-    → StackAfter s (recordsOf parents fs cs ats ls) (stackRows parents fs cs ats ls s).state
-unfolding stackRows recordsOf
-stack-after parents [] cs ats ls s g z = after_none s
-stack-after parents (f ∷ fs) [] ats ls s g z = after_none s
-stack-after parents (f ∷ fs) (c ∷ cs) [] ls s g z = after_none s
-stack-after parents (f ∷ fs) (c ∷ cs) (a ∷ ats) [] s g z = after_none s
+stack-after : (parents fs cs ats ls : List ℕ) (s : Stack) → Upright s → (stack_rows parents fs cs ats ls s).refusal ≡ 0
+    → StackAfter s (records_of parents fs cs ats ls) (stack_rows parents fs cs ats ls s).state
+unfolding stack_rows records_of
+stack-after parents [] cs ats ls s g z = after-none s
+stack-after parents (f ∷ fs) [] ats ls s g z = after-none s
+stack-after parents (f ∷ fs) (c ∷ cs) [] ls s g z = after-none s
+stack-after parents (f ∷ fs) (c ∷ cs) (a ∷ ats) [] s g z = after-none s
 stack-after parents (f ∷ fs) (c ∷ cs) (a ∷ ats) (l ∷ ls) s g z = go (eqb one.refusal 0) refl z (stack-after parents fs cs ats ls one.state)
   where
     one : StackRan
-    one = placedRow parents f c a l s
+    one = placed_row parents f c a l s
 
     rest : StackRan
-    rest = stackRows parents fs cs ats ls one.state
+    rest = stack_rows parents fs cs ats ls one.state
 
     go : (b : Bool) → eqb one.refusal 0 ≡ b → (cond b rest one).refusal ≡ 0
-        → (Upright one.state → rest.refusal ≡ 0 → StackAfter one.state (recordsOf parents fs cs ats ls) rest.state)
-        → StackAfter s (record { flags = f; class = c; parents = take l (drop a parents) } ∷ recordsOf parents fs cs ats ls) (cond b rest one).state
+        → (Upright one.state → rest.refusal ≡ 0 → StackAfter one.state (records_of parents fs cs ats ls) rest.state)
+        → StackAfter s (record { flags = f; class = c; parents = take l (drop a parents) } ∷ records_of parents fs cs ats ls) (cond b rest one).state
     go true e q ih =
         let t = eqb-true one.refusal 0 e in
-        taken-after parents f c a l s t g (recordsOf parents fs cs ats ls) rest.state (ih (taken-upright parents f c a l s t g) q)
+        taken-after parents f c a l s t g (records_of parents fs cs ats ls) rest.state (ih (taken-upright parents f c a l s t g) q)
     go false e q ih = absurd (eqb-false one.refusal 0 e q)
 
 -- WHAT ROWS THAT ARE TAKEN LEAVE of a table without pairs: what the rows that its layers show would leave as one plain table
-pub rows-after : (parents fs cs ats ls : List ℕ) (s : State) → Sound s → s.keys ≡ [] → (stackRows parents fs cs ats ls (ground s)).refusal ≡ 0
-    → After s (shownRows (recordsOf parents fs cs ats ls)) (stackRows parents fs cs ats ls (ground s)).state.top.shown
+pub rows-after : (parents fs cs ats ls : List ℕ) (s : State) → Sound s → s.keys ≡ [] → (stack_rows parents fs cs ats ls (ground s)).refusal ≡ 0
+    → After s (shown_rows (records_of parents fs cs ats ls)) (stack_rows parents fs cs ats ls (ground s)).state.top.shown
 unfolding elem
 rows-after parents fs cs ats ls s g e z =
     let a = stack-after parents fs cs ats ls (ground s) (upright-ground s g) z in
@@ -491,19 +491,19 @@ rows-after parents fs cs ats ls s g e z =
       numbers = a.numbers;
       pairs = λ c p h.
           a.pairs c p h
-          ∙ ap (λ (k : List ℕ). elem p (listedParents c (shownRows (recordsOf parents fs cs ats ls))) || (elem (key c p) k && not (covered (ground s) c (recordsOf parents fs cs ats ls)))) e
-          ∙ ap (λ (k : List ℕ). elem p (listedParents c (shownRows (recordsOf parents fs cs ats ls))) || elem (key c p) k) (sym e);
+          ∙ ap (λ (k : List ℕ). elem p (listed_parents c (shown_rows (records_of parents fs cs ats ls))) || (elem (key c p) k && not (covered (ground s) c (records_of parents fs cs ats ls)))) e
+          ∙ ap (λ (k : List ℕ). elem p (listed_parents c (shown_rows (records_of parents fs cs ats ls))) || elem (key c p) k) (sym e);
       recorded = a.recorded;
       declared = a.declared;
       interface = a.interface;
       final = a.final;
       class-in = a.class-in;
-      parent_in = a.parent_in;
+      parent-in = a.parent-in;
     }
 
 -- and the tables stay upright
-pub rows-upright : (parents fs cs ats ls : List ℕ) (s : Stack) → Upright s → (stackRows parents fs cs ats ls s).refusal ≡ 0 → Upright (stackRows parents fs cs ats ls s).state
-unfolding stackRows
+pub rows-upright : (parents fs cs ats ls : List ℕ) (s : Stack) → Upright s → (stack_rows parents fs cs ats ls s).refusal ≡ 0 → Upright (stack_rows parents fs cs ats ls s).state
+unfolding stack_rows
 rows-upright parents [] cs ats ls s g z = g
 rows-upright parents (f ∷ fs) [] ats ls s g z = g
 rows-upright parents (f ∷ fs) (c ∷ cs) [] ls s g z = g
@@ -511,10 +511,10 @@ rows-upright parents (f ∷ fs) (c ∷ cs) (a ∷ ats) [] s g z = g
 rows-upright parents (f ∷ fs) (c ∷ cs) (a ∷ ats) (l ∷ ls) s g z = go (eqb one.refusal 0) refl z (rows-upright parents fs cs ats ls one.state)
   where
     one : StackRan
-    one = placedRow parents f c a l s
+    one = placed_row parents f c a l s
 
     rest : StackRan
-    rest = stackRows parents fs cs ats ls one.state
+    rest = stack_rows parents fs cs ats ls one.state
 
     go : (b : Bool) → eqb one.refusal 0 ≡ b → (cond b rest one).refusal ≡ 0 → (Upright one.state → rest.refusal ≡ 0 → Upright rest.state) → Upright (cond b rest one).state
     go true e q ih = ih (taken-upright parents f c a l s (eqb-true one.refusal 0 e) g) q

@@ -12,7 +12,7 @@ use Rattle.frames.specs.Frames.{Store, Stepped}
 use Rattle.framestate.specs.declared.Numbers.{Numbers}
 use Rattle.framestate.specs.declared.Framed.{Framed}
 use Rattle.framestate.specs.FrameState.{Slices, Shows, Leaves}
-use Rattle.solveframe.specs.Parts.{part, problemRoom, slicesOf}
+use Rattle.solveframe.specs.Parts.{part, problem_room, slices_of}
 use Rattle.stepping.proofs.frame.Reads as frame
 use Rattle.stepping.proofs.frame.Kinds as frame-kinds
 
@@ -27,7 +27,7 @@ state-one s l l₁ l₂ n₁ n₂ p q =
     let g = p.flows-are ∙ sym q.flows-are in
     let h = p.uppers-are ∙ sym q.uppers-are in
     let j = p.reads-are ∙ sym q.reads-are in
-    let k = p.writes_are ∙ sym q.writes_are in (
+    let k = p.writes-are ∙ sym q.writes-are in (
       p.numbers-are ∙ sym q.numbers-are,
       λ i. record { last = b i; pairs = c i; marks = d i; variables = e i; bounds = f i; flows = g i; uppers = h i; reads = j i; writes = k i },
     )
@@ -40,7 +40,7 @@ shows-one step l l₁ l₂ a a₁ a₂ r₁ r₂ p q =
     let n = o.0 in (λ i. record { said = s i; numbers = n i }, o.1, p.answers-are ∙ sym q.answers-are)
 
 -- the rows are their six parts
-six : (l : List ℕ) → length l ≡ problemRoom → l ≡ part 0 2048 l ++ (part 2048 4096 l ++ (part 6144 2048 l ++ (part 8192 1024 l ++ (part 9216 1024 l ++ part 10240 1024 l))))
+six : (l : List ℕ) → length l ≡ problem_room → l ≡ part 0 2048 l ++ (part 2048 4096 l ++ (part 6144 2048 l ++ (part 8192 1024 l ++ (part 9216 1024 l ++ part 10240 1024 l))))
 six l h =
     let w = take_all 1024 (drop 10240 l) (let d = length-drop 10240 l in omega arith) in
     sym (take-append-drop 2048 l)
@@ -50,7 +50,7 @@ six l h =
     (drop-drop 2048 6144 l ∙ sym (take-append-drop 1024 (drop 8192 l)) ∙ ap (λ (z : List ℕ). part 8192 1024 l ++ z)
     (drop-drop 1024 8192 l ∙ sym (take-append-drop 1024 (drop 9216 l)) ∙ ap (λ (z : List ℕ). part 9216 1024 l ++ z) (drop-drop 1024 9216 l ∙ sym w)))))
 
-pub rows-one : (b₁ b₂ c₁ c₂ d₁ d₂ l m : List ℕ) → length l ≡ problemRoom → length m ≡ problemRoom → slicesOf b₁ c₁ d₁ l ≡ slicesOf b₂ c₂ d₂ m → l ≡ m
+pub rows-one : (b₁ b₂ c₁ c₂ d₁ d₂ l m : List ℕ) → length l ≡ problem_room → length m ≡ problem_room → slices_of b₁ c₁ d₁ l ≡ slices_of b₂ c₂ d₂ m → l ≡ m
 rows-one b₁ b₂ c₁ c₂ d₁ d₂ l m h k e =
     six l h ∙ ap (λ (s : Slices). s.variables ++ (s.bounds ++ (s.flows ++ (s.uppers ++ (s.reads ++ s.writes))))) e ∙ sym (six m k)
 

@@ -5,31 +5,31 @@ use Rattle.std.proofs.Math.Logic.{⊎_elim}
 use Rattle.std.proofs.Math.Dec.{leb}
 use borrow.Author.Tests.{ne_eqb, lt-leb, eqb-true, eqb-false, leb-true, ltb-false}
 use Rattle.order.specs.Truth.{both}
-use Rattle.checks.specs.Checks.{firstRefusal}
+use Rattle.checks.specs.Checks.{first_refusal}
 use Rattle.sorted.specs.Sorted.{Sorted}
 use Rattle.layers.specs.Stacks.{Holds}
 use Rattle.problems.specs.Kept.{keeps-bounds, keeps-flows, keeps-uppers, keeps-reads, keeps-writes}
-use Rattle.frames.specs.Frames.{badKind, goodLength, bad_order}
+use Rattle.frames.specs.Frames.{bad_kind, good_length, bad_order}
 use Rattle.framelaws.specs.Reached.{order-says}
 use Rattle.framestate.specs.declared.Numbers.{Numbers}
 use Rattle.framestate.specs.FrameState.{Slices, Ready}
 use Rattle.frameleaves.specs.Own.{own-layers, many-reads, many-writes}
-use Rattle.solveframe.specs.Parts.{part, slicesOf}
-use Rattle.frameheads.specs.Heads.{headRefusal}
+use Rattle.solveframe.specs.Parts.{part, slices_of}
+use Rattle.frameheads.specs.Heads.{head_refusal}
 
 -- ---- the head
 
 pub record Passed (k n rank : ℕ) : Type 0 where
   pub from : 1 ≤ k
   pub to : k ≤ 14
-  pub sized : goodLength k n ≡ true
+  pub sized : good_length k n ≡ true
   pub order : bad_order k rank ≡ false
 
-pub head-says : (k n rank : ℕ) → headRefusal k n rank ≡ 0 → Passed k n rank
-unfolding headRefusal firstRefusal badKind
-head-says k n rank h = go (eqb k 0) refl (ltb 14 k) refl (goodLength k n) refl (bad_order k rank) refl h
+pub head-says : (k n rank : ℕ) → head_refusal k n rank ≡ 0 → Passed k n rank
+unfolding head_refusal first_refusal bad_kind
+head-says k n rank h = go (eqb k 0) refl (ltb 14 k) refl (good_length k n) refl (bad_order k rank) refl h
   where
-    go : (a : Bool) → eqb k 0 ≡ a → (b : Bool) → ltb 14 k ≡ b → (c : Bool) → goodLength k n ≡ c → (d : Bool) → bad_order k rank ≡ d
+    go : (a : Bool) → eqb k 0 ≡ a → (b : Bool) → ltb 14 k ≡ b → (c : Bool) → good_length k n ≡ c → (d : Bool) → bad_order k rank ≡ d
         → ◌≡◌ {A = ℕ} (cond (a || b) 2 (cond (not c) 3 (cond d 4 0))) 0 → Passed k n rank
     go true ea b eb c ec d ed q = absurd (omega arith)
     go false ea true eb c ec d ed q = absurd (omega arith)
@@ -44,28 +44,28 @@ head-says k n rank h = go (eqb k 0) refl (ltb 14 k) refl (goodLength k n) refl (
 
 -- the length of a body, by kind
 module _ (n : ℕ) where
-  pub sized-1 : goodLength 1 n ≡ true → (1 ≤ n) × (n ≤ 255)
-  unfolding goodLength
+  pub sized-1 : good_length 1 n ≡ true → (1 ≤ n) × (n ≤ 255)
+  unfolding good_length
   sized-1 h = let z = both (leb 1 n) (leb n 255) h in (leb-true 1 n z.0, leb-true n 255 z.1)
 
-  pub sized-2 : goodLength 2 n ≡ true → (3 ≤ n) × (n % 2 ≡ 1) × (n ≤ 511)
-  unfolding goodLength
+  pub sized-2 : good_length 2 n ≡ true → (3 ≤ n) × (n % 2 ≡ 1) × (n ≤ 511)
+  unfolding good_length
   sized-2 h =
       let z = both (leb 3 n) (eqb (n % 2) 1 && leb n 511) h in
       let y = both (eqb (n % 2) 1) (leb n 511) z.1 in
       (leb-true 3 n z.0, eqb-true (n % 2) 1 y.0, leb-true n 511 y.1)
 
-  pub sized-two : (k : ℕ) → (k ≡ 3) ⊎ (k ≡ 4) → goodLength k n ≡ true → n ≡ 2
-  unfolding goodLength
-  sized-two k e = ⊎_elim (λ x h. eqb-true n 2 (ap (λ (j : ℕ). goodLength j n) (sym x) ∙ h)) (λ x h. eqb-true n 2 (ap (λ (j : ℕ). goodLength j n) (sym x) ∙ h)) e
+  pub sized-two : (k : ℕ) → (k ≡ 3) ⊎ (k ≡ 4) → good_length k n ≡ true → n ≡ 2
+  unfolding good_length
+  sized-two k e = ⊎_elim (λ x h. eqb-true n 2 (ap (λ (j : ℕ). good_length j n) (sym x) ∙ h)) (λ x h. eqb-true n 2 (ap (λ (j : ℕ). good_length j n) (sym x) ∙ h)) e
 
-  pub sized-5 : goodLength 5 n ≡ true → n ≡ 11
-  unfolding goodLength
+  pub sized-5 : good_length 5 n ≡ true → n ≡ 11
+  unfolding good_length
   sized-5 = eqb-true n 11
 
 -- two numbers
-pub sized-pair : (k n : ℕ) → 5 < k → (k ≡ 10 → ⊥) → (k ≡ 14 → ⊥) → goodLength k n ≡ true → n ≡ 4
-unfolding goodLength
+pub sized-pair : (k n : ℕ) → 5 < k → (k ≡ 10 → ⊥) → (k ≡ 14 → ⊥) → good_length k n ≡ true → n ≡ 4
+unfolding good_length
 sized-pair k n a b d h =
     eqb-true n 4
     (sym (λ i. cond (ne_eqb k 1 (λ e. omega arith) i) (leb 1 n && leb n 255) (cond (ne_eqb k 2 (λ e. omega arith) i) (leb 3 n && (eqb (n % 2) 1 && leb n 511)) (cond (lt-leb k 4 (omega arith) i) (eqb n 2) (cond (ne_eqb k 5 (λ e. omega arith) i) (eqb n 11) (cond (ne_eqb k 10 b i) (eqb n 0) (cond (ne_eqb k 14 d i) (eqb n 0) (eqb n 4)))))))
@@ -81,9 +81,9 @@ count-early rank h = let z = order-says 3 rank h in let y = z.1 refl in go rank 
 
 -- ---- the slices
 
-module _ (last pairs marks rows : List ℕ) (n : Numbers) (h : Ready (slicesOf last pairs marks rows) n) (size : ℕ) where
+module _ (last pairs marks rows : List ℕ) (n : Numbers) (h : Ready (slices_of last pairs marks rows) n) (size : ℕ) where
   abbrev l : Slices
-  l = slicesOf last pairs marks rows
+  l = slices_of last pairs marks rows
 
   few : n.stack.tables.names ≤ 1024
   few = h.sound.good.few

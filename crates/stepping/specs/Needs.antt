@@ -6,13 +6,13 @@ use Rattle.std.proofs.Math.Bool.{true, false}
 use Rattle.std.proofs.Math.Dec.{eqb, leb}
 use borrow.Author.Tests.{eqb-true, eqb-false, leb-true, leb-false, le-leb, lt-leb}
 use Rattle.sorted.specs.Sorted.{Sorted}
-use Rattle.tables.specs.Table.{namesRoom, marksRoom}
-use Rattle.layers.specs.Layers.{layersRoom}
+use Rattle.tables.specs.Table.{names_room, marks_room}
+use Rattle.layers.specs.Layers.{layers_room}
 use Rattle.layers.specs.Stacks.{Holds}
-use Rattle.frames.specs.Frames.{goodLength}
+use Rattle.frames.specs.Frames.{good_length}
 use Rattle.framestate.specs.declared.Numbers.{Numbers}
-use Rattle.solveframe.specs.Parts.{part, problemRoom}
-use Rattle.stepping.specs.Stepping.{Stands, classKind, Headed}
+use Rattle.solveframe.specs.Parts.{part, problem_room}
+use Rattle.stepping.specs.Stepping.{Stands, class_kind, Headed}
 use Rattle.stepping.specs.Asks.{Passed, head-says, sized-1, sized-2, sized-two, sized-5, sized-pair, name-asks, record-asks, variable-asks, bound-asks, flow-asks, upper-asks, read-asks, write-asks}
 
 -- two numbers that are written out: a subtraction compares them at once
@@ -20,35 +20,35 @@ pub below : {a b : ℕ} → a - b ≡ 0 → a ≤ b
 below {a} {b} e = omega arith
 
 -- a place up to which the rows are there
-pub inside : (e : ℕ) (rows : List ℕ) → length rows ≡ problemRoom → e ≤ problemRoom → e ≤ length rows
+pub inside : (e : ℕ) (rows : List ℕ) → length rows ≡ problem_room → e ≤ problem_room → e ≤ length rows
 inside e rows l h = subst (λ (k : ℕ). e ≤ k) (sym l) h
 
 -- ---- the last of some kinds, where the others were tested for
 
 module _ (k : ℕ) where
-  pub is-14 : classKind k ≡ true → 1 ≤ k → (k ≡ 1 → ⊥) → (k ≡ 2 → ⊥) → k ≡ 14
-  unfolding classKind
+  pub is-14 : class_kind k ≡ true → 1 ≤ k → (k ≡ 1 → ⊥) → (k ≡ 2 → ⊥) → k ≡ 14
+  unfolding class_kind
   is-14 h a b c = go (leb k 2) refl h
     where
       go : (t : Bool) → leb k 2 ≡ t → (t || eqb k 14) ≡ true → k ≡ 14
       go true e q = absurd (let z = leb-true k 2 e in omega arith)
       go false e q = eqb-true k 14 q
 
-  pub is_later : classKind k ≡ false → (3 ≤ k) × (k ≡ 14 → ⊥)
-  unfolding classKind
-  is_later h = go (leb k 2) refl h
+  pub is-later : class_kind k ≡ false → (3 ≤ k) × (k ≡ 14 → ⊥)
+  unfolding class_kind
+  is-later h = go (leb k 2) refl h
     where
       go : (t : Bool) → leb k 2 ≡ t → (t || eqb k 14) ≡ false → (3 ≤ k) × (k ≡ 14 → ⊥)
       go true e q = absurd (true≢false q)
       go false e q = (leb-false k 2 e, eqb-false k 14 q)
 
   -- as the code tests for them
-  pub class_low : k ≤ 2 → true ≡ classKind k
-  unfolding classKind
-  class_low h = sym (ap (λ (t : Bool). t || eqb k 14) (le-leb k 2 h))
+  pub class-low : k ≤ 2 → true ≡ class_kind k
+  unfolding class_kind
+  class-low h = sym (ap (λ (t : Bool). t || eqb k 14) (le-leb k 2 h))
 
-  pub class-high : 2 < k → eqb k 14 ≡ classKind k
-  unfolding classKind
+  pub class-high : 2 < k → eqb k 14 ≡ class_kind k
+  unfolding class_kind
   class-high h = sym (ap (λ (t : Bool). t || eqb k 14) (lt-leb k 2 h))
 
   pub is-5 : 3 ≤ k → k ≤ 5 → (k ≡ 3 → ⊥) → (k ≡ 4 → ⊥) → k ≡ 5
@@ -57,8 +57,8 @@ module _ (k : ℕ) where
   pub is-9 : 6 ≤ k → k ≤ 9 → (k ≡ 6 → ⊥) → (k ≡ 7 → ⊥) → (k ≡ 8 → ⊥) → k ≡ 9
   is-9 a b c d e = omega arith
 
-  pub is-13 : 11 ≤ k → k ≤ 14 → classKind k ≡ false → (k ≡ 11 → ⊥) → (k ≡ 12 → ⊥) → k ≡ 13
-  is-13 a b c d e = last (is_later c).1
+  pub is-13 : 11 ≤ k → k ≤ 14 → class_kind k ≡ false → (k ≡ 11 → ⊥) → (k ≡ 12 → ⊥) → k ≡ 13
+  is-13 a b c d e = last (is-later c).1
     where
       last : (k ≡ 14 → ⊥) → k ≡ 13
       last f = omega arith
@@ -70,11 +70,11 @@ module _ (kind : ℕ) (body last pairs marks rows : List ℕ) (n : Numbers) (s :
   pub passes : Passed kind (length body) n.rank
   passes = head-says kind (length body) n.rank q
 
-  sized-at : (k : ℕ) → kind ≡ k → goodLength k (length body) ≡ true
-  sized-at k e = ap (λ (j : ℕ). goodLength j (length body)) (sym e) ∙ passes.sized
+  sized-at : (k : ℕ) → kind ≡ k → good_length k (length body) ≡ true
+  sized-at k e = ap (λ (j : ℕ). good_length j (length body)) (sym e) ∙ passes.sized
 
-  pair_size : (k : ℕ) → kind ≡ k → 5 < k → (k ≡ 10 → ⊥) → (k ≡ 14 → ⊥) → length body ≡ 4
-  pair_size k e a b d = sized-pair k (length body) a b d (sized-at k e)
+  pair-size : (k : ℕ) → kind ≡ k → 5 < k → (k ≡ 10 → ⊥) → (k ≡ 14 → ⊥) → length body ≡ 4
+  pair-size k e a b d = sized-pair k (length body) a b d (sized-at k e)
 
   pub name-needs : kind ≡ 1 → (n.last ≤ length last) × (length body ≤ length last)
   name-needs e = name-asks last pairs marks rows n s.ready (length body) (sized-1 (length body) (sized-at 1 e)).1
@@ -93,22 +93,22 @@ module _ (kind : ℕ) (body last pairs marks rows : List ℕ) (n : Numbers) (s :
   bound-needs e = bound-asks last pairs marks rows n s.ready (length body) (sized-5 (length body) (sized-at 5 e))
 
   pub flow-needs : kind ≡ 6 → (length body ≡ 4) × (n.components ≤ 512) × (n.flows ≤ 2048) × (2048 ≤ length (part 6144 2048 rows)) × Sorted (take n.flows (part 6144 2048 rows))
-  flow-needs e = flow-asks last pairs marks rows n s.ready (length body) (pair_size 6 e (omega arith) (λ z. omega arith) (λ z. omega arith))
+  flow-needs e = flow-asks last pairs marks rows n s.ready (length body) (pair-size 6 e (omega arith) (λ z. omega arith) (λ z. omega arith))
 
   pub upper-needs : kind ≡ 7 → (length body ≡ 4) × (n.components ≤ 512) × (n.uppers ≤ 1024) × (1024 ≤ length (part 8192 1024 rows)) × Sorted (take n.uppers (part 8192 1024 rows))
-  upper-needs e = upper-asks last pairs marks rows n s.ready (length body) (pair_size 7 e (omega arith) (λ z. omega arith) (λ z. omega arith))
+  upper-needs e = upper-asks last pairs marks rows n s.ready (length body) (pair-size 7 e (omega arith) (λ z. omega arith) (λ z. omega arith))
 
   pub read-needs : kind ≡ 8 → (length body ≡ 4) × (n.components ≤ 512) × (n.writes ≤ 1024) × (n.reads ≤ 1024 - n.writes) × (1024 ≤ length (part 9216 1024 rows)) × Sorted (take n.reads (part 9216 1024 rows))
-  read-needs e = read-asks last pairs marks rows n s.ready (length body) (pair_size 8 e (omega arith) (λ z. omega arith) (λ z. omega arith))
+  read-needs e = read-asks last pairs marks rows n s.ready (length body) (pair-size 8 e (omega arith) (λ z. omega arith) (λ z. omega arith))
 
   pub write-needs : kind ≡ 9 → (length body ≡ 4) × (n.components ≤ 512) × (n.reads ≤ 1024) × (n.writes ≤ 1024 - n.reads) × (1024 ≤ length (part 10240 1024 rows)) × Sorted (take n.writes (part 10240 1024 rows))
-  write-needs e = write-asks last pairs marks rows n s.ready (length body) (pair_size 9 e (omega arith) (λ z. omega arith) (λ z. omega arith))
+  write-needs e = write-asks last pairs marks rows n s.ready (length body) (pair-size 9 e (omega arith) (λ z. omega arith) (λ z. omega arith))
 
-  pub relation-needs : kind ≡ 11 → (length body ≡ 4) × (length marks ≡ marksRoom)
-  relation-needs e = (pair_size 11 e (omega arith) (λ z. omega arith) (λ z. omega arith), s.ready.sized.marks)
+  pub relation-needs : kind ≡ 11 → (length body ≡ 4) × (length marks ≡ marks_room)
+  relation-needs e = (pair-size 11 e (omega arith) (λ z. omega arith) (λ z. omega arith), s.ready.sized.marks)
 
-  pub supertype-needs : kind ≡ 12 → (length body ≡ 4) × (n.stack.tables.names ≤ namesRoom) × ((n.stack.tables.object ≡ 2 ^ 64 - 1 → ⊥) → n.stack.tables.object < n.stack.tables.names) × (length marks ≡ marksRoom) × (length pairs ≡ layersRoom)
-  supertype-needs e = (pair_size 12 e (omega arith) (λ z. omega arith) (λ z. omega arith), s.ready.sound.good.few, s.ready.sound.known, s.ready.sized.marks, s.ready.sized.pairs)
+  pub supertype-needs : kind ≡ 12 → (length body ≡ 4) × (n.stack.tables.names ≤ names_room) × ((n.stack.tables.object ≡ 2 ^ 64 - 1 → ⊥) → n.stack.tables.object < n.stack.tables.names) × (length marks ≡ marks_room) × (length pairs ≡ layers_room)
+  supertype-needs e = (pair-size 12 e (omega arith) (λ z. omega arith) (λ z. omega arith), s.ready.sound.good.few, s.ready.sound.known, s.ready.sized.marks, s.ready.sized.pairs)
 
-  pub cast-needs : kind ≡ 13 → (length body ≡ 4) × (length marks ≡ marksRoom)
-  cast-needs e = (pair_size 13 e (omega arith) (λ z. omega arith) (λ z. omega arith), s.ready.sized.marks)
+  pub cast-needs : kind ≡ 13 → (length body ≡ 4) × (length marks ≡ marks_room)
+  cast-needs e = (pair-size 13 e (omega arith) (λ z. omega arith) (λ z. omega arith), s.ready.sized.marks)

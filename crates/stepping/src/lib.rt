@@ -3,9 +3,9 @@ ghost use Rattle.std.specs.Prelude.{◌≡◌, true, false, ◌≤◌, length, d
 ghost use Rattle.frames.specs.Frames.{frame};
 ghost use Rattle.framelaws.specs.Reached.{BytesIn};
 ghost use Rattle.framestate.specs.FrameState.{store_of, Leaves};
-ghost use Rattle.solveframe.specs.Parts.{slicesOf, slicesBy, slicesLeft};
-ghost use Rattle.stepping.specs.Stepping.{Stands, step_of, classKind, Headed, Rests};
-ghost use Rattle.stepping.specs.Lines.{bytesStep};
+ghost use Rattle.solveframe.specs.Parts.{slices_of, slices_by, slices_left};
+ghost use Rattle.stepping.specs.Stepping.{Stands, step_of, class_kind, Headed, Rests};
+ghost use Rattle.stepping.specs.Lines.{bytes_step};
 
 use askframes::{cast_frame, relation_frame, supertype_frame};
 use frameheads::check_head;
@@ -19,7 +19,7 @@ use solveframe::solve_frame;
 
 // Whether a kind changes the class table: 01, 02 and 0e.
 fn is_class_kind(kind: u64) -> bool
-    ensures { result ≡ classKind kind }
+    ensures { result ≡ class_kind kind }
 {
     if kind <= 2 {
         return true;
@@ -37,8 +37,8 @@ fn class_message(
     rows: &[u64],
     n: Numbers,
 ) -> Framed
-    requires { Stands last.old pairs.old marks.old rows.now n × Headed kind body.now n × (classKind kind ≡ true) }
-    ensures { Rests (step_of kind body.now (store_of (slicesBy last pairs marks rows) n)) (slicesBy last pairs marks rows) (slicesOf last.new pairs.new marks.new rows.now) result }
+    requires { Stands last.old pairs.old marks.old rows.now n × Headed kind body.now n × (class_kind kind ≡ true) }
+    ensures { Rests (step_of kind body.now (store_of (slices_by last pairs marks rows) n)) (slices_by last pairs marks rows) (slices_of last.new pairs.new marks.new rows.now) result }
 {
     if kind == 1 {
         return name_frame(body, last, n);
@@ -60,7 +60,7 @@ fn value_message(
     n: Numbers,
 ) -> Framed
     requires { Stands last.now pairs.now marks.now rows.old n × Headed kind body.now n × BytesIn body.now × (3 ≤ kind) × (kind ≤ 5) }
-    ensures { Rests (step_of kind body.now (store_of (slicesBy last pairs marks rows) n)) (slicesBy last pairs marks rows) (slicesOf last.now pairs.now marks.now rows.new) result }
+    ensures { Rests (step_of kind body.now (store_of (slices_by last pairs marks rows) n)) (slices_by last pairs marks rows) (slices_of last.now pairs.now marks.now rows.new) result }
 {
     if kind == 3 {
         return count_frame(body, n);
@@ -82,7 +82,7 @@ fn link_message(
     n: Numbers,
 ) -> Framed
     requires { Stands last.now pairs.now marks.now rows.old n × Headed kind body.now n × (6 ≤ kind) × (kind ≤ 9) }
-    ensures { Rests (step_of kind body.now (store_of (slicesBy last pairs marks rows) n)) (slicesBy last pairs marks rows) (slicesOf last.now pairs.now marks.now rows.new) result }
+    ensures { Rests (step_of kind body.now (store_of (slices_by last pairs marks rows) n)) (slices_by last pairs marks rows) (slices_of last.now pairs.now marks.now rows.new) result }
 {
     if kind == 6 {
         return flow_frame(body, &mut rows[6144..8192], n);
@@ -106,8 +106,8 @@ fn question_message(
     rows: &[u64],
     n: Numbers,
 ) -> Framed
-    requires { Stands last.now pairs.now marks.now rows.now n × Headed kind body.now n × (11 ≤ kind) × (classKind kind ≡ false) }
-    ensures { Rests (step_of kind body.now (store_of (slicesBy last pairs marks rows) n)) (slicesBy last pairs marks rows) (slicesBy last pairs marks rows) result }
+    requires { Stands last.now pairs.now marks.now rows.now n × Headed kind body.now n × (11 ≤ kind) × (class_kind kind ≡ false) }
+    ensures { Rests (step_of kind body.now (store_of (slices_by last pairs marks rows) n)) (slices_by last pairs marks rows) (slices_by last pairs marks rows) result }
 {
     if kind == 11 {
         return relation_frame(body, pairs, marks, n);
@@ -129,8 +129,8 @@ fn later_message(
     answers: &mut [u64],
     n: Numbers,
 ) -> Framed
-    requires { Stands last.now pairs.now marks.now rows.old n × (length answers.old ≡ 2048) × Headed kind body.now n × BytesIn body.now × (classKind kind ≡ false) }
-    ensures { Leaves (step_of kind body.now (store_of (slicesBy last pairs marks rows) n)) (slicesBy last pairs marks rows) (slicesOf last.now pairs.now marks.now rows.new) answers.old answers.new result }
+    requires { Stands last.now pairs.now marks.now rows.old n × (length answers.old ≡ 2048) × Headed kind body.now n × BytesIn body.now × (class_kind kind ≡ false) }
+    ensures { Leaves (step_of kind body.now (store_of (slices_by last pairs marks rows) n)) (slices_by last pairs marks rows) (slices_of last.now pairs.now marks.now rows.new) answers.old answers.new result }
 {
     if kind <= 5 {
         return value_message(kind, body, last, pairs, marks, rows, n);
@@ -155,7 +155,7 @@ fn frame_bytes(
     n: Numbers,
 ) -> Framed
     requires { Stands last.old pairs.old marks.old rows.old n × (length answers.old ≡ 2048) × BytesIn bytes.now × (1 ≤ length bytes.now) }
-    ensures { Leaves (bytesStep (get_or bytes.now 0 0) (drop 1 bytes.now) (store_of (slicesBy last pairs marks rows) n)) (slicesBy last pairs marks rows) (slicesLeft last pairs marks rows) answers.old answers.new result }
+    ensures { Leaves (bytes_step (get_or bytes.now 0 0) (drop 1 bytes.now) (store_of (slices_by last pairs marks rows) n)) (slices_by last pairs marks rows) (slices_left last pairs marks rows) answers.old answers.new result }
 {
     let kind = bytes[0] as u64;
     let refusal = check_head(kind, bytes.len() - 1, n.rank);
@@ -180,7 +180,7 @@ pub fn frame(
     n: Numbers,
 ) -> Framed
     requires { Stands last.old pairs.old marks.old rows.old n × (length answers.old ≡ 2048) }
-    ensures leaves { Leaves (frame line.now (store_of (slicesBy last pairs marks rows) n)) (slicesBy last pairs marks rows) (slicesLeft last pairs marks rows) answers.old answers.new result }
+    ensures leaves { Leaves (frame line.now (store_of (slices_by last pairs marks rows) n)) (slices_by last pairs marks rows) (slices_left last pairs marks rows) answers.old answers.new result }
     ensures stands { Stands last.new pairs.new marks.new rows.new result.numbers }
 {
     let mut bytes = [0u8; 512];

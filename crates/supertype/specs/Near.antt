@@ -10,7 +10,7 @@ use Rattle.std.proofs.lemmas.Bool.{eqb-false}
 use Rattle.sets.specs.Sets.{at, member, insert, remove, unite, intersect, subtract, members, first}
 use Rattle.sets.specs.Bits.{first-le}
 use Rattle.sets.specs.Laws.{member-unite, length-unite, member-intersect, length-intersect, length-remove, lowest-member, lowest-least, lowest-none}
-use Rattle.view.specs.View.{View, withParents, grow, level, reach, steps, far, distance, distanceOr, ancestor, nearer}
+use Rattle.view.specs.View.{View, with_parents, grow, level, reach, steps, far, distance, distance_or, ancestor, nearer}
 use Rattle.view.specs.Grow.{Formed}
 use Rattle.view.specs.Reach.{Good, level-formed, level-path, path-level, path-reach, steps-least, steps-path, steps-below}
 use Rattle.view.specs.Ancestors.{ancestor-exactly, ancestor-reach, distance-reached, distance-object}
@@ -21,8 +21,8 @@ use Rattle.view.specs.Pick.{NearestOf}
 use Rattle.view.specs.Lows.{remove-in, remove-only}
 
 -- what two sets have, together or either
-abbrev pub ofTwo : Bool → List ℕ → List ℕ → List ℕ
-ofTwo both a b = cond both (intersect a b) (unite a b)
+abbrev pub of_two : Bool → List ℕ → List ℕ → List ℕ
+of_two both a b = cond both (intersect a b) (unite a b)
 
 -- whether both sides reach a class in at most k steps, or either does
 unfoldable pub hit : Bool → View → ℕ → ℕ → ℕ → ℕ → Bool
@@ -37,7 +37,7 @@ pub record FirstHit (both : Bool) (v : View) (left right : ℕ) (s r : List ℕ)
   pub is-in : (c : ℕ) → member r c ≡ true → (member s c ≡ true) × (hit both v left right depth c ≡ true)
   pub has : (c : ℕ) → member s c ≡ true → hit both v left right depth c ≡ true → member r c ≡ true
   pub not-before : (c : ℕ) → member s c ≡ true → (j : ℕ) → j < depth → hit both v left right j c ≡ false
-  pub some_or_none : ((c : ℕ) × (member r c ≡ true)) ⊎ ((c : ℕ) → member s c ≡ true → hit both v left right v.names c ≡ false)
+  pub some-or-none : ((c : ℕ) × (member r c ≡ true)) ⊎ ((c : ℕ) → member s c ≡ true → hit both v left right v.names c ≡ false)
 
 -- ---- the walk of one side
 
@@ -47,31 +47,31 @@ pub record Walking (v : View) (x : ℕ) (seen front : List ℕ) (k : ℕ) : Type
   pub expanded : Expanded v seen front
 
 module _ (v : View) (x : ℕ) where
-  pub walking_start : (empty s : List ℕ) → empty ≡ replicate 16 0 → s ≡ insert empty x → Walking v x s s 0
+  pub walking-start : (empty s : List ℕ) → empty ≡ replicate 16 0 → s ≡ insert empty x → Walking v x s s 0
   unfolding level
-  walking_start empty s e q = record {
+  walking-start empty s e q = record {
     is-level = q ∙ ap (λ (w : List ℕ). insert w x) e;
     part = λ j. omega arith;
     expanded = λ c p m n i h. absurd (true≢false (sym m ∙ n));
   }
 
-  pub walking-next : (seen front : List ℕ) (k : ℕ) → Walking v x seen front k → (next new : List ℕ) → next ≡ withParents v seen (members (at front) 0 1024) → new ≡ subtract next seen
+  pub walking-next : (seen front : List ℕ) (k : ℕ) → Walking v x seen front k → (next new : List ℕ) → next ≡ with_parents v seen (members (at front) 0 1024) → new ≡ subtract next seen
       → Walking v x next new (k + 1)
   unfolding level
   walking-next seen front k st next new e q = record {
-    is-level = next_level ∙ ap (grow v) st.is-level ∙ ap (λ (n : ℕ). level v n x) (sym (add-one k));
-    part = subst (λ (s : List ℕ). (j : ℕ) → at new j ≤ at s j) (sym next_level) (subst (λ (s : List ℕ). (j : ℕ) → at s j ≤ at (grow v seen) j) (sym new_is) (part-next v seen formed));
-    expanded = subst (λ (s : List ℕ). Expanded v s new) (sym next_level) (subst (Expanded v (grow v seen)) (sym new_is) (expanded-next v seen formed));
+    is-level = next-level ∙ ap (grow v) st.is-level ∙ ap (λ (n : ℕ). level v n x) (sym (add-one k));
+    part = subst (λ (s : List ℕ). (j : ℕ) → at new j ≤ at s j) (sym next-level) (subst (λ (s : List ℕ). (j : ℕ) → at s j ≤ at (grow v seen) j) (sym new-is) (part-next v seen formed));
+    expanded = subst (λ (s : List ℕ). Expanded v s new) (sym next-level) (subst (Expanded v (grow v seen)) (sym new-is) (expanded-next v seen formed));
   }
     where
       formed : Formed seen
       formed = subst Formed (sym st.is-level) (level-formed v k x)
 
-      next_level : next ≡ grow v seen
-      next_level = e ∙ frontier v seen front formed st.part st.expanded
+      next-level : next ≡ grow v seen
+      next-level = e ∙ frontier v seen front formed st.part st.expanded
 
-      new_is : new ≡ subtract (grow v seen) seen
-      new_is = q ∙ ap (λ (s : List ℕ). subtract s seen) next_level
+      new-is : new ≡ subtract (grow v seen) seen
+      new-is = q ∙ ap (λ (s : List ℕ). subtract s seen) next-level
 
 -- ---- both sides
 
@@ -83,12 +83,12 @@ pub record Meeting (both : Bool) (v : View) (left right : ℕ) (s : List ℕ) (s
   pub not-before : (c : ℕ) → member s c ≡ true → (j : ℕ) → j < k → hit both v left right j c ≡ false
 
 -- a class of both, or of either, level by level
-hit-of : (both : Bool) (v : View) (left right k c : ℕ) → member (ofTwo both (level v k left) (level v k right)) c ≡ hit both v left right k c
+hit-of : (both : Bool) (v : View) (left right k c : ℕ) → member (of_two both (level v k left) (level v k right)) c ≡ hit both v left right k c
 unfolding hit
 hit-of true v left right k c = member-intersect (level v k left) (level v k right) c ((level-formed v k left).0 ∙ sym (level-formed v k right).0)
 hit-of false v left right k c = member-unite (level v k left) (level v k right) c ((level-formed v k left).0 ∙ sym (level-formed v k right).0)
 
-of-two-size : (both : Bool) (v : View) (left right k : ℕ) → length (ofTwo both (level v k left) (level v k right)) ≡ 16
+of-two-size : (both : Bool) (v : View) (left right k : ℕ) → length (of_two both (level v k left) (level v k right)) ≡ 16
 of-two-size true v left right k = length-intersect (level v k left) (level v k right) ((level-formed v k left).0 ∙ sym (level-formed v k right).0) ∙ (level-formed v k left).0
 of-two-size false v left right k = length-unite (level v k left) (level v k right) ((level-formed v k left).0 ∙ sym (level-formed v k right).0) ∙ (level-formed v k left).0
 
@@ -96,32 +96,32 @@ module _ (both : Bool) (v : View) (left right : ℕ) (s : List ℕ) (size : leng
   pub meeting-start : (empty l r : List ℕ) → empty ≡ replicate 16 0 → l ≡ insert empty left → r ≡ insert empty right → Meeting both v left right s l l r r 0
   meeting-start empty l r e p q = record {
     within = omega arith;
-    from-left = walking_start v left empty l e p;
-    from-right = walking_start v right empty r e q;
+    from-left = walking-start v left empty l e p;
+    from-right = walking-start v right empty r e q;
     not-before = λ c m j h. absurd (omega arith);
   }
 
   module _ (seen-left front-left seen-right front-right : List ℕ) (k : ℕ) (st : Meeting both v left right s seen-left front-left seen-right front-right k)
-      (met : List ℕ) (e : met ≡ intersect (ofTwo both seen-left seen-right) s) where
+      (met : List ℕ) (e : met ≡ intersect (of_two both seen-left seen-right) s) where
     two : List ℕ
-    two = ofTwo both (level v k left) (level v k right)
+    two = of_two both (level v k left) (level v k right)
 
     met-is : met ≡ intersect two s
     unfolding two
-    met-is = e ∙ ap₂ (λ (a b : List ℕ). intersect (ofTwo both a b) s) st.from-left.is-level st.from-right.is-level
+    met-is = e ∙ ap₂ (λ (a b : List ℕ). intersect (of_two both a b) s) st.from-left.is-level st.from-right.is-level
 
-    same_size : length two ≡ length s
+    same-size : length two ≡ length s
     unfolding two
-    same_size = of-two-size both v left right k ∙ sym size
+    same-size = of-two-size both v left right k ∙ sym size
 
     met-member : (c : ℕ) → member met c ≡ (hit both v left right k c && member s c)
     unfolding two
     met-member c =
-        ap (λ (w : List ℕ). member w c) met-is ∙ member-intersect two s c same_size
+        ap (λ (w : List ℕ). member w c) met-is ∙ member-intersect two s c same-size
         ∙ ap (λ (b : Bool). b && member s c) (hit-of both v left right k c)
 
     met-size : length met ≡ 16
-    met-size = ap length met-is ∙ length-intersect two s same_size ∙ same_size ∙ size
+    met-size = ap length met-is ∙ length-intersect two s same-size ∙ same-size ∙ size
 
     hits : ((c : ℕ) × (member met c ≡ true)) ⊎ ((c : ℕ) → member s c ≡ true → hit both v left right v.names c ≡ false) → FirstHit both v left right s met
     hits w = record {
@@ -131,15 +131,15 @@ module _ (both : Bool) (v : View) (left right : ℕ) (s : List ℕ) (size : leng
       is-in = λ c m. let b = (and-eq-true_iff (hit both v left right k c) (member s c)).0 (sym (met-member c) ∙ m) in (b.1, b.0);
       has = λ c m h. met-member c ∙ ap₂ (λ (a b : Bool). a && b) h m;
       not-before = st.not-before;
-      some_or_none = w;
+      some-or-none = w;
     }
 
     -- something is hit
     pub meeting-hit : (first (at met) 1024 ≡ 1024 → ⊥) → FirstHit both v left right s met
     meeting-hit n = hits (inl (first (at met) 1024, lowest-member met 1024 (let l = first-le (at met) 1024 in omega arith)))
 
-    none_here : first (at met) 1024 ≡ 1024 → (c : ℕ) → member s c ≡ true → hit both v left right k c ≡ false
-    none_here z c m = go (hit both v left right k c) refl
+    none-here : first (at met) 1024 ≡ 1024 → (c : ℕ) → member s c ≡ true → hit both v left right k c ≡ false
+    none-here z c m = go (hit both v left right k c) refl
       where
         go : (b : Bool) → hit both v left right k c ≡ b → b ≡ false
         go true h = absurd (true≢false (sym (met-member c ∙ ap₂ (λ (a b : Bool). a && b) h m) ∙ lowest-none met met-size z c))
@@ -154,11 +154,11 @@ module _ (both : Bool) (v : View) (left right : ℕ) (s : List ℕ) (size : leng
         go (no l) =
             let z : first (at met) 1024 ≡ 1024 = let b = first-le (at met) 1024 in omega arith in
             let q : k ≡ v.names = let b = st.within in omega arith in
-            hits (inr (λ c m. subst (λ (i : ℕ). hit both v left right i c ≡ false) q (none_here z c m)))
+            hits (inr (λ c m. subst (λ (i : ℕ). hit both v left right i c ≡ false) q (none-here z c m)))
 
     -- nothing is, and there are levels left
     pub meeting-next : first (at met) 1024 ≡ 1024 → k < v.names → (next-left next-right new-left new-right : List ℕ)
-        → next-left ≡ withParents v seen-left (members (at front-left) 0 1024) → next-right ≡ withParents v seen-right (members (at front-right) 0 1024)
+        → next-left ≡ with_parents v seen-left (members (at front-left) 0 1024) → next-right ≡ with_parents v seen-right (members (at front-right) 0 1024)
         → new-left ≡ subtract next-left seen-left → new-right ≡ subtract next-right seen-right → Meeting both v left right s next-left new-left next-right new-right (k + 1)
     meeting-next z h nl nr wl wr a b p q = record {
       within = omega arith;
@@ -169,13 +169,13 @@ module _ (both : Bool) (v : View) (left right : ℕ) (s : List ℕ) (size : leng
       where
         go : (c : ℕ) → member s c ≡ true → (j : ℕ) → j < k + 1 → Dec (j < k) → hit both v left right j c ≡ false
         go c m j l (yes y) = st.not-before c m j y
-        go c m j l (no n) = subst (λ (i : ℕ). hit both v left right i c ≡ false) (let q : k ≡ j = omega arith in q) (none_here z c m)
+        go c m j l (no n) = subst (λ (i : ℕ). hit both v left right i c ≡ false) (let q : k ≡ j = omega arith in q) (none-here z c m)
 
 -- ---- what a hit says of distances
 
-or_cases : (a b : Bool) → (a || b) ≡ true → (a ≡ true) ⊎ (b ≡ true)
-or_cases true b h = inl refl
-or_cases false b h = inr h
+or-cases : (a b : Bool) → (a || b) ≡ true → (a ≡ true) ⊎ (b ≡ true)
+or-cases true b h = inl refl
+or-cases false b h = inr h
 
 -- the least of a set that has a member is one
 some-least : (s : List ℕ) (c : ℕ) → length s ≡ 16 → member s c ≡ true → first (at s) 1024 < 1024
@@ -196,14 +196,14 @@ module _ (v : View) (g : Good v) where
 
   -- an ancestor's distance: its steps, or far
   dist-cases : (x : ℕ) (hx : x < v.names) (c : ℕ) → ancestor v x c ≡ true
-      → ((reach v x c ≡ true) × (distanceOr (distance v x c) ≡ steps v x c)) ⊎ ((reach v x c ≡ false) × (distanceOr (distance v x c) ≡ far))
+      → ((reach v x c ≡ true) × (distance_or (distance v x c) ≡ steps v x c)) ⊎ ((reach v x c ≡ false) × (distance_or (distance v x c) ≡ far))
   dist-cases x hx c a = go (reach v x c) refl ((ancestor-exactly v g x c hx).0 a)
     where
       go : (b : Bool) → reach v x c ≡ b → (c ≡ v.object) ⊎ (reach v x c ≡ true)
-          → ((reach v x c ≡ true) × (distanceOr (distance v x c) ≡ steps v x c)) ⊎ ((reach v x c ≡ false) × (distanceOr (distance v x c) ≡ far))
-      go true r w = inl (r, ap distanceOr (distance-reached v g x hx c r))
+          → ((reach v x c ≡ true) × (distance_or (distance v x c) ≡ steps v x c)) ⊎ ((reach v x c ≡ false) × (distance_or (distance v x c) ≡ far))
+      go true r w = inl (r, ap distance_or (distance-reached v g x hx c r))
       go false r (inl o) =
-          inr (r, ap (λ (y : ℕ). distanceOr (distance v x y)) o ∙ ap distanceOr (distance-object v g x hx (subst (λ (y : ℕ). reach v x y ≡ false) o r)))
+          inr (r, ap (λ (y : ℕ). distance_or (distance v x y)) o ∙ ap distance_or (distance-object v g x hx (subst (λ (y : ℕ). reach v x y ≡ false) o r)))
       go false r (inr m) = absurd (true≢false (sym m ∙ r))
 
   module _ (left right : ℕ) (hl : left < v.names) (hr : right < v.names) where
@@ -222,7 +222,7 @@ module _ (v : View) (g : Good v) where
 
     hit-either : (k c : ℕ) → hit false v left right k c ≡ true → (steps v left c ≤ k) ⊎ (steps v right c ≤ k)
     unfolding hit
-    hit-either k c h = ⊎_elim (λ m. inl (level-steps left hl k c m).1) (λ m. inr (level-steps right hr k c m).1) (or_cases (member (level v k left) c) (member (level v k right) c) h)
+    hit-either k c h = ⊎_elim (λ m. inl (level-steps left hl k c m).1) (λ m. inr (level-steps right hr k c m).1) (or-cases (member (level v k left) c) (member (level v k right) c) h)
 
     either-hit : (k c : ℕ) → reach v left c ≡ true → reach v right c ≡ true → (steps v left c ≤ k) ⊎ (steps v right c ≤ k) → hit false v left right k c ≡ true
     unfolding hit
@@ -239,17 +239,17 @@ module _ (v : View) (g : Good v) where
       -- what was met: its steps, of which the greater number is the depth
       record Met (c : ℕ) : Type 0 where
         in-set : member s c ≡ true
-        by_left : reach v left c ≡ true
-        by_right : reach v right c ≡ true
+        by-left : reach v left c ≡ true
+        by-right : reach v right c ≡ true
         most-left : steps v left c ≤ f.depth
         most-right : steps v right c ≤ f.depth
         one-is : (f.depth ≤ steps v left c) ⊎ (f.depth ≤ steps v right c)
 
-      met_of : (c : ℕ) → member met c ≡ true → Met c
-      met_of c m =
+      met-of : (c : ℕ) → member met c ≡ true → Met c
+      met-of c m =
           let i = f.is-in c m in
           let h = hit-both f.depth c i.1 in
-          record { in-set = i.0; by_left = h.0; by_right = h.2; most-left = h.1; most-right = h.3; one-is = go h (dec_lt (steps v left c) f.depth) (dec_lt (steps v right c) f.depth) i.0 }
+          record { in-set = i.0; by-left = h.0; by-right = h.2; most-left = h.1; most-right = h.3; one-is = go h (dec_lt (steps v left c) f.depth) (dec_lt (steps v right c) f.depth) i.0 }
         where
           go : (reach v left c ≡ true) × (steps v left c ≤ f.depth) × (reach v right c ≡ true) × (steps v right c ≤ f.depth)
               → Dec (steps v left c < f.depth) → Dec (steps v right c < f.depth) → member s c ≡ true → (f.depth ≤ steps v left c) ⊎ (f.depth ≤ steps v right c)
@@ -259,11 +259,11 @@ module _ (v : View) (g : Good v) where
               let j : ℕ = max (steps v left c) (steps v right c) in
               absurd (true≢false (sym (both-hit j c h.0 (omega arith) h.2 (omega arith)) ∙ f.not-before c i j (omega arith)))
 
-      dist-left : (c : ℕ) → Met c → distanceOr (distance v left c) ≡ steps v left c
-      dist-left c w = ap distanceOr (distance-reached v g left hl c w.by_left)
+      dist-left : (c : ℕ) → Met c → distance_or (distance v left c) ≡ steps v left c
+      dist-left c w = ap distance_or (distance-reached v g left hl c w.by-left)
 
-      dist-right : (c : ℕ) → Met c → distanceOr (distance v right c) ≡ steps v right c
-      dist-right c w = ap distanceOr (distance-reached v g right hr c w.by_right)
+      dist-right : (c : ℕ) → Met c → distance_or (distance v right c) ≡ steps v right c
+      dist-right c w = ap distance_or (distance-reached v g right hr c w.by-right)
 
       met-greater : (c : ℕ) → Met c → greater v left right c ≡ f.depth
       met-greater c w =
@@ -280,14 +280,14 @@ module _ (v : View) (g : Good v) where
           most : f.depth < far
           most = let a = f.within in let b = g.few in omega arith
 
-          go : ((reach v left d ≡ true) × (distanceOr (distance v left d) ≡ steps v left d)) ⊎ ((reach v left d ≡ false) × (distanceOr (distance v left d) ≡ far))
-              → ((reach v right d ≡ true) × (distanceOr (distance v right d) ≡ steps v right d)) ⊎ ((reach v right d ≡ false) × (distanceOr (distance v right d) ≡ far))
-              → f.depth < max (distanceOr (distance v left d)) (distanceOr (distance v right d))
+          go : ((reach v left d ≡ true) × (distance_or (distance v left d) ≡ steps v left d)) ⊎ ((reach v left d ≡ false) × (distance_or (distance v left d) ≡ far))
+              → ((reach v right d ≡ true) × (distance_or (distance v right d) ≡ steps v right d)) ⊎ ((reach v right d ≡ false) × (distance_or (distance v right d) ≡ far))
+              → f.depth < max (distance_or (distance v left d)) (distance_or (distance v right d))
           go (inr a) b = let p = a.1 in let q = most in omega arith
           go (inl a) (inr b) = let p = b.1 in let q = most in omega arith
           go (inl a) (inl b) = near (dec_lt f.depth (steps v left d)) (dec_lt f.depth (steps v right d))
             where
-              near : Dec (f.depth < steps v left d) → Dec (f.depth < steps v right d) → f.depth < max (distanceOr (distance v left d)) (distanceOr (distance v right d))
+              near : Dec (f.depth < steps v left d) → Dec (f.depth < steps v right d) → f.depth < max (distance_or (distance v left d)) (distance_or (distance v right d))
               near (yes l) r = let p = a.1 in omega arith
               near (no l) (yes r) = let p = b.1 in omega arith
               near (no l) (no r) = absurd (true≢false (sym (f.has d m (both-hit f.depth d a.0 (omega arith) b.0 (omega arith))) ∙ n))
@@ -302,11 +302,11 @@ module _ (v : View) (g : Good v) where
           go : (d : ℕ) → member s d ≡ true → (b : Bool) → member met d ≡ b → (d ≡ r) ⊎ (nearer v left right r d ≡ true)
           go d m true q = near.least d q
           go d m false q =
-              inr ((nearer-exactly v left right r d).1 (inl (let a = met-greater r (met_of r r-met) in let b = out-greater d m (common d m) q in let z : greater v left right r < greater v left right d = omega arith in z)))
+              inr ((nearer-exactly v left right r d).1 (inl (let a = met-greater r (met-of r r-met) in let b = out-greater d m (common d m) q in let z : greater v left right r < greater v left right d = omega arith in z)))
 
       -- of common ancestors one at least is met, where there are two
-      pub met_some : ((c : ℕ) → member s c ≡ true → Common v left right c) → (c d : ℕ) → member s c ≡ true → member s d ≡ true → (c ≡ d → ⊥) → (e : ℕ) × (member met e ≡ true)
-      met_some common c d m k n = ⊎_elim (λ w. w) (λ none. absurd (go none (ℕ_discrete c v.object))) f.some_or_none
+      pub met-some : ((c : ℕ) → member s c ≡ true → Common v left right c) → (c d : ℕ) → member s c ≡ true → member s d ≡ true → (c ≡ d → ⊥) → (e : ℕ) × (member met e ≡ true)
+      met-some common c d m k n = ⊎_elim (λ w. w) (λ none. absurd (go none (ℕ_discrete c v.object))) f.some-or-none
         where
           there : (e : ℕ) → member s e ≡ true → (e ≡ v.object → ⊥) → ((e : ℕ) → member s e ≡ true → hit true v left right v.names e ≡ false) → ⊥
           there e i o none =
@@ -336,13 +336,13 @@ module _ (v : View) (g : Good v) where
             i = h.is-in c m
 
             w : Met c
-            w = met_of c i.0
+            w = met-of c i.0
 
             upper : (steps v left c ≤ h.depth) ⊎ (steps v right c ≤ h.depth)
             upper = hit-either h.depth c i.1
 
             low : (k : ℕ) → (steps v left c ≤ k) ⊎ (steps v right c ≤ k) → Dec (k < h.depth) → h.depth ≤ k
-            low k z (yes l) = absurd (true≢false (sym (either-hit k c w.by_left w.by_right z) ∙ h.not-before c i.0 k l))
+            low k z (yes l) = absurd (true≢false (sym (either-hit k c w.by-left w.by-right z) ∙ h.not-before c i.0 k l))
             low k z (no l) = omega arith
 
             lower : (h.depth ≤ steps v left c) × (h.depth ≤ steps v right c)
@@ -355,11 +355,11 @@ module _ (v : View) (g : Good v) where
             ⊎_elim (λ o. let p = above.1 in let q : f.depth + h.depth < sum v left right d = omega arith in q) (λ o. let p = above.0 in let q : f.depth + h.depth < sum v left right d = omega arith in q) w.one-is
           where
             w : Met d
-            w = met_of d m
+            w = met-of d m
 
             high : (k : ℕ) → Dec (h.depth < k) → ((k ≤ h.depth) → (steps v left d ≤ h.depth) ⊎ (steps v right d ≤ h.depth)) → h.depth < k
             high k (yes l) z = l
-            high k (no l) z = absurd (true≢false (sym (h.has d m (either-hit h.depth d w.by_left w.by_right (z (omega arith)))) ∙ n))
+            high k (no l) z = absurd (true≢false (sym (h.has d m (either-hit h.depth d w.by-left w.by-right (z (omega arith)))) ∙ n))
 
             above : (h.depth < steps v left d) × (h.depth < steps v right d)
             above = (high (steps v left d) (dec_lt h.depth (steps v left d)) (λ l. inl l), high (steps v right d) (dec_lt h.depth (steps v right d)) (λ l. inr l))
@@ -368,21 +368,21 @@ module _ (v : View) (g : Good v) where
         pub nearest-near : (c₀ : ℕ) → member met c₀ ≡ true → NearestOf v left right met (first (at near) 1024)
         nearest-near c₀ m₀ = record { is-in = λ c m. (h.is-in r r-near).0; least = λ d m. go d m (member near d) refl }
           where
-            some_near : (e : ℕ) × (member near e ≡ true)
-            some_near =
+            some-near : (e : ℕ) × (member near e ≡ true)
+            some-near =
                 ⊎_elim (λ w. w)
                 (λ none.
-                let w = met_of c₀ m₀ in
+                let w = met-of c₀ m₀ in
                 absurd
                 (true≢false
-                (sym (either-hit v.names c₀ w.by_left w.by_right (inl (let l = steps-below v g left hl c₀ w.by_left in omega arith))) ∙ none c₀ m₀)))
-                h.some_or_none
+                (sym (either-hit v.names c₀ w.by-left w.by-right (inl (let l = steps-below v g left hl c₀ w.by-left in omega arith))) ∙ none c₀ m₀)))
+                h.some-or-none
 
             r : ℕ
             r = first (at near) 1024
 
             r-near : member near r ≡ true
-            r-near = lowest-member near 1024 (some-least near some_near.0 h.size some_near.1)
+            r-near = lowest-member near 1024 (some-least near some-near.0 h.size some-near.1)
 
             not-less : (d : ℕ) → member near d ≡ true → r ≤ d
             not-less d m = less (dec_lt d (first (at near) 1024))
@@ -392,7 +392,7 @@ module _ (v : View) (g : Good v) where
                 less (no l) = omega arith
 
             same-greater : (d : ℕ) → member met d ≡ true → greater v left right r ≡ greater v left right d
-            same-greater d m = met-greater r (met_of r (h.is-in r r-near).0) ∙ sym (met-greater d (met_of d m))
+            same-greater d m = met-greater r (met-of r (h.is-in r r-near).0) ∙ sym (met-greater d (met-of d m))
 
             go : (d : ℕ) → member met d ≡ true → (b : Bool) → member near d ≡ b → (d ≡ r) ⊎ (nearer v left right r d ≡ true)
             go d m true q = even (ℕ_discrete d r)

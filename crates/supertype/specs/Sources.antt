@@ -7,8 +7,8 @@ use Rattle.std.proofs.Math.Bool.{and-eq-true_iff, or-true}
 use Rattle.std.proofs.Math.Decide.{ℕ_discrete}
 use Rattle.sets.specs.Sets.{at, member, remove, unite, intersect, subtract, members, first}
 use Rattle.sets.specs.Laws.{member-unite, length-unite, length-subtract, length-remove, member-intersect, members-all, lowest-none}
-use Rattle.view.specs.View.{View, withParents, reach, ancestor, ancestors}
-use Rattle.view.specs.Grow.{empty-formed, withParents-formed, withParents-has}
+use Rattle.view.specs.View.{View, with_parents, reach, ancestor, ancestors}
+use Rattle.view.specs.Grow.{empty-formed, with_parents-formed, with_parents-has}
 use Rattle.view.specs.Reach.{Good, Path, here, there, reach-path, path-reach, reach-below, reach-trans}
 use Rattle.view.specs.Ancestors.{ancestor-reach, reach-ancestor, ancestors-formed, ancestors-member}
 use Rattle.view.specs.Frontier.{member-lt}
@@ -26,11 +26,11 @@ lows-alone v all rest b l q e = record {
   size = l;
   has = λ c m none. m;
   inside = λ c m. m;
-  free = λ c m d k s. true≢false (sym s.0 ∙ ap₂ (λ (x y : ℕ). reach v x y) (is_b d k ∙ sym (is_b c m)) (is_b c m ∙ sym (is_b d k)) ∙ s.1);
+  free = λ c m d k s. true≢false (sym s.0 ∙ ap₂ (λ (x y : ℕ). reach v x y) (is-b d k ∙ sym (is-b c m)) (is-b c m ∙ sym (is-b d k)) ∙ s.1);
 }
   where
-    is_b : (c : ℕ) → member all c ≡ true → c ≡ b
-    is_b c m = go (ℕ_discrete c b)
+    is-b : (c : ℕ) → member all c ≡ true → c ≡ b
+    is-b c m = go (ℕ_discrete c b)
       where
         go : Dec (c ≡ b) → c ≡ b
         go (yes k) = k
@@ -43,18 +43,18 @@ lows-alone v all rest b l q e = record {
 
 -- the sources are classes
 pub sources-inside : (v : View) (all others direct sources : List ℕ) → length others ≡ 16 → ((c : ℕ) → member others c ≡ true → c < v.names)
-    → direct ≡ withParents v (replicate 16 0) (members (at all) 0 1024) → sources ≡ subtract others direct → (c : ℕ) → member sources c ≡ true → c < v.names
+    → direct ≡ with_parents v (replicate 16 0) (members (at all) 0 1024) → sources ≡ subtract others direct → (c : ℕ) → member sources c ≡ true → c < v.names
 sources-inside v all others direct sources l inside d s c m =
     inside c
-    (less-only others direct c l (ap length d ∙ (withParents-formed v (replicate 16 0) (members (at all) 0 1024) empty-formed).0) (subst (λ (w : List ℕ). member w c ≡ true) s m)
+    (less-only others direct c l (ap length d ∙ (with_parents-formed v (replicate 16 0) (members (at all) 0 1024) empty-formed).0) (subst (λ (w : List ℕ). member w c ≡ true) s m)
     ).0
 
 module _ (v : View) (g : Good v) (all others direct sources covered rest : List ℕ) (size-all : length all ≡ 16) (size-others : length others ≡ 16)
     (inside : (c : ℕ) → member others c ≡ true → c < v.names) (upward : Upward v all others)
-    (is-direct : direct ≡ withParents v (replicate 16 0) (members (at all) 0 1024)) (is-sources : sources ≡ subtract others direct)
+    (is-direct : direct ≡ with_parents v (replicate 16 0) (members (at all) 0 1024)) (is-sources : sources ≡ subtract others direct)
     (spread : Spread v sources covered) (is-rest : rest ≡ subtract others covered) where
   size-direct : length direct ≡ 16
-  size-direct = ap length is-direct ∙ (withParents-formed v (replicate 16 0) (members (at all) 0 1024) empty-formed).0
+  size-direct = ap length is-direct ∙ (with_parents-formed v (replicate 16 0) (members (at all) 0 1024) empty-formed).0
 
   size-sources : length sources ≡ 16
   size-sources = ap length is-sources ∙ length-subtract others direct (size-others ∙ sym size-direct) ∙ size-others
@@ -79,14 +79,14 @@ module _ (v : View) (g : Good v) (all others direct sources covered rest : List 
       go : {z n : ℕ} → Path v d z n → member direct z ≡ false → d ≡ z
       go here out = refl
       go (there {y = e} {p = z} a q) out =
-          let in_all = upward d e k (path-reach v g d (inside d k) a) in
+          let in-all = upward d e k (path-reach v g d (inside d k) a) in
           let few = g.few in
           let low = reach-below v g d (inside d k) z (path-reach v g d (inside d k) (there a q)) in
           absurd
           (true≢false
           (sym
           (subst (λ (w : List ℕ). member w z ≡ true) (sym is-direct)
-          (withParents-has v (replicate 16 0) (members (at all) 0 1024) e z empty-formed (omega arith) (members-all all 1024 e (member-lt all e size-all in_all) in_all) q))
+          (with_parents-has v (replicate 16 0) (members (at all) 0 1024) e z empty-formed (omega arith) (members-all all 1024 e (member-lt all e size-all in-all) in-all) q))
           ∙ out))
 
   module _ (low r : List ℕ) (lows : Lows v rest low) (size-r : length r ≡ 16)
@@ -161,16 +161,16 @@ module _ (v : View) (g : Good v) (all others direct sources covered rest : List 
 pub common-upward : (v : View) (g : Good v) (x y : ℕ) → x < v.names → y < v.names → (a b all : List ℕ) → a ≡ ancestors v x → b ≡ ancestors v y → all ≡ intersect a b
     → (d e : ℕ) → (d ≡ v.object → ⊥) → member all d ≡ true → reach v d e ≡ true → member all e ≡ true
 common-upward v g x y hx hy a b all ea eb q d e n m r =
-    in_all e
+    in-all e
     ∙ ap₂ (λ (s t : Bool). s && t)
     (reach-ancestor v x e (reach-trans v g x d e hx (ancestor-reach v g x d hx n both.0) r))
     (reach-ancestor v y e (reach-trans v g y d e hy (ancestor-reach v g y d hy n both.1) r))
   where
-    in_all : (c : ℕ) → member all c ≡ (ancestor v x c && ancestor v y c)
-    in_all c =
+    in-all : (c : ℕ) → member all c ≡ (ancestor v x c && ancestor v y c)
+    in-all c =
         ap (λ (w : List ℕ). member w c) (q ∙ ap₂ (λ (s t : List ℕ). intersect s t) ea eb)
         ∙ member-intersect (ancestors v x) (ancestors v y) c ((ancestors-formed v g x hx).0 ∙ sym (ancestors-formed v g y hy).0)
         ∙ ap₂ (λ (s t : Bool). s && t) (ancestors-member v g x hx c) (ancestors-member v g y hy c)
 
     both : (ancestor v x d ≡ true) × (ancestor v y d ≡ true)
-    both = (and-eq-true_iff (ancestor v x d) (ancestor v y d)).0 (sym (in_all d) ∙ m)
+    both = (and-eq-true_iff (ancestor v x d) (ancestor v y d)).0 (sym (in-all d) ∙ m)

@@ -7,7 +7,7 @@ use mathlib.Core.List.{List, [], ◌∷◌, Memᴰ}
 use Rattle.std.proofs.Math.Decide.{dec_lt}
 use Rattle.sets.specs.Sets.{at, member, remove, intersect, members, first}
 use Rattle.sets.specs.Bits.{first-le}
-use Rattle.sets.specs.Laws.{member-intersect, members_only, lowest-member}
+use Rattle.sets.specs.Laws.{member-intersect, members-only, lowest-member}
 use Rattle.view.specs.View.{View, reached, reach}
 use Rattle.view.specs.Reach.{Good, reach-refl, reach-below, reach-trans}
 use Rattle.view.specs.Frontier.{members-pop, members-none}
@@ -17,26 +17,26 @@ use Rattle.ancestry.specs.Spread.{Spread}
 use Rattle.ancestry.specs.Closure.{Rows}
 
 -- of a set, without those of a list whose row has d
-unfoldable pub stripRows : List ℕ → ℕ → List ℕ → List ℕ → List ℕ
-stripRows rows d s [] = s
-stripRows rows d s (c ∷ cs) = stripRows rows d (cond (member (row rows c) d) (remove s c) s) cs
+unfoldable pub strip_rows : List ℕ → ℕ → List ℕ → List ℕ → List ℕ
+strip_rows rows d s [] = s
+strip_rows rows d s (c ∷ cs) = strip_rows rows d (cond (member (row rows c) d) (remove s c) s) cs
 
 module _ (rows : List ℕ) (d : ℕ) where
-  pub rows_step : (s f : List ℕ) (c : ℕ) → c ≡ first (at f) 1024 → c < 1024
-      → stripRows rows d s (members (at f) 0 1024) ≡ stripRows rows d (cond (member (row rows c) d) (remove s c) s) (members (at (remove f c)) 0 1024)
-  unfolding stripRows
-  rows_step s f c e h = ap (stripRows rows d s) (members-pop f c e h)
+  pub rows-step : (s f : List ℕ) (c : ℕ) → c ≡ first (at f) 1024 → c < 1024
+      → strip_rows rows d s (members (at f) 0 1024) ≡ strip_rows rows d (cond (member (row rows c) d) (remove s c) s) (members (at (remove f c)) 0 1024)
+  unfolding strip_rows
+  rows-step s f c e h = ap (strip_rows rows d s) (members-pop f c e h)
 
-  pub rows_end : (s f : List ℕ) (c : ℕ) → c ≡ first (at f) 1024 → 1024 ≤ c → stripRows rows d s (members (at f) 0 1024) ≡ s
-  unfolding stripRows
-  rows_end s f c e h = ap (stripRows rows d s) (members-none f (let l = first-le (at f) 1024 in omega arith))
+  pub rows-end : (s f : List ℕ) (c : ℕ) → c ≡ first (at f) 1024 → 1024 ≤ c → strip_rows rows d s (members (at f) 0 1024) ≡ s
+  unfolding strip_rows
+  rows-end s f c e h = ap (strip_rows rows d s) (members-none f (let l = first-le (at f) 1024 in omega arith))
 
   -- where the rows have what is reached, it is the same as by walks
-  strip-same : (v : View) (s cs : List ℕ) → ((c : ℕ) → Memᴰ c cs → row rows c ≡ reached v c) → stripRows rows d s cs ≡ strip v d s cs
-  unfolding stripRows strip reach
+  strip-same : (v : View) (s cs : List ℕ) → ((c : ℕ) → Memᴰ c cs → row rows c ≡ reached v c) → strip_rows rows d s cs ≡ strip v d s cs
+  unfolding strip_rows strip reach
   strip-same v s [] f = refl
   strip-same v s (c ∷ cs) f =
-      ap (λ (b : Bool). stripRows rows d (cond b (remove s c) s) cs) (ap (λ (w : List ℕ). member w d) (f c (Memᴰ.head refl)))
+      ap (λ (b : Bool). strip_rows rows d (cond b (remove s c) s) cs) (ap (λ (w : List ℕ). member w d) (f c (Memᴰ.head refl)))
       ∙ strip-same v (cond (reach v c d) (remove s c) s) cs (λ e m. f e (Memᴰ.tail m))
 
 -- ---- a turn of the loop
@@ -45,7 +45,7 @@ module _ (v : View) (rows all alive todo : List ℕ) (st : Lowing v all alive to
   pub turn-row : (d : ℕ) → d ≡ first (at todo) 1024 → d < 1024 → row rows d ≡ reached v d
   turn-row d e h = has d (st.todo-in d (subst (λ (x : ℕ). member todo x ≡ true) (sym e) (lowest-member todo 1024 (omega arith))))
 
-  pub turn-above : (d : ℕ) (r meet up : List ℕ) → length r ≡ 16 → meet ≡ intersect r alive → up ≡ stripRows rows d meet (members (at meet) 0 1024) → up ≡ strip v d meet (members (at meet) 0 1024)
+  pub turn-above : (d : ℕ) (r meet up : List ℕ) → length r ≡ 16 → meet ≡ intersect r alive → up ≡ strip_rows rows d meet (members (at meet) 0 1024) → up ≡ strip v d meet (members (at meet) 0 1024)
   turn-above d r meet up l m u =
       u
       ∙ strip-same rows d v meet (members (at meet) 0 1024)
@@ -53,7 +53,7 @@ module _ (v : View) (rows all alive todo : List ℕ) (st : Lowing v all alive to
       has c
       (st.alive-in c
       ((and-eq-true_iff (member r c) (member alive c)).0
-      (sym (member-intersect r alive c (l ∙ sym st.alive-size)) ∙ subst (λ (w : List ℕ). member w c ≡ true) m (members_only meet 1024 c k))).1))
+      (sym (member-intersect r alive c (l ∙ sym st.alive-size)) ∙ subst (λ (w : List ℕ). member w c ≡ true) m (members-only meet 1024 c k))).1))
 
   -- where the least that is to be looked at is no class, nothing is
   pub turn-none : ((c : ℕ) → member all c ≡ true → c < v.names) → (d : ℕ) → d ≡ first (at todo) 1024 → v.names ≤ d → first (at todo) 1024 ≡ 1024
@@ -72,8 +72,8 @@ module _ (v : View) (g : Good v) (all above : List ℕ) (inside : (c : ℕ) → 
   pub above-closed : (d e : ℕ) → member above d ≡ true → reach v d e ≡ true → member above e ≡ true
   above-closed d e m r = let w = sp.only d m in sp.has w.0 e w.1 (reach-trans v g w.0 d e (inside w.0 w.1) w.2 r)
 
-  pub above_rows : (rows : List ℕ) → Rows v above rows → (c : ℕ) → member all c ≡ true → row rows c ≡ reached v c
-  above_rows rows q c m = q.has c (sp.has c c m (reach-refl v g c (inside c m)))
+  pub above-rows : (rows : List ℕ) → Rows v above rows → (c : ℕ) → member all c ≡ true → row rows c ≡ reached v c
+  above-rows rows q c m = q.has c (sp.has c c m (reach-refl v g c (inside c m)))
 
 -- ---- where a search begins
 
@@ -87,5 +87,5 @@ starts-least s d e = (
   λ h. let l = first-le (at s) 1024 in let q : first (at s) 1024 ≡ 1024 = omega arith in q,
 )
 
-pub starts_with : (s : List ℕ) (d : ℕ) → member s d ≡ true → d < 1024 → Starts d s
-starts_with s d m h = (λ l. m, λ l. absurd (omega arith))
+pub starts-with : (s : List ℕ) (d : ℕ) → member s d ≡ true → d < 1024 → Starts d s
+starts-with s d m h = (λ l. m, λ l. absurd (omega arith))

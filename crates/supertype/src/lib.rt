@@ -5,12 +5,12 @@ ghost use Rattle.view.specs.View.{reached, ancestors, supertype, number_of};
 ghost use Rattle.view.specs.Supertype.{Common};
 ghost use Rattle.view.specs.Lows.{strip, Lows, LowestOf};
 ghost use Rattle.view.specs.Pick.{NearestOf};
-ghost use Rattle.tables.specs.Table.{namesRoom, view_of};
-ghost use Rattle.ancestry.specs.Rows.{rowsRoom, row};
+ghost use Rattle.tables.specs.Table.{names_room, view_of};
+ghost use Rattle.ancestry.specs.Rows.{rows_room, row};
 ghost use Rattle.prepared.specs.Prepared.{Prepared};
 ghost use Rattle.supertype.specs.Sources.{Upward};
-ghost use Rattle.supertype.specs.Stripped.{stripRows, Starts};
-ghost use Rattle.supertype.specs.Near.{ofTwo, lone, FirstHit};
+ghost use Rattle.supertype.specs.Stripped.{strip_rows, Starts};
+ghost use Rattle.supertype.specs.Near.{of_two, lone, FirstHit};
 
 use ancestry::{ROWS, fill, is_in, row_of, spread};
 use hierarchy::expand;
@@ -33,7 +33,7 @@ fn without_if(s: Set, taken: bool, c: u64) -> Set
 
 // Of s, the classes that do not reach d.
 fn not_reaching(pairs: &[u64], marks: &[u64], t: Tables, s: Set, d: u64) -> Set
-    requires { Prepared pairs.now marks.now t × (d < namesRoom) }
+    requires { Prepared pairs.now marks.now t × (d < names_room) }
     ensures { result.words ≡ strip (view_of pairs.now marks.now t) d s.words (members (at s.words) 0 1024) }
 {
     let mut kept = s;
@@ -50,7 +50,7 @@ fn not_reaching(pairs: &[u64], marks: &[u64], t: Tables, s: Set, d: u64) -> Set
 // Of a set of classes, those with none strictly below, looked at from `start` on. What a class reaches is looked at no more: it is strictly
 // above, and out, or reaches back, and has the same above it.
 fn lowest_by_walks(pairs: &[u64], marks: &[u64], t: Tables, all: Set, start: u64) -> Set
-    requires { (t.names ≤ namesRoom) × (t.object < t.names) × (length all.words ≡ 16) × MembersBelow t.names all.words × Prepared pairs.now marks.now t × Starts start all.words }
+    requires { (t.names ≤ names_room) × (t.object < t.names) × (length all.words ≡ 16) × MembersBelow t.names all.words × Prepared pairs.now marks.now t × Starts start all.words }
     ensures { Lows (view_of pairs.now marks.now t) all.words result.words }
 {
     let mut alive = all;
@@ -68,8 +68,8 @@ fn lowest_by_walks(pairs: &[u64], marks: &[u64], t: Tables, all: Set, start: u64
 
 // Of s, the classes whose row has not d.
 fn not_in_rows(rows: &[u64], s: Set, d: u64) -> Set
-    requires { (length rows.now ≡ rowsRoom) × (d < namesRoom) }
-    ensures { result.words ≡ stripRows rows.now d s.words (members (at s.words) 0 1024) }
+    requires { (length rows.now ≡ rows_room) × (d < names_room) }
+    ensures { result.words ≡ strip_rows rows.now d s.words (members (at s.words) 0 1024) }
 {
     let mut kept = s;
     let mut left = s;
@@ -84,7 +84,7 @@ fn not_in_rows(rows: &[u64], s: Set, d: u64) -> Set
 
 // As `lowest_by_walks`, where the rows of the classes are at hand: what each reaches.
 fn lowest_by_rows(pairs: &[u64], marks: &[u64], t: Tables, all: Set, rows: &[u64]) -> Set
-    requires { (t.names ≤ namesRoom) × (t.object < t.names) × (length all.words ≡ 16) × MembersBelow t.names all.words × (length rows.now ≡ rowsRoom) × ((c : ℕ) → member all.words c ≡ true → row rows.now c ≡ reached (view_of pairs.now marks.now t) c) }
+    requires { (t.names ≤ names_room) × (t.object < t.names) × (length all.words ≡ 16) × MembersBelow t.names all.words × (length rows.now ≡ rows_room) × ((c : ℕ) → member all.words c ≡ true → row rows.now c ≡ reached (view_of pairs.now marks.now t) c) }
     ensures { Lows (view_of pairs.now marks.now t) all.words result.words }
 {
     let mut alive = all;
@@ -102,7 +102,7 @@ fn lowest_by_rows(pairs: &[u64], marks: &[u64], t: Tables, all: Set, rows: &[u64
 
 // The same, with rows made for it.
 fn lowest_by_table(pairs: &[u64], marks: &[u64], t: Tables, all: Set) -> Set
-    requires { (t.names ≤ namesRoom) × (t.object < t.names) × (length all.words ≡ 16) × MembersBelow t.names all.words }
+    requires { (t.names ≤ names_room) × (t.object < t.names) × (length all.words ≡ 16) × MembersBelow t.names all.words }
     ensures { Lows (view_of pairs.now marks.now t) all.words result.words }
 {
     let mut rows = [0u64; ROWS];
@@ -113,7 +113,7 @@ fn lowest_by_table(pairs: &[u64], marks: &[u64], t: Tables, all: Set) -> Set
 
 // The same: a few classes are walked from, for more of them rows are made.
 fn lowest_left(pairs: &[u64], marks: &[u64], t: Tables, all: Set) -> Set
-    requires { (t.names ≤ namesRoom) × (t.object < t.names) × (length all.words ≡ 16) × MembersBelow t.names all.words × Prepared pairs.now marks.now t }
+    requires { (t.names ≤ names_room) × (t.object < t.names) × (length all.words ≡ 16) × MembersBelow t.names all.words × Prepared pairs.now marks.now t }
     ensures { Lows (view_of pairs.now marks.now t) all.words result.words }
 {
     if all.count() < FEW {
@@ -125,7 +125,7 @@ fn lowest_left(pairs: &[u64], marks: &[u64], t: Tables, all: Set) -> Set
 // The same of `others`, which is `all` but for Object: first the sources, which no class of `all` has as a parent. What they reach is
 // not among the lowest; what is left stands on a cycle, or above one.
 fn lowest_many(pairs: &[u64], marks: &[u64], t: Tables, all: Set, others: Set) -> Set
-    requires { (t.names ≤ namesRoom) × (t.object < t.names) × (length all.words ≡ 16) × (length others.words ≡ 16) × MembersBelow t.names others.words × Upward (view_of pairs.now marks.now t) all.words others.words × Prepared pairs.now marks.now t }
+    requires { (t.names ≤ names_room) × (t.object < t.names) × (length all.words ≡ 16) × (length others.words ≡ 16) × MembersBelow t.names others.words × Upward (view_of pairs.now marks.now t) all.words others.words × Prepared pairs.now marks.now t }
     ensures { Lows (view_of pairs.now marks.now t) others.words result.words }
 {
     let direct = expand(pairs, marks, t, Set::empty(), all);
@@ -161,7 +161,7 @@ fn lowest_prepared(
     right: u64,
     others: Set,
 ) -> Set
-    requires { (t.names ≤ namesRoom) × (t.object < t.names) × (length others.words ≡ 16) × MembersBelow t.names others.words × Prepared pairs.now marks.now t }
+    requires { (t.names ≤ names_room) × (t.object < t.names) × (length others.words ≡ 16) × MembersBelow t.names others.words × Prepared pairs.now marks.now t }
     ensures { Lows (view_of pairs.now marks.now t) others.words result.words }
 {
     if others.count() < FEW {
@@ -191,7 +191,7 @@ fn lowest_others(
     all: Set,
     others: Set,
 ) -> Set
-    requires { (t.names ≤ namesRoom) × (t.object < t.names) × (length all.words ≡ 16) × (length others.words ≡ 16) × MembersBelow t.names others.words × Upward (view_of pairs.now marks.now t) all.words others.words × Prepared pairs.now marks.now t }
+    requires { (t.names ≤ names_room) × (t.object < t.names) × (length all.words ≡ 16) × (length others.words ≡ 16) × MembersBelow t.names others.words × Upward (view_of pairs.now marks.now t) all.words others.words × Prepared pairs.now marks.now t }
     ensures { Lows (view_of pairs.now marks.now t) others.words result.words }
 {
     if is_lone(others) {
@@ -205,7 +205,7 @@ fn lowest_others(
 
 // Of a set with Object, the classes with none strictly below. Below Object is what it does not reach.
 fn lowest_of(pairs: &[u64], marks: &[u64], t: Tables, left: u64, right: u64, all: Set) -> Set
-    requires { (t.names ≤ namesRoom) × (t.object < t.names) × (length all.words ≡ 16) × MembersBelow t.names all.words × (member all.words t.object ≡ true) × Upward (view_of pairs.now marks.now t) all.words (remove all.words t.object) × Prepared pairs.now marks.now t }
+    requires { (t.names ≤ names_room) × (t.object < t.names) × (length all.words ≡ 16) × MembersBelow t.names all.words × (member all.words t.object ≡ true) × Upward (view_of pairs.now marks.now t) all.words (remove all.words t.object) × Prepared pairs.now marks.now t }
     ensures { LowestOf (view_of pairs.now marks.now t) all.words result.words }
 {
     let others = all.without(t.object);
@@ -219,7 +219,7 @@ fn lowest_of(pairs: &[u64], marks: &[u64], t: Tables, left: u64, right: u64, all
 
 // What both of two sets have of a third, or what either has.
 fn hits(left: Set, right: Set, s: Set, both: bool) -> Set
-    ensures { result.words ≡ intersect (ofTwo both left.words right.words) s.words }
+    ensures { result.words ≡ intersect (of_two both left.words right.words) s.words }
 {
     if both {
         let common = left.intersection(right);
@@ -266,7 +266,7 @@ fn first_near(
 
 // The nearest of some common ancestors: of those that both sides meet first, and of these that either reaches first, the least.
 fn nearest_of(pairs: &[u64], marks: &[u64], t: Tables, left: u64, right: u64, s: Set) -> u64
-    requires { (t.names ≤ namesRoom) × (t.object < t.names) × (left < t.names) × (right < t.names) × (length s.words ≡ 16) × ((c : ℕ) → member s.words c ≡ true → Common (view_of pairs.now marks.now t) left right c) }
+    requires { (t.names ≤ names_room) × (t.object < t.names) × (left < t.names) × (right < t.names) × (length s.words ≡ 16) × ((c : ℕ) → member s.words c ≡ true → Common (view_of pairs.now marks.now t) left right c) }
     ensures { NearestOf (view_of pairs.now marks.now t) left right s.words result }
 {
     if is_lone(s) {
@@ -291,7 +291,7 @@ fn ancestors_of(pairs: &[u64], marks: &[u64], t: Tables, x: u64) -> Set
 
 // The least common supertype: least_common_supertype. All ones for none.
 pub fn supertype(pairs: &[u64], marks: &[u64], t: Tables, left: u64, right: u64) -> u64
-    requires { (t.names ≤ namesRoom) × (t.object < t.names) × (left < t.names) × (right < t.names) × Prepared pairs.now marks.now t }
+    requires { (t.names ≤ names_room) × (t.object < t.names) × (left < t.names) × (right < t.names) × Prepared pairs.now marks.now t }
     ensures { result ≡ number_of (supertype (view_of pairs.now marks.now t) left right) }
 {
     let a = ancestors_of(pairs, marks, t, left);

@@ -1,11 +1,11 @@
 // Where a class table is refused. It is built as a question builds it; where a row is refused, its rows are gone through once more for the first.
 ghost use Rattle.std.specs.Prelude.{◌≡◌, length};
-ghost use Rattle.columns.specs.Given.{given, givenBy};
+ghost use Rattle.columns.specs.Given.{given, given_by};
 ghost use Rattle.layers.specs.Stacks.{ground};
-ghost use Rattle.layercolumns.specs.LayerColumns.{firstOpen};
-ghost use Rattle.stackview.specs.Agrees.{stackIn};
-ghost use Rattle.tablecheck.specs.TableCheck.{rowsCheck, tableCheck};
-ghost use Rattle.tablecheck.specs.Inside.{stopOf, unrecorded, cameTo, Equal, Fresh};
+ghost use Rattle.layercolumns.specs.LayerColumns.{first_open};
+ghost use Rattle.stackview.specs.Agrees.{stack_in};
+ghost use Rattle.tablecheck.specs.TableCheck.{rows_check, table_check};
+ghost use Rattle.tablecheck.specs.Inside.{stop_of, unrecorded, came_to, Equal, Fresh};
 
 use columns::build_names;
 use layercolumns::{build_shown, first_open, lowest, stack_row};
@@ -40,7 +40,7 @@ fn check_records(
     t: Tables,
 ) -> Stop
     requires { Equal rec_flags.now rec_class.now rec_at.now rec_len.now × Fresh t }
-    ensures { result ≡ stopOf parents.now rec_flags.now rec_class.now rec_at.now rec_len.now (ground (unrecorded t)) }
+    ensures { result ≡ stop_of parents.now rec_flags.now rec_class.now rec_at.now rec_len.now (ground (unrecorded t)) }
 {
     let mut pairs = [0u64; SHOWN];
     let mut marks = [0u64; MARKS];
@@ -83,8 +83,8 @@ fn build_plain(
     rec_len: &[u64],
     parents: &[u64],
 ) -> Outcome
-    requires { (length name_at.now ≡ length name_len.now) × Equal rec_flags.now rec_class.now rec_at.now rec_len.now × (firstOpen rec_flags.now ≡ length rec_flags.now) }
-    ensures { result ≡ cameTo (stackIn (givenBy names name_at name_len rec_flags rec_class rec_at rec_len parents)) }
+    requires { (length name_at.now ≡ length name_len.now) × Equal rec_flags.now rec_class.now rec_at.now rec_len.now × (first_open rec_flags.now ≡ length rec_flags.now) }
+    ensures { result ≡ came_to (stack_in (given_by names name_at name_len rec_flags rec_class rec_at rec_len parents)) }
 {
     let mut pairs = [0u64; PAIRS];
     let mut marks = [0u64; MARKS];
@@ -106,7 +106,7 @@ fn build_layers(
     parents: &[u64],
 ) -> Outcome
     requires { (length name_at.now ≡ length name_len.now) × Equal rec_flags.now rec_class.now rec_at.now rec_len.now }
-    ensures { result ≡ cameTo (stackIn (givenBy names name_at name_len rec_flags rec_class rec_at rec_len parents)) }
+    ensures { result ≡ came_to (stack_in (given_by names name_at name_len rec_flags rec_class rec_at rec_len parents)) }
 {
     let mut pairs = [0u64; SHOWN];
     let mut marks = [0u64; MARKS];
@@ -128,7 +128,7 @@ fn build_rows(
     parents: &[u64],
 ) -> Outcome
     requires { (length name_at.now ≡ length name_len.now) × Equal rec_flags.now rec_class.now rec_at.now rec_len.now }
-    ensures { result ≡ cameTo (stackIn (givenBy names name_at name_len rec_flags rec_class rec_at rec_len parents)) }
+    ensures { result ≡ came_to (stack_in (given_by names name_at name_len rec_flags rec_class rec_at rec_len parents)) }
 {
     if first_open(rec_flags) < rec_flags.len() {
         return build_layers(
@@ -151,8 +151,8 @@ fn find_row(
     rec_len: &[u64],
     parents: &[u64],
 ) -> TableCheck
-    requires { (length name_at.now ≡ length name_len.now) × Equal rec_flags.now rec_class.now rec_at.now rec_len.now × ((stackIn (given names.now name_at.now name_len.now rec_flags.now rec_class.now rec_at.now rec_len.now parents.now)).refusal ≡ 0 → ⊥) }
-    ensures { result ≡ rowsCheck (givenBy names name_at name_len rec_flags rec_class rec_at rec_len parents) }
+    requires { (length name_at.now ≡ length name_len.now) × Equal rec_flags.now rec_class.now rec_at.now rec_len.now × ((stack_in (given names.now name_at.now name_len.now rec_flags.now rec_class.now rec_at.now rec_len.now parents.now)).refusal ≡ 0 → ⊥) }
+    ensures { result ≡ rows_check (given_by names name_at name_len rec_flags rec_class rec_at rec_len parents) }
 {
     let named = build_names(names, name_at, name_len);
     let t = named.tables;
@@ -183,7 +183,7 @@ fn check_rows(
     parents: &[u64],
 ) -> TableCheck
     requires { (length name_at.now ≡ length name_len.now) × Equal rec_flags.now rec_class.now rec_at.now rec_len.now }
-    ensures { result ≡ rowsCheck (givenBy names name_at name_len rec_flags rec_class rec_at rec_len parents) }
+    ensures { result ≡ rows_check (given_by names name_at name_len rec_flags rec_class rec_at rec_len parents) }
 {
     let whole = build_rows(
         names, name_at, name_len, rec_flags, rec_class, rec_at, rec_len, parents,
@@ -219,7 +219,7 @@ pub fn check_table(
     rec_len: &[u64],
     parents: &[u64],
 ) -> TableCheck
-    ensures { result ≡ tableCheck (givenBy names name_at name_len rec_flags rec_class rec_at rec_len parents) }
+    ensures { result ≡ table_check (given_by names name_at name_len rec_flags rec_class rec_at rec_len parents) }
 {
     if is_even(
         name_at.len(),

@@ -11,32 +11,32 @@ use native.Mathlib.Omega.{arith}
 use Rattle.std.proofs.Math.Decide.{dec_lt}
 use Rattle.std.proofs.Math.ListN.{length}
 use Rattle.order.specs.Laws.{lists-same, lists-equal}
-use Rattle.order.specs.Compare.{compareLists, isEqual}
+use Rattle.order.specs.Compare.{compare_lists, is_equal}
 use Rattle.order.specs.Lists.{elem}
 use Rattle.order.specs.Truth.{implied-both}
 use Rattle.sets.specs.Sets.{member}
 use Rattle.sets.specs.Laws.{member-past, member-empty}
 use Rattle.sorted.specs.Sorted.{Above, Sorted, place}
-use Rattle.sorted.specs.Laws.{above-sorted, put-sorted, elem_put, same-members}
+use Rattle.sorted.specs.Laws.{above-sorted, put-sorted, elem-put, same-members}
 use Rattle.sorted.specs.Parts.{sorted-drop}
 use Rattle.order.specs.declared.Order.{Order}
 use Rattle.order.specs.declared.Order.TheVariants.{Less, Equal, Greater}
 use Rattle.names.specs.Names.{name_of, name_at, next}
 use Rattle.names.specs.Table.{number-of-name}
 use Rattle.view.specs.View.{number_of}
-use Rattle.tables.specs.Table.{parentsIn, mark, mark-length, ownRun, keysFrom, own-get, own-sorted, parentsOf as keyParents, parents-below, parents-entry}
-use Rattle.lattice.specs.World.{present, worldWith}
+use Rattle.tables.specs.Table.{parents_in, mark, mark-length, own_run, keys_from, own-get, own-sorted, parents_of as key_parents, parents-below, parents-entry}
+use Rattle.lattice.specs.World.{present, world_with}
 use Rattle.rows.specs.declared.Outcome.{Outcome}
-use Rattle.rows.specs.Rows.{objectName, cloneableName, serializableName, noTables, State, key, isMarked, Ran}
-use Rattle.rows.specs.Marks.{mark_set}
+use Rattle.rows.specs.Rows.{object_name, cloneable_name, serializable_name, no_tables, State, key, is_marked, Ran}
+use Rattle.rows.specs.Marks.{mark-set}
 use Rattle.rows.specs.Laws.{Sound}
-use Rattle.columns.specs.Columns.{nameRows, recordRows, table_of}
+use Rattle.columns.specs.Columns.{name_rows, record_rows, table_of}
 use Rattle.columns.specs.Laws.{names-good}
-use Rattle.columns.specs.Names.{names-checked, names-counted, noted_in, names-noted, noted-none, noted_one}
-use Rattle.columns.specs.Given.{Given, even, noMarks, table}
-use Rattle.columns.specs.GivenLaws.{even_is, good-in}
-use Rattle.tableview.specs.TableRows.{Record, isRecorded, listedParents, setOf, lastDeclared, factFrom, any_flags, interfaceFlag, finalFlag, place_of, rowsView, rowsWorld, names_of, recordsOf, rowsIn}
-use Rattle.tableview.specs.Inner.{stateView, stateWorld, viewIn, worldIn}
+use Rattle.columns.specs.Names.{names-checked, names-counted, noted_in, names-noted, noted-none, noted-one}
+use Rattle.columns.specs.Given.{Given, even, no_marks, table}
+use Rattle.columns.specs.GivenLaws.{even-is, good-in}
+use Rattle.tableview.specs.TableRows.{Record, is_recorded, listed_parents, set_of, last_declared, fact_from, any_flags, interface_flag, final_flag, place_of, rows_view, rows_world, names_of, records_of, rows_in}
+use Rattle.tableview.specs.Inner.{state_view, state_world, view_in, world_in}
 use Rattle.tableview.specs.Taken.{After, records-after}
 
 -- ---- names
@@ -62,21 +62,21 @@ index-placed : (wanted bytes ats lens : List ℕ) → length ats ≡ length lens
 unfolding names_of place_of StandsAt
 index-placed wanted bytes [] lens e = λ i h. absurd (omega arith)
 index-placed wanted bytes (at ∷ ats) [] e = absurd (omega arith)
-index-placed wanted bytes (at ∷ ats) (len ∷ lens) e = go (compareLists (name_of bytes at len) wanted) refl (index-placed wanted bytes ats lens (omega arith))
+index-placed wanted bytes (at ∷ ats) (len ∷ lens) e = go (compare_lists (name_of bytes at len) wanted) refl (index-placed wanted bytes ats lens (omega arith))
   where
-    go : (o : Order) → compareLists (name_of bytes at len) wanted ≡ o → StandsAt wanted bytes ats lens (place_of wanted (names_of bytes ats lens))
-        → StandsAt wanted bytes (at ∷ ats) (len ∷ lens) (cond (isEqual o) (some 0) (next (place_of wanted (names_of bytes ats lens))))
+    go : (o : Order) → compare_lists (name_of bytes at len) wanted ≡ o → StandsAt wanted bytes ats lens (place_of wanted (names_of bytes ats lens))
+        → StandsAt wanted bytes (at ∷ ats) (len ∷ lens) (cond (is_equal o) (some 0) (next (place_of wanted (names_of bytes ats lens))))
     go Equal q p = (omega arith, lists-equal (name_of bytes at len) wanted q)
-    go Less q p = placed-next wanted bytes at len ats lens (place_of wanted (names_of bytes ats lens)) (λ s. differ (sym q ∙ ap (λ (n : List ℕ). compareLists n wanted) s ∙ lists-same wanted)) p
+    go Less q p = placed-next wanted bytes at len ats lens (place_of wanted (names_of bytes ats lens)) (λ s. differ (sym q ∙ ap (λ (n : List ℕ). compare_lists n wanted) s ∙ lists-same wanted)) p
       where
         differ : Less ≡ Equal → ⊥
         differ d = let z : ◌≡◌ {A = ℕ} 0 1 = cc in omega arith
-    go Greater q p = placed-next wanted bytes at len ats lens (place_of wanted (names_of bytes ats lens)) (λ s. differ (sym q ∙ ap (λ (n : List ℕ). compareLists n wanted) s ∙ lists-same wanted)) p
+    go Greater q p = placed-next wanted bytes at len ats lens (place_of wanted (names_of bytes ats lens)) (λ s. differ (sym q ∙ ap (λ (n : List ℕ). compare_lists n wanted) s ∙ lists-same wanted)) p
       where
         differ : Greater ≡ Equal → ⊥
         differ d = let z : ◌≡◌ {A = ℕ} 0 1 = cc in omega arith
 
-module _ (wanted bytes ats lens : List ℕ) (e : length ats ≡ length lens) (z : (nameRows bytes ats lens [] noTables).refusal ≡ 0) where
+module _ (wanted bytes ats lens : List ℕ) (e : length ats ≡ length lens) (z : (name_rows bytes ats lens [] no_tables).refusal ≡ 0) where
   -- what is noted of a wanted name is its place among the names
   pub noted-index : noted_in wanted bytes ats lens 0 (2 ^ 64 - 1) ≡ number_of (place_of wanted (names_of bytes ats lens))
   unfolding number_of StandsAt
@@ -85,7 +85,7 @@ module _ (wanted bytes ats lens : List ℕ) (e : length ats ≡ length lens) (z 
       go : (o : Option ℕ) → StandsAt wanted bytes ats lens o → noted_in wanted bytes ats lens 0 (2 ^ 64 - 1) ≡ number_of o
       go none p = noted-none wanted bytes ats lens 0 (2 ^ 64 - 1) p
       go (some i) p =
-          noted_one wanted bytes ats lens 0 (2 ^ 64 - 1) i e p.0 p.1
+          noted-one wanted bytes ats lens 0 (2 ^ 64 - 1) i e p.0 p.1
           (λ j a b v. let same = number-of-name bytes ats lens (names-checked bytes ats lens e z) i j p.0 b (p.1 ∙ sym v) in omega arith)
           ∙ (let s : 0 + i ≡ i = omega arith in s)
 
@@ -113,62 +113,62 @@ member-elem p (x ∷ xs) m = go (eqb x p) refl (member-elem p xs)
 marks-past : (marks : List ℕ) (k c : ℕ) → length marks ≡ 64 → k < 4 → (c < 1024 → ⊥) → member (mark marks k) c ≡ false
 marks-past marks k c w h n = let l = mark-length marks k w h in member-past (mark marks k) c (omega arith)
 
-unmarked : (k c : ℕ) → isMarked k c noMarks ≡ false
+unmarked : (k c : ℕ) → is_marked k c no_marks ≡ false
 unmarked k c = member-empty 64 (1024 * k + c)
 
-fact-none : (f : ℕ → Bool) (c : ℕ) (rs : List Record) → isRecorded c rs ≡ false → factFrom f (lastDeclared c rs) false ≡ false
-unfolding isRecorded lastDeclared
+fact-none : (f : ℕ → Bool) (c : ℕ) (rs : List Record) → is_recorded c rs ≡ false → fact_from f (last_declared c rs) false ≡ false
+unfolding is_recorded last_declared
 fact-none f c [] h = refl
-fact-none f c (r ∷ rs) h = go (eqb r.class c) refl h (lastDeclared c rs) refl (fact-none f c rs)
+fact-none f c (r ∷ rs) h = go (eqb r.class c) refl h (last_declared c rs) refl (fact-none f c rs)
   where
-    go : (b : Bool) → eqb r.class c ≡ b → (b || isRecorded c rs) ≡ false → (o : Option ℕ) → lastDeclared c rs ≡ o
-        → (isRecorded c rs ≡ false → factFrom f (lastDeclared c rs) false ≡ false) → factFrom f (lastDeclared c (r ∷ rs)) false ≡ false
+    go : (b : Bool) → eqb r.class c ≡ b → (b || is_recorded c rs) ≡ false → (o : Option ℕ) → last_declared c rs ≡ o
+        → (is_recorded c rs ≡ false → fact_from f (last_declared c rs) false ≡ false) → fact_from f (last_declared c (r ∷ rs)) false ≡ false
     go true e k o q ih = absurd (true≢false k)
     go false e k none q ih = rw (q, e)
-    go false e k (some x) q ih = rw q (sym (ap (λ (p : Option ℕ). factFrom f p false) q) ∙ ih k)
+    go false e k (some x) q ih = rw q (sym (ap (λ (p : Option ℕ). fact_from f p false) q) ∙ ih k)
 
 -- ---- parents as ascending sets
 
-pub set-sorted : (xs : List ℕ) → Sorted (setOf xs)
-unfolding setOf
+pub set-sorted : (xs : List ℕ) → Sorted (set_of xs)
+unfolding set_of
 set-sorted [] = tt
-set-sorted (x ∷ xs) = put-sorted x (setOf xs) (set-sorted xs)
+set-sorted (x ∷ xs) = put-sorted x (set_of xs) (set-sorted xs)
 
-pub elem-set : (z : ℕ) (xs : List ℕ) → elem z (setOf xs) ≡ elem z xs
-unfolding setOf elem
+pub elem-set : (z : ℕ) (xs : List ℕ) → elem z (set_of xs) ≡ elem z xs
+unfolding set_of elem
 elem-set z [] = refl
-elem-set z (x ∷ xs) = elem_put x z (setOf xs) ∙ ap (λ (b : Bool). eqb x z || b) (elem-set z xs)
+elem-set z (x ∷ xs) = elem-put x z (set_of xs) ∙ ap (λ (b : Bool). eqb x z || b) (elem-set z xs)
 
-above_lower : (x y : ℕ) (l : List ℕ) → x < y → Above y l → Above x l
-above_lower x y [] h a = tt
-above_lower x y (z ∷ l) h a = (let k = a.0 in omega arith, a.1)
+above-lower : (x y : ℕ) (l : List ℕ) → x < y → Above y l → Above x l
+above-lower x y [] h a = tt
+above-lower x y (z ∷ l) h a = (let k = a.0 in omega arith, a.1)
 
 module _ (names c : ℕ) where
-  in-above : (b : ℕ) (es : List ℕ) → Above b es → b / 1024 ≡ c → ((i : ℕ) → i < length es → get_or es i 0 / 1024 ≡ c) → Above (b % 1024) (parentsIn names es)
-  unfolding parentsIn
+  in-above : (b : ℕ) (es : List ℕ) → Above b es → b / 1024 ≡ c → ((i : ℕ) → i < length es → get_or es i 0 / 1024 ≡ c) → Above (b % 1024) (parents_in names es)
+  unfolding parents_in
   in-above b [] a e h = tt
   in-above b (x ∷ es) a e h = go (ltb (x % 1024) names) (in-above x es a.1 (h 0 (omega arith)) (λ i k. h (suc i) (omega arith)))
     where
       less : b % 1024 < x % 1024
       less = let p = a.0 in let q = h 0 (omega arith) in omega arith
 
-      go : (t : Bool) → Above (x % 1024) (parentsIn names es) → Above (b % 1024) (cond t (x % 1024 ∷ parentsIn names es) (parentsIn names es))
+      go : (t : Bool) → Above (x % 1024) (parents_in names es) → Above (b % 1024) (cond t (x % 1024 ∷ parents_in names es) (parents_in names es))
       go true r = (less, r)
-      go false r = above_lower (b % 1024) (x % 1024) (parentsIn names es) less r
+      go false r = above-lower (b % 1024) (x % 1024) (parents_in names es) less r
 
-  in-sorted : (es : List ℕ) → Sorted es → ((i : ℕ) → i < length es → get_or es i 0 / 1024 ≡ c) → Sorted (parentsIn names es)
-  unfolding parentsIn
+  in-sorted : (es : List ℕ) → Sorted es → ((i : ℕ) → i < length es → get_or es i 0 / 1024 ≡ c) → Sorted (parents_in names es)
+  unfolding parents_in
   in-sorted [] a h = tt
   in-sorted (x ∷ es) a h = go (ltb (x % 1024) names) (in-above x es a (h 0 (omega arith)) (λ i k. h (suc i) (omega arith)))
     where
-      go : (t : Bool) → Above (x % 1024) (parentsIn names es) → Sorted (cond t (x % 1024 ∷ parentsIn names es) (parentsIn names es))
+      go : (t : Bool) → Above (x % 1024) (parents_in names es) → Sorted (cond t (x % 1024 ∷ parents_in names es) (parents_in names es))
       go true r = r
-      go false r = above-sorted (x % 1024) (parentsIn names es) r
+      go false r = above-sorted (x % 1024) (parents_in names es) r
 
   -- THE PARENTS OF A CLASS STAND ASCENDING
-  pub parents-sorted : (l : List ℕ) → Sorted l → Sorted (keyParents names l c)
-  unfolding keyParents
-  parents-sorted l g = in-sorted (ownRun c (keysFrom c l)) (own-sorted c (keysFrom c l) (sorted-drop (place (c * 1024) l) l g)) (λ i h. let o = own-get c (keysFrom c l) i h in ap (λ (x : ℕ). x / 1024) o.0 ∙ o.2)
+  pub parents-sorted : (l : List ℕ) → Sorted l → Sorted (key_parents names l c)
+  unfolding key_parents
+  parents-sorted l g = in-sorted (own_run c (keys_from c l)) (own-sorted c (keys_from c l) (sorted-drop (place (c * 1024) l) l g)) (λ i h. let o = own-get c (keys_from c l) i h in ap (λ (x : ℕ). x / 1024) o.0 ∙ o.2)
 
 -- a number that is written as all ones where it is missing
 present-number : (o : Option ℕ) → ((i : ℕ) → o ≡ some i → i < 2 ^ 64 - 1) → present (number_of o) ≡ o
@@ -179,8 +179,8 @@ present-number (some i) h = rw (ne_eqb i (2 ^ 64 - 1) (λ e. let k = h i refl in
 -- ---- a table, from its names and from what its records leave
 
 -- the names, before there is a record
-abbrev pub namedTable : List ℕ → List ℕ → List ℕ → State
-namedTable bytes ats lens = record { tables = (nameRows bytes ats lens [] noTables).tables; keys = []; marks = noMarks }
+abbrev pub named_table : List ℕ → List ℕ → List ℕ → State
+named_table bytes ats lens = record { tables = (name_rows bytes ats lens [] no_tables).tables; keys = []; marks = no_marks }
 
 -- what rows have made: keys ascend and name classes of the table, and are counted; marks of 64 words
 pub record Made (u : State) : Type 0 where
@@ -189,115 +189,115 @@ pub record Made (u : State) : Type 0 where
   pub classes : (y : ℕ) → elem y u.keys ≡ true → (y / 1024 < u.tables.names) × (y % 1024 < u.tables.names)
   pub wide : length u.marks ≡ 64
 
-module _ (bytes ats lens : List ℕ) (columns-even : length ats ≡ length lens) (names-taken : (nameRows bytes ats lens [] noTables).refusal ≡ 0) (rs : List Record) (s : State)
-    (after : After (namedTable bytes ats lens) rs s) (made : Made s) where
-  good-first : Sound (namedTable bytes ats lens)
-  good-first = names-good bytes ats lens noMarks refl
+module _ (bytes ats lens : List ℕ) (columns-even : length ats ≡ length lens) (names-taken : (name_rows bytes ats lens [] no_tables).refusal ≡ 0) (rs : List Record) (s : State)
+    (after : After (named_table bytes ats lens) rs s) (made : Made s) where
+  good-first : Sound (named_table bytes ats lens)
+  good-first = names-good bytes ats lens no_marks refl
 
   names-many : s.tables.names ≡ length (names_of bytes ats lens)
-  unfolding noTables
+  unfolding no_tables
   names-many =
-      after.numbers.names ∙ names-counted bytes ats lens [] noTables columns-even names-taken
+      after.numbers.names ∙ names-counted bytes ats lens [] no_tables columns-even names-taken
       ∙ (let k : 0 + length ats ≡ length ats = omega arith in k) ∙ sym (names-length bytes ats lens columns-even)
 
-  object-is : s.tables.object ≡ number_of (place_of objectName (names_of bytes ats lens))
-  unfolding noTables
+  object-is : s.tables.object ≡ number_of (place_of object_name (names_of bytes ats lens))
+  unfolding no_tables
   object-is =
-      after.numbers.object ∙ (names-noted bytes ats lens [] noTables names-taken).0
-      ∙ noted-index objectName bytes ats lens columns-even names-taken
+      after.numbers.object ∙ (names-noted bytes ats lens [] no_tables names-taken).0
+      ∙ noted-index object_name bytes ats lens columns-even names-taken
 
-  pub named-cloneable : s.tables.cloneable ≡ number_of (place_of cloneableName (names_of bytes ats lens))
-  unfolding noTables
+  pub named-cloneable : s.tables.cloneable ≡ number_of (place_of cloneable_name (names_of bytes ats lens))
+  unfolding no_tables
   named-cloneable =
-      after.numbers.cloneable ∙ (names-noted bytes ats lens [] noTables names-taken).1
-      ∙ noted-index cloneableName bytes ats lens columns-even names-taken
+      after.numbers.cloneable ∙ (names-noted bytes ats lens [] no_tables names-taken).1
+      ∙ noted-index cloneable_name bytes ats lens columns-even names-taken
 
-  pub named-serializable : s.tables.serializable ≡ number_of (place_of serializableName (names_of bytes ats lens))
-  unfolding noTables
+  pub named-serializable : s.tables.serializable ≡ number_of (place_of serializable_name (names_of bytes ats lens))
+  unfolding no_tables
   named-serializable =
-      after.numbers.serializable ∙ (names-noted bytes ats lens [] noTables names-taken).2
-      ∙ noted-index serializableName bytes ats lens columns-even names-taken
+      after.numbers.serializable ∙ (names-noted bytes ats lens [] no_tables names-taken).2
+      ∙ noted-index serializable_name bytes ats lens columns-even names-taken
 
   -- rows are of classes of the table, so below 1,024
-  small-class : (c : ℕ) → isRecorded c rs ≡ true → c < 1024
+  small-class : (c : ℕ) → is_recorded c rs ≡ true → c < 1024
   small-class c h = let x = after.class-in c h in let y = good-first.few in omega arith
 
-  unrecorded : (c : ℕ) → (c < 1024 → ⊥) → isRecorded c rs ≡ false
-  unrecorded c n = go (isRecorded c rs) refl
+  unrecorded : (c : ℕ) → (c < 1024 → ⊥) → is_recorded c rs ≡ false
+  unrecorded c n = go (is_recorded c rs) refl
     where
-      go : (b : Bool) → isRecorded c rs ≡ b → b ≡ false
+      go : (b : Bool) → is_recorded c rs ≡ b → b ≡ false
       go true q = absurd (n (small-class c q))
       go false q = refl
 
-  recorded-is : (c : ℕ) → member (mark s.marks 0) c ≡ isRecorded c rs
+  recorded-is : (c : ℕ) → member (mark s.marks 0) c ≡ is_recorded c rs
   unfolding mark
   recorded-is c = go (dec_lt c 1024)
     where
-      go : Dec (c < 1024) → member (take 16 (drop (16 * 0) s.marks)) c ≡ isRecorded c rs
-      go (yes h) = mark_set s.marks 0 c h ∙ after.recorded c h ∙ ap (λ (b : Bool). isRecorded c rs || b) (unmarked 0 c) ∙ or-false (isRecorded c rs)
+      go : Dec (c < 1024) → member (take 16 (drop (16 * 0) s.marks)) c ≡ is_recorded c rs
+      go (yes h) = mark-set s.marks 0 c h ∙ after.recorded c h ∙ ap (λ (b : Bool). is_recorded c rs || b) (unmarked 0 c) ∙ or-false (is_recorded c rs)
       go (no n) = marks-past s.marks 0 c made.wide (omega arith) n ∙ sym (unrecorded c n)
 
-  fact-is : (k : ℕ) (f : ℕ → Bool) → k < 4 → ((c : ℕ) → c < 1024 → isMarked k c s.marks ≡ factFrom f (lastDeclared c rs) (isMarked k c noMarks))
-      → (c : ℕ) → member (mark s.marks k) c ≡ factFrom f (lastDeclared c rs) false
+  fact-is : (k : ℕ) (f : ℕ → Bool) → k < 4 → ((c : ℕ) → c < 1024 → is_marked k c s.marks ≡ fact_from f (last_declared c rs) (is_marked k c no_marks))
+      → (c : ℕ) → member (mark s.marks k) c ≡ fact_from f (last_declared c rs) false
   unfolding mark
   fact-is k f l law c = go (dec_lt c 1024)
     where
-      go : Dec (c < 1024) → member (take 16 (drop (16 * k) s.marks)) c ≡ factFrom f (lastDeclared c rs) false
-      go (yes h) = mark_set s.marks k c h ∙ law c h ∙ ap (factFrom f (lastDeclared c rs)) (unmarked k c)
+      go : Dec (c < 1024) → member (take 16 (drop (16 * k) s.marks)) c ≡ fact_from f (last_declared c rs) false
+      go (yes h) = mark-set s.marks k c h ∙ law c h ∙ ap (fact_from f (last_declared c rs)) (unmarked k c)
       go (no n) = marks-past s.marks k c made.wide l n ∙ sym (fact-none f c rs (unrecorded c n))
 
   keys-are : take s.tables.pairs s.keys ≡ s.keys
   keys-are = take_all s.tables.pairs s.keys (let n = made.counted in omega arith)
 
-  pub parents-are : (c p : ℕ) → Memᴰ p (keyParents s.tables.names (take s.tables.pairs s.keys) c) ↔ Memᴰ p (listedParents c rs)
+  pub parents-are : (c p : ℕ) → Memᴰ p (key_parents s.tables.names (take s.tables.pairs s.keys) c) ↔ Memᴰ p (listed_parents c rs)
   unfolding elem
   parents-are c p =
       rw keys-are (
         λ m. let b = parents-below s.tables.names p s.keys c m in
             let k = (entry b.1).0 m in
-            elem-member p (listedParents c rs) (sym (or-false (elem p (listedParents c rs))) ∙ sym (after-pairs b.1) ∙ k),
-        λ m. let h = member-elem p (listedParents c rs) m in
+            elem-member p (listed_parents c rs) (sym (or-false (elem p (listed_parents c rs))) ∙ sym (after-pairs b.1) ∙ k),
+        λ m. let h = member-elem p (listed_parents c rs) m in
             let b = small h in
-            (entry b).1 (after-pairs b ∙ or-false (elem p (listedParents c rs)) ∙ h),
+            (entry b).1 (after-pairs b ∙ or-false (elem p (listed_parents c rs)) ∙ h),
       )
     where
-      entry : p < 1024 → Memᴰ p (keyParents s.tables.names s.keys c) ↔ (elem (c * 1024 + p) s.keys ≡ true)
+      entry : p < 1024 → Memᴰ p (key_parents s.tables.names s.keys c) ↔ (elem (c * 1024 + p) s.keys ≡ true)
       entry h = parents-entry s.tables.names p s.keys c made.ordered h (λ y m. (made.classes y m).1)
 
-      after-pairs : p < 1024 → elem (key c p) s.keys ≡ (elem p (listedParents c rs) || false)
+      after-pairs : p < 1024 → elem (key c p) s.keys ≡ (elem p (listed_parents c rs) || false)
       after-pairs h = after.pairs c p h
 
-      small : elem p (listedParents c rs) ≡ true → p < 1024
-      small h = let x = (after.parent_in c p h).1 in let y = good-first.few in omega arith
+      small : elem p (listed_parents c rs) ≡ true → p < 1024
+      small h = let x = (after.parent-in c p h).1 in let y = good-first.few in omega arith
 
-  parents-set : (c : ℕ) → keyParents s.tables.names (take s.tables.pairs s.keys) c ≡ setOf (listedParents c rs)
+  parents-set : (c : ℕ) → key_parents s.tables.names (take s.tables.pairs s.keys) c ≡ set_of (listed_parents c rs)
   parents-set c =
-      same-members (keyParents s.tables.names keys c) (setOf (listedParents c rs))
-      (parents-sorted s.tables.names c keys (subst Sorted (sym keys-are) made.ordered)) (set-sorted (listedParents c rs))
-      (λ z. implied-both (elem z (keyParents s.tables.names keys c)) (elem z (setOf (listedParents c rs)))
-      (λ h. elem-set z (listedParents c rs) ∙ member-elem z (listedParents c rs) ((parents-are c z).0 (elem-member z (keyParents s.tables.names keys c) h)))
-      (λ h. member-elem z (keyParents s.tables.names keys c) ((parents-are c z).1 (elem-member z (listedParents c rs) (sym (elem-set z (listedParents c rs)) ∙ h)))))
+      same-members (key_parents s.tables.names keys c) (set_of (listed_parents c rs))
+      (parents-sorted s.tables.names c keys (subst Sorted (sym keys-are) made.ordered)) (set-sorted (listed_parents c rs))
+      (λ z. implied-both (elem z (key_parents s.tables.names keys c)) (elem z (set_of (listed_parents c rs)))
+      (λ h. elem-set z (listed_parents c rs) ∙ member-elem z (listed_parents c rs) ((parents-are c z).0 (elem-member z (key_parents s.tables.names keys c) h)))
+      (λ h. member-elem z (key_parents s.tables.names keys c) ((parents-are c z).1 (elem-member z (listed_parents c rs) (sym (elem-set z (listed_parents c rs)) ∙ h)))))
     where
       keys : List ℕ
       keys = take s.tables.pairs s.keys
 
   -- THE VIEW OF WHAT ROWS HAVE MADE IS THE ROWS'
-  pub made-view : stateView s ≡ rowsView (record { names = names_of bytes ats lens; records = rs })
-  unfolding rowsView
+  pub made-view : state_view s ≡ rows_view (record { names = names_of bytes ats lens; records = rs })
+  unfolding rows_view
   made-view i = record {
     names = names-many i;
     object = object-is i;
     recorded = λ c. recorded-is c i;
     parents = λ c. parents-set c i;
     declared = λ c. fact-is 1 any_flags (omega arith) after.declared c i;
-    interface = λ c. fact-is 2 interfaceFlag (omega arith) after.interface c i;
-    final = λ c. fact-is 3 finalFlag (omega arith) after.final c i;
+    interface = λ c. fact-is 2 interface_flag (omega arith) after.interface c i;
+    final = λ c. fact-is 3 final_flag (omega arith) after.final c i;
   }
 
   few-names : length ats ≤ 1024
-  unfolding noTables
+  unfolding no_tables
   few-names =
-      let n = names-counted bytes ats lens [] noTables columns-even names-taken in
+      let n = names-counted bytes ats lens [] no_tables columns-even names-taken in
       let k = good-first.few in
       omega arith
 
@@ -309,55 +309,55 @@ module _ (bytes ats lens : List ℕ) (columns-even : length ats ≡ length lens)
       omega arith
 
   -- and so is the world
-  pub made-world : stateWorld s ≡ rowsWorld (record { names = names_of bytes ats lens; records = rs })
-  unfolding rowsWorld
+  pub made-world : state_world s ≡ rows_world (record { names = names_of bytes ats lens; records = rs })
+  unfolding rows_world
   made-world =
-      let a = ap present named-cloneable ∙ present-number (place_of cloneableName (names_of bytes ats lens)) (placed-small cloneableName) in
-      let b = ap present named-serializable ∙ present-number (place_of serializableName (names_of bytes ats lens)) (placed-small serializableName) in
-      λ i. worldWith (made-view i) (a i) (b i)
+      let a = ap present named-cloneable ∙ present-number (place_of cloneable_name (names_of bytes ats lens)) (placed-small cloneable_name) in
+      let b = ap present named-serializable ∙ present-number (place_of serializable_name (names_of bytes ats lens)) (placed-small serializable_name) in
+      λ i. world_with (made-view i) (a i) (b i)
 
 -- ---- the table of columns
 
 module _ (g : Given) (e : even g ≡ true) (z : (table g).refusal ≡ 0) where
   columns-even : length g.name_at ≡ length g.name_len
   unfolding even
-  columns-even = (even_is (length g.name_at) (length g.name_len) (length g.rec_flags) (length g.rec_class) (length g.rec_at) (length g.rec_len) e).0
+  columns-even = (even-is (length g.name_at) (length g.name_len) (length g.rec_flags) (length g.rec_class) (length g.rec_at) (length g.rec_len) e).0
 
   -- the names are taken, and then the records
-  both-taken : ((nameRows g.names g.name_at g.name_len [] noTables).refusal ≡ 0)
-      × After (namedTable g.names g.name_at g.name_len) (recordsOf g.parents g.rec_flags g.rec_class g.rec_at g.rec_len) (table g).state
+  both-taken : ((name_rows g.names g.name_at g.name_len [] no_tables).refusal ≡ 0)
+      × After (named_table g.names g.name_at g.name_len) (records_of g.parents g.rec_flags g.rec_class g.rec_at g.rec_len) (table g).state
   unfolding table table_of
   both-taken = go (eqb named.refusal 0) refl z
     where
       named : Outcome
-      named = nameRows g.names g.name_at g.name_len [] noTables
+      named = name_rows g.names g.name_at g.name_len [] no_tables
 
       go : (b : Bool) → eqb named.refusal 0 ≡ b
-          → (cond {A = Ran} b (recordRows g.parents g.rec_flags g.rec_class g.rec_at g.rec_len (namedTable g.names g.name_at g.name_len)) (record { refusal = named.refusal; state = namedTable g.names g.name_at g.name_len })).refusal ≡ 0
-          → (named.refusal ≡ 0) × After (namedTable g.names g.name_at g.name_len) (recordsOf g.parents g.rec_flags g.rec_class g.rec_at g.rec_len) (cond {A = Ran} b (recordRows g.parents g.rec_flags g.rec_class g.rec_at g.rec_len (namedTable g.names g.name_at g.name_len)) (record { refusal = named.refusal; state = namedTable g.names g.name_at g.name_len })).state
-      go true q r = (eqb-true named.refusal 0 q, records-after g.parents g.rec_flags g.rec_class g.rec_at g.rec_len (namedTable g.names g.name_at g.name_len) (names-good g.names g.name_at g.name_len noMarks refl) r)
+          → (cond {A = Ran} b (record_rows g.parents g.rec_flags g.rec_class g.rec_at g.rec_len (named_table g.names g.name_at g.name_len)) (record { refusal = named.refusal; state = named_table g.names g.name_at g.name_len })).refusal ≡ 0
+          → (named.refusal ≡ 0) × After (named_table g.names g.name_at g.name_len) (records_of g.parents g.rec_flags g.rec_class g.rec_at g.rec_len) (cond {A = Ran} b (record_rows g.parents g.rec_flags g.rec_class g.rec_at g.rec_len (named_table g.names g.name_at g.name_len)) (record { refusal = named.refusal; state = named_table g.names g.name_at g.name_len })).state
+      go true q r = (eqb-true named.refusal 0 q, records-after g.parents g.rec_flags g.rec_class g.rec_at g.rec_len (named_table g.names g.name_at g.name_len) (names-good g.names g.name_at g.name_len no_marks refl) r)
       go false q r = absurd (eqb-false named.refusal 0 q r)
 
   made : Made (table g).state
   made = let k = good-in g in record { ordered = k.ordered; counted = k.counted; classes = k.classes; wide = k.wide }
 
-  pub cloneable-is : (table g).state.tables.cloneable ≡ number_of (place_of cloneableName (names_of g.names g.name_at g.name_len))
+  pub cloneable-is : (table g).state.tables.cloneable ≡ number_of (place_of cloneable_name (names_of g.names g.name_at g.name_len))
   cloneable-is = named-cloneable g.names g.name_at g.name_len columns-even both-taken.0 _ (table g).state both-taken.1 made
 
-  pub serializable-is : (table g).state.tables.serializable ≡ number_of (place_of serializableName (names_of g.names g.name_at g.name_len))
+  pub serializable-is : (table g).state.tables.serializable ≡ number_of (place_of serializable_name (names_of g.names g.name_at g.name_len))
   serializable-is = named-serializable g.names g.name_at g.name_len columns-even both-taken.0 _ (table g).state both-taken.1 made
 
   -- THE VIEW IN THE WORDS OF THE ROWS, of every table that is taken
-  pub view-rows : viewIn g ≡ rowsView (rowsIn g)
-  unfolding viewIn rowsIn
+  pub view-rows : view_in g ≡ rows_view (rows_in g)
+  unfolding view_in rows_in
   view-rows = made-view g.names g.name_at g.name_len columns-even both-taken.0 _ (table g).state both-taken.1 made
 
   -- and member by member, with the parents as the rows list them: y is a parent of c exactly if some row of c lists it
-  pub parents-listed : (c y : ℕ) → Memᴰ y ((viewIn g).parents c) ↔ Memᴰ y (listedParents c (rowsIn g).records)
-  unfolding viewIn rowsIn
+  pub parents-listed : (c y : ℕ) → Memᴰ y ((view_in g).parents c) ↔ Memᴰ y (listed_parents c (rows_in g).records)
+  unfolding view_in rows_in
   parents-listed c y = parents-are g.names g.name_at g.name_len columns-even both-taken.0 _ (table g).state both-taken.1 made c y
 
   -- THE WORLD IN THE WORDS OF THE ROWS: so every join, every assignability and every solve over it is that of the rows
-  pub world-rows : worldIn g ≡ rowsWorld (rowsIn g)
-  unfolding worldIn rowsIn
+  pub world-rows : world_in g ≡ rows_world (rows_in g)
+  unfolding world_in rows_in
   world-rows = made-world g.names g.name_at g.name_len columns-even both-taken.0 _ (table g).state both-taken.1 made

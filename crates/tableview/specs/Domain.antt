@@ -14,35 +14,35 @@ use native.Mathlib.Omega.{arith}
 use Rattle.std.proofs.Math.Decide.{ℕ_discrete, dec_lt}
 use Rattle.std.proofs.Math.Dec.{eqb}
 use Rattle.std.proofs.Math.ListN.{length}
-use Rattle.order.specs.Truth.{both, and_both}
+use Rattle.order.specs.Truth.{both, and-both}
 use Rattle.order.specs.Lists.{elem}
 use Rattle.order.specs.Laws.{lists-same, lists-equal, lists-trans}
-use Rattle.order.specs.Compare.{compareLists, isEqual}
+use Rattle.order.specs.Compare.{compare_lists, is_equal}
 use Rattle.order.specs.declared.Order.{Order}
 use Rattle.order.specs.declared.Order.TheVariants.{Less, Equal, Greater}
-use Rattle.utf8.specs.Utf8.{wellFormed}
+use Rattle.utf8.specs.Utf8.{well_formed}
 use Rattle.sorted.specs.Sorted.{Sorted, put}
 use Rattle.sorted.specs.Laws.{same-members}
 use Rattle.view.specs.View.{number_of}
 use Rattle.view.specs.Reach.{Good}
 use Rattle.checks.specs.Checks as checks
-use Rattle.names.specs.Names.{name_of, name_at, next, checkNames}
+use Rattle.names.specs.Names.{name_of, name_at, next, check_names}
 use Rattle.names.specs.Table as names
 use Rattle.names.specs.Table.{sum, Checked, name-sized}
 use Rattle.rows.specs.declared.Outcome.{Outcome}
-use Rattle.rows.specs.Rows.{objectName, noTables, goodFlags, all_below, key, put_all, State, recordChecks, recordRefusal, withRecord, Ran}
+use Rattle.rows.specs.Rows.{object_name, no_tables, good_flags, all_below, key, put_all, State, record_checks, record_refusal, with_record, Ran}
 use Rattle.rows.specs.Keys.{length-old, length-new, all-sorted, all-longer, all-has}
 use Rattle.rows.specs.Laws.{Sound, record-good, record-taken, good-record}
-use Rattle.columns.specs.Columns.{inside, placedRecord, nameRows, recordRows, table_of}
-use Rattle.columns.specs.Laws.{inside_is, record-inside, record-outside, names-good}
+use Rattle.columns.specs.Columns.{inside, placed_record, name_rows, record_rows, table_of}
+use Rattle.columns.specs.Laws.{inside-is, record-inside, record-outside, names-good}
 use Rattle.columns.specs.Names.{inside-length, names-agree, names-checked, names-counted}
-use Rattle.columns.specs.Given.{Given, even, evenLengths, noMarks, table}
-use Rattle.columns.specs.GivenLaws.{even_is}
-use Rattle.tableview.specs.TableRows.{Record, Rows, setOf, place_of, rowsView, names_of, recordsOf, rowsIn}
-use Rattle.tableview.specs.RowRefusals.{Pair, listed, hasPair, different}
-use Rattle.tableview.specs.Taken.{elem_below, placed-taken}
+use Rattle.columns.specs.Given.{Given, even, even_lengths, no_marks, table}
+use Rattle.columns.specs.GivenLaws.{even-is}
+use Rattle.tableview.specs.TableRows.{Record, Rows, set_of, place_of, rows_view, names_of, records_of, rows_in}
+use Rattle.tableview.specs.RowRefusals.{Pair, listed, has_pair, different}
+use Rattle.tableview.specs.Taken.{elem-below, placed-taken}
 use Rattle.tableview.specs.Agrees.{names-length, member-elem, elem-set, set-sorted}
-use Rattle.tableview.specs.Canonical.{joined, placesFrom, sizesOf, parentLists, columnsOf, columns-even, rows_back}
+use Rattle.tableview.specs.Canonical.{joined, places_from, sizes_of, parent_lists, columns_of, columns-even, rows-back}
 use Rattle.tableview.specs.Paths.{parents-exactly}
 
 -- ---- THE DOMAIN
@@ -51,7 +51,7 @@ use Rattle.tableview.specs.Paths.{parents-exactly}
 pub record GoodName (name : List ℕ) : Type 0 where
   pub least : 1 ≤ length name
   pub most : length name ≤ 255
-  pub formed : wellFormed name ≡ true
+  pub formed : well_formed name ≡ true
 
 -- none; or declared, 1, with interface, 2, and final, 4
 abbrev pub Flags : ℕ → Type 0
@@ -65,23 +65,23 @@ pub record GoodRow (names : ℕ) (r : Record) : Type 0 where
   pub few : length r.parents ≤ 254
 
 -- the pairs of all rows, one after the other
-unfoldable pub pairsOf : List Record → List Pair
-pairsOf [] = []
-pairsOf (r ∷ rs) = listed r.class r.parents ++ pairsOf rs
+unfoldable pub pairs_of : List Record → List Pair
+pairs_of [] = []
+pairs_of (r ∷ rs) = listed r.class r.parents ++ pairs_of rs
 
 -- THE LIMITS: at most 1,024 names of 24,576 bytes, each good and above the one before it; rows of them; at most 4,096 different pairs
 pub record InLimits (t : Rows) : Type 0 where
   pub few-names : length t.names ≤ 1024
-  pub few_bytes : length (joined t.names) ≤ 24576
+  pub few-bytes : length (joined t.names) ≤ 24576
   pub names-good : (i : ℕ) → i < length t.names → GoodName (get_or t.names i [])
-  pub rising : (i : ℕ) → suc i < length t.names → compareLists (get_or t.names i []) (get_or t.names (suc i) []) ≡ Less
+  pub rising : (i : ℕ) → suc i < length t.names → compare_lists (get_or t.names i []) (get_or t.names (suc i) []) ≡ Less
   pub rows-good : (r : Record) → Memᴰ r t.records → GoodRow (length t.names) r
-  pub few-pairs : different (pairsOf t.records) ≤ 4096
+  pub few-pairs : different (pairs_of t.records) ≤ 4096
 
 -- and java/lang/Object among the names
 pub record InDomain (t : Rows) : Type 0 where
   pub limits : InLimits t
-  pub object-named : Memᴰ objectName t.names
+  pub object-named : Memᴰ object_name t.names
 
 -- two columns for the names and four for the rows, of equal length each
 pub record Aligned (g : Given) : Type 0 where
@@ -92,15 +92,15 @@ pub record Aligned (g : Given) : Type 0 where
 
 -- each name inside the bytes, each list of parents inside the parents
 pub record Placed (g : Given) : Type 0 where
-  pub names_in : (i : ℕ) → i < length g.name_at → get_or g.name_at i 0 + get_or g.name_len i 0 ≤ length g.names
+  pub names-in : (i : ℕ) → i < length g.name_at → get_or g.name_at i 0 + get_or g.name_len i 0 ≤ length g.names
   pub parents-in : (i : ℕ) → i < length g.rec_flags → get_or g.rec_at i 0 + get_or g.rec_len i 0 ≤ length g.parents
 
 -- ---- columns
 
 pub even-exactly : (g : Given) → (even g ≡ true) ↔ Aligned g
-unfolding even evenLengths
+unfolding even even_lengths
 even-exactly g = (
-  λ e. let q = even_is (length g.name_at) (length g.name_len) (length g.rec_flags) (length g.rec_class) (length g.rec_at) (length g.rec_len) e in
+  λ e. let q = even-is (length g.name_at) (length g.name_len) (length g.rec_flags) (length g.rec_class) (length g.rec_at) (length g.rec_len) e in
       record { lengths-as = sym q.0; classes-as = sym q.1; starts-as = sym q.2; sizes-as = sym q.3 },
   λ a. rw (
     eq-eqb (length g.name_at) (length g.name_len) (sym a.lengths-as),
@@ -113,8 +113,8 @@ even-exactly g = (
 pub inside-plain : (size at len : ℕ) → (inside size at len ≡ true) ↔ (at + len ≤ size)
 unfolding inside
 inside-plain size at len = (
-  λ e. let i = inside_is size at len e in omega arith,
-  λ h. and_both (leb at size) (leb len (size - at)) (le-leb at size (omega arith)) (le-leb len (size - at) (omega arith)),
+  λ e. let i = inside-is size at len e in omega arith,
+  λ h. and-both (leb at size) (leb len (size - at)) (le-leb at size (omega arith)) (le-leb len (size - at) (omega arith)),
 )
 
 -- ---- flags
@@ -130,8 +130,8 @@ odd-flags (suc (suc (suc (suc (suc (suc zero)))))) o l = absurd (omega arith)
 odd-flags (suc (suc (suc (suc (suc (suc (suc zero))))))) o l = inr (true, true, refl)
 odd-flags (suc (suc (suc (suc (suc (suc (suc (suc n)))))))) o l = absurd (omega arith)
 
-flags-exactly : (f : ℕ) → (goodFlags f ≡ true) ↔ Flags f
-unfolding goodFlags
+flags-exactly : (f : ℕ) → (good_flags f ≡ true) ↔ Flags f
+unfolding good_flags
 flags-exactly f = (λ e. to (eqb f 0) refl (eqb (f % 2) 1) refl (leb f 7) refl e, from)
   where
     to : (a : Bool) → eqb f 0 ≡ a → (b : Bool) → eqb (f % 2) 1 ≡ b → (c : Bool) → leb f 7 ≡ c → (a || (b && c)) ≡ true → Flags f
@@ -158,21 +158,21 @@ below-members n [] = (λ e p m. absurd (Memᴰ.not-nil m), λ f. refl)
 below-members n (x ∷ ps) = let ih = below-members n ps in (
   λ e p m. let b = both (ltb x n) (all_below n ps) e in
       ⊎_elim (λ q. let l = ltb-true x n b.0 in omega arith) (λ k. ih.0 b.1 p k) (Memᴰ.cases_cons m),
-  λ f. and_both (ltb x n) (all_below n ps) (lt-ltb x n (f x (Memᴰ.head refl))) (ih.1 (λ p m. f p (Memᴰ.tail m))),
+  λ f. and-both (ltb x n) (all_below n ps) (lt-ltb x n (f x (Memᴰ.head refl))) (ih.1 (λ p m. f p (Memᴰ.tail m))),
 )
 
 abbrev pub row : ℕ → ℕ → List ℕ → Record
 row f c ps = record { flags = f; class = c; parents = ps }
 
 -- a record is not refused exactly if it is a good row and its pairs find room
-pub record-exactly : (n : ℕ) (keys : List ℕ) (f c : ℕ) (ps : List ℕ) → (recordRefusal n keys f c ps ≡ 0) ↔ (GoodRow n (row f c ps) × (length (put_all c ps keys) ≤ 4096))
-unfolding recordRefusal recordChecks checks.firstRefusal
+pub record-exactly : (n : ℕ) (keys : List ℕ) (f c : ℕ) (ps : List ℕ) → (record_refusal n keys f c ps ≡ 0) ↔ (GoodRow n (row f c ps) × (length (put_all c ps keys) ≤ 4096))
+unfolding record_refusal record_checks checks.first_refusal
 record-exactly n keys f c ps = (
   λ e. let r = record-good n keys f c ps e in (
     record {
       flags-good = (flags-exactly f).0 r.flags-good;
       class-in = r.class-in;
-      parents-in = λ p m. elem_below n p ps r.parents-in (member-elem p ps m);
+      parents-in = λ p m. elem-below n p ps r.parents-in (member-elem p ps m);
       few = r.short;
     },
     r.room,
@@ -197,17 +197,17 @@ keys_of [] = []
 keys_of (p ∷ ps) = key_of p ∷ keys_of ps
 
 -- the keys after rows
-unfoldable pub keysFrom : List Record → List ℕ → List ℕ
-keysFrom [] l = l
-keysFrom (r ∷ rs) l = keysFrom rs (put_all r.class r.parents l)
+unfoldable pub keys_from : List Record → List ℕ → List ℕ
+keys_from [] l = l
+keys_from (r ∷ rs) l = keys_from rs (put_all r.class r.parents l)
 
-from_sorted : (rs : List Record) (l : List ℕ) → Sorted l → Sorted (keysFrom rs l)
-unfolding keysFrom
-from_sorted [] l g = g
-from_sorted (r ∷ rs) l g = from_sorted rs (put_all r.class r.parents l) (all-sorted r.class r.parents l g)
+from-sorted : (rs : List Record) (l : List ℕ) → Sorted l → Sorted (keys_from rs l)
+unfolding keys_from
+from-sorted [] l g = g
+from-sorted (r ∷ rs) l g = from-sorted rs (put_all r.class r.parents l) (all-sorted r.class r.parents l g)
 
-pub from-longer : (rs : List Record) (l : List ℕ) → length l ≤ length (keysFrom rs l)
-unfolding keysFrom
+pub from-longer : (rs : List Record) (l : List ℕ) → length l ≤ length (keys_from rs l)
+unfolding keys_from
 from-longer [] l = omega arith
 from-longer (r ∷ rs) l = omega (arith, all-longer r.class r.parents l, from-longer rs (put_all r.class r.parents l))
 
@@ -223,31 +223,31 @@ elem-listed z c [] qs = refl
 elem-listed z c (p ∷ ps) qs =
     ap (λ (b : Bool). eqb (key c p) z || b) (elem-listed z c ps qs) ∙ sym (or_assoc (eqb (key c p) z) (elem z (map (key c) ps)) (elem z (keys_of qs)))
 
-elem-from : (z : ℕ) (rs : List Record) (l : List ℕ) → elem z (keysFrom rs l) ≡ (elem z (keys_of (pairsOf rs)) || elem z l)
-unfolding keysFrom keys_of pairsOf elem
+elem-from : (z : ℕ) (rs : List Record) (l : List ℕ) → elem z (keys_from rs l) ≡ (elem z (keys_of (pairs_of rs)) || elem z l)
+unfolding keys_from keys_of pairs_of elem
 elem-from z [] l = refl
 elem-from z (r ∷ rs) l =
     elem-from z rs (put_all r.class r.parents l)
-    ∙ ap (λ (b : Bool). elem z (keys_of (pairsOf rs)) || b) (all-has r.class z r.parents l)
-    ∙ or-move (elem z (map (key r.class) r.parents)) (elem z (keys_of (pairsOf rs))) (elem z l)
-    ∙ ap (λ (b : Bool). b || elem z l) (sym (elem-listed z r.class r.parents (pairsOf rs)))
+    ∙ ap (λ (b : Bool). elem z (keys_of (pairs_of rs)) || b) (all-has r.class z r.parents l)
+    ∙ or-move (elem z (map (key r.class) r.parents)) (elem z (keys_of (pairs_of rs))) (elem z l)
+    ∙ ap (λ (b : Bool). b || elem z l) (sym (elem-listed z r.class r.parents (pairs_of rs)))
 
 -- the keys of rows from none are those of their pairs, as a set
-from-set : (rs : List Record) → keysFrom rs [] ≡ setOf (keys_of (pairsOf rs))
+from-set : (rs : List Record) → keys_from rs [] ≡ set_of (keys_of (pairs_of rs))
 unfolding elem
 from-set rs =
-    same-members (keysFrom rs []) (setOf (keys_of (pairsOf rs))) (from_sorted rs [] tt) (set-sorted (keys_of (pairsOf rs)))
-    (λ z. elem-from z rs [] ∙ or-false (elem z (keys_of (pairsOf rs))) ∙ sym (elem-set z (keys_of (pairsOf rs))))
+    same-members (keys_from rs []) (set_of (keys_of (pairs_of rs))) (from-sorted rs [] tt) (set-sorted (keys_of (pairs_of rs)))
+    (λ z. elem-from z rs [] ∙ or-false (elem z (keys_of (pairs_of rs))) ∙ sym (elem-set z (keys_of (pairs_of rs))))
 
 -- parents below 1,024: a key tells its pair
 unfoldable pub Small : List Pair → Type 0
 Small ps = (q : Pair) → Memᴰ q ps → q.parent < 1024
 
-key_has : (p : Pair) (ps : List Pair) → p.parent < 1024 → Small ps → elem (key_of p) (keys_of ps) ≡ hasPair p ps
-unfolding elem keys_of hasPair key_of Small
-key_has p [] h s = refl
-key_has p (q ∷ ps) h s =
-    ap₂ (λ (a b : Bool). a || b) (same (ℕ_discrete q.class p.class) (ℕ_discrete q.parent p.parent) (s q (Memᴰ.head refl))) (key_has p ps h (λ r m. s r (Memᴰ.tail m)))
+key-has : (p : Pair) (ps : List Pair) → p.parent < 1024 → Small ps → elem (key_of p) (keys_of ps) ≡ has_pair p ps
+unfolding elem keys_of has_pair key_of Small
+key-has p [] h s = refl
+key-has p (q ∷ ps) h s =
+    ap₂ (λ (a b : Bool). a || b) (same (ℕ_discrete q.class p.class) (ℕ_discrete q.parent p.parent) (s q (Memᴰ.head refl))) (key-has p ps h (λ r m. s r (Memᴰ.tail m)))
   where
     same : Dec (q.class ≡ p.class) → Dec (q.parent ≡ p.parent) → q.parent < 1024 → eqb (key_of q) (key_of p) ≡ (eqb q.class p.class && eqb q.parent p.parent)
     same (yes a) (yes b) k = rw (eq-eqb (key_of q) (key_of p) (omega arith), eq-eqb q.class p.class a, eq-eqb q.parent p.parent b)
@@ -255,64 +255,64 @@ key_has p (q ∷ ps) h s =
     same (no a) b k = rw (ne_eqb (key_of q) (key_of p) (λ e. a (omega arith)), ne_eqb q.class p.class a)
 
 -- AS MANY KEYS AS DIFFERENT PAIRS
-pub set-counted : (ps : List Pair) → Small ps → length (setOf (keys_of ps)) ≡ different ps
-unfolding setOf keys_of different Small
+pub set-counted : (ps : List Pair) → Small ps → length (set_of (keys_of ps)) ≡ different ps
+unfolding set_of keys_of different Small
 set-counted [] s = refl
-set-counted (p ∷ ps) s = go (hasPair p ps) refl (set-counted ps (λ r m. s r (Memᴰ.tail m)))
+set-counted (p ∷ ps) s = go (has_pair p ps) refl (set-counted ps (λ r m. s r (Memᴰ.tail m)))
   where
-    told : (b : Bool) → hasPair p ps ≡ b → elem (key_of p) (setOf (keys_of ps)) ≡ b
-    told b e = elem-set (key_of p) (keys_of ps) ∙ key_has p ps (s p (Memᴰ.head refl)) (λ r m. s r (Memᴰ.tail m)) ∙ e
+    told : (b : Bool) → has_pair p ps ≡ b → elem (key_of p) (set_of (keys_of ps)) ≡ b
+    told b e = elem-set (key_of p) (keys_of ps) ∙ key-has p ps (s p (Memᴰ.head refl)) (λ r m. s r (Memᴰ.tail m)) ∙ e
 
-    go : (b : Bool) → hasPair p ps ≡ b → length (setOf (keys_of ps)) ≡ different ps → length (put (key_of p) (setOf (keys_of ps))) ≡ cond b (different ps) (suc (different ps))
-    go true e ih = length-old (key_of p) (setOf (keys_of ps)) (told true e) ∙ ih
-    go false e ih = length-new (key_of p) (setOf (keys_of ps)) (told false e) ∙ ap suc ih
+    go : (b : Bool) → has_pair p ps ≡ b → length (set_of (keys_of ps)) ≡ different ps → length (put (key_of p) (set_of (keys_of ps))) ≡ cond b (different ps) (suc (different ps))
+    go true e ih = length-old (key_of p) (set_of (keys_of ps)) (told true e) ∙ ih
+    go false e ih = length-new (key_of p) (set_of (keys_of ps)) (told false e) ∙ ap suc ih
 
-pub listed_small : (c : ℕ) (ps : List ℕ) (qs : List Pair) → ((p : ℕ) → Memᴰ p ps → p < 1024) → Small qs → Small (listed c ps ++ qs)
+pub listed-small : (c : ℕ) (ps : List ℕ) (qs : List Pair) → ((p : ℕ) → Memᴰ p ps → p < 1024) → Small qs → Small (listed c ps ++ qs)
 unfolding listed Small
-listed_small c [] qs h s = s
-listed_small c (p ∷ ps) qs h s = λ q m.
-    ⊎_elim (λ e. let k = h p (Memᴰ.head refl) in let f = ap (λ (z : Pair). z.parent) e in omega arith) (λ k. listed_small c ps qs (λ r n. h r (Memᴰ.tail n)) s q k) (Memᴰ.cases_cons m)
+listed-small c [] qs h s = s
+listed-small c (p ∷ ps) qs h s = λ q m.
+    ⊎_elim (λ e. let k = h p (Memᴰ.head refl) in let f = ap (λ (z : Pair). z.parent) e in omega arith) (λ k. listed-small c ps qs (λ r n. h r (Memᴰ.tail n)) s q k) (Memᴰ.cases_cons m)
 
-pairs_small : (n : ℕ) (rs : List Record) → n ≤ 1024 → ((r : Record) → Memᴰ r rs → GoodRow n r) → Small (pairsOf rs)
-unfolding pairsOf Small
-pairs_small n [] l h = λ q m. absurd (Memᴰ.not-nil m)
-pairs_small n (r ∷ rs) l h =
-    listed_small r.class r.parents (pairsOf rs) (λ p m. let k = (h r (Memᴰ.head refl)).parents-in p m in omega arith) (pairs_small n rs l (λ q m. h q (Memᴰ.tail m)))
+pairs-small : (n : ℕ) (rs : List Record) → n ≤ 1024 → ((r : Record) → Memᴰ r rs → GoodRow n r) → Small (pairs_of rs)
+unfolding pairs_of Small
+pairs-small n [] l h = λ q m. absurd (Memᴰ.not-nil m)
+pairs-small n (r ∷ rs) l h =
+    listed-small r.class r.parents (pairs_of rs) (λ p m. let k = (h r (Memᴰ.head refl)).parents-in p m in omega arith) (pairs-small n rs l (λ q m. h q (Memᴰ.tail m)))
 
-pub pairs-counted : (n : ℕ) (rs : List Record) → n ≤ 1024 → ((r : Record) → Memᴰ r rs → GoodRow n r) → length (keysFrom rs []) ≡ different (pairsOf rs)
-pairs-counted n rs l h = ap length (from-set rs) ∙ set-counted (pairsOf rs) (pairs_small n rs l h)
+pub pairs-counted : (n : ℕ) (rs : List Record) → n ≤ 1024 → ((r : Record) → Memᴰ r rs → GoodRow n r) → length (keys_from rs []) ≡ different (pairs_of rs)
+pairs-counted n rs l h = ap length (from-set rs) ∙ set-counted (pairs_of rs) (pairs-small n rs l h)
 
 -- ---- the columns of the records
 
 -- each place inside, each row good, and room for all pairs with the keys that are there
 record Fit (n : ℕ) (keys parents fs cs ats ls : List ℕ) : Type 0 where
   pub placed : (i : ℕ) → i < length fs → get_or ats i 0 + get_or ls i 0 ≤ length parents
-  pub good : (r : Record) → Memᴰ r (recordsOf parents fs cs ats ls) → GoodRow n r
-  pub room : length (keysFrom (recordsOf parents fs cs ats ls) keys) ≤ 4096
+  pub good : (r : Record) → Memᴰ r (records_of parents fs cs ats ls) → GoodRow n r
+  pub room : length (keys_from (records_of parents fs cs ats ls) keys) ≤ 4096
 
 module _ (parents : List ℕ) (f c a l : ℕ) (fs cs ats ls : List ℕ) where
   abbrev ps : List ℕ
   ps = take l (drop a parents)
 
   fit-first : (n : ℕ) (keys : List ℕ) → Fit n keys parents (f ∷ fs) (c ∷ cs) (a ∷ ats) (l ∷ ls)
-      → (a + l ≤ length parents) × (recordRefusal n keys f c ps ≡ 0) × Fit n (put_all c ps keys) parents fs cs ats ls
-  unfolding recordsOf keysFrom
+      → (a + l ≤ length parents) × (record_refusal n keys f c ps ≡ 0) × Fit n (put_all c ps keys) parents fs cs ats ls
+  unfolding records_of keys_from
   fit-first n keys w = (
     w.placed 0 (omega arith),
-    (record-exactly n keys f c ps).1 (w.good (row f c ps) (Memᴰ.head refl), omega (arith, w.room, from-longer (recordsOf parents fs cs ats ls) (put_all c ps keys))),
+    (record-exactly n keys f c ps).1 (w.good (row f c ps) (Memᴰ.head refl), omega (arith, w.room, from-longer (records_of parents fs cs ats ls) (put_all c ps keys))),
     record { placed = λ i h. w.placed (suc i) (omega arith); good = λ r m. w.good r (Memᴰ.tail m); room = w.room },
   )
 
-  fit-more : (n : ℕ) (keys : List ℕ) → a + l ≤ length parents → recordRefusal n keys f c ps ≡ 0 → Fit n (put_all c ps keys) parents fs cs ats ls
+  fit-more : (n : ℕ) (keys : List ℕ) → a + l ≤ length parents → record_refusal n keys f c ps ≡ 0 → Fit n (put_all c ps keys) parents fs cs ats ls
       → Fit n keys parents (f ∷ fs) (c ∷ cs) (a ∷ ats) (l ∷ ls)
-  unfolding recordsOf keysFrom
+  unfolding records_of keys_from
   fit-more n keys h z w = record {
     placed = elim [ zero ↦ λ k. h | suc i ↦ λ k. w.placed i (omega arith) ];
     good = λ r m. ⊎_elim (λ e. subst (GoodRow n) (sym e) ((record-exactly n keys f c ps).0 z).0) (λ k. w.good r k) (Memᴰ.cases_cons m);
     room = w.room;
   }
 
-placed-inside : (parents : List ℕ) (f c a l : ℕ) (s : State) → (placedRecord parents f c a l s).refusal ≡ 0 → a + l ≤ length parents
+placed-inside : (parents : List ℕ) (f c a l : ℕ) (s : State) → (placed_record parents f c a l s).refusal ≡ 0 → a + l ≤ length parents
 placed-inside parents f c a l s z = go (inside (length parents) a l) refl
   where
     go : (b : Bool) → inside (length parents) a l ≡ b → a + l ≤ length parents
@@ -320,45 +320,45 @@ placed-inside parents f c a l s z = go (inside (length parents) a l) refl
     go false e = absurd (let y = sym (ap (λ (u : Ran). u.refusal) (record-outside parents f c a l s e)) ∙ z in omega arith)
 
 -- a record inside that is not refused is taken
-taken-one : (parents : List ℕ) (f c a l : ℕ) (s : State) → a + l ≤ length parents → recordRefusal s.tables.names s.keys f c (take l (drop a parents)) ≡ 0
-    → placedRecord parents f c a l s ≡ record { refusal = 0; state = withRecord s f c (take l (drop a parents)) }
+taken-one : (parents : List ℕ) (f c a l : ℕ) (s : State) → a + l ≤ length parents → record_refusal s.tables.names s.keys f c (take l (drop a parents)) ≡ 0
+    → placed_record parents f c a l s ≡ record { refusal = 0; state = with_record s f c (take l (drop a parents)) }
 taken-one parents f c a l s h z =
     record-inside parents f c a l s ((inside-plain (length parents) a l).1 h)
     ∙ ap₂ (λ (k : ℕ) (u : State). record { refusal = k; state = u }) z (record-taken s f c (take l (drop a parents)) z)
 
-sound-one : (s : State) (f c : ℕ) (ps : List ℕ) → Sound s → recordRefusal s.tables.names s.keys f c ps ≡ 0 → Sound (withRecord s f c ps)
+sound-one : (s : State) (f c : ℕ) (ps : List ℕ) → Sound s → record_refusal s.tables.names s.keys f c ps ≡ 0 → Sound (with_record s f c ps)
 sound-one s f c ps g z = subst Sound (record-taken s f c ps z) (good-record s f c ps g)
 
 -- what is said of the records that are taken
 record TakenAll (s : State) (parents fs cs ats ls : List ℕ) (u : State) : Type 0 where
   pub fit : Fit s.tables.names s.keys parents fs cs ats ls
-  pub keys-are : u.keys ≡ keysFrom (recordsOf parents fs cs ats ls) s.keys
+  pub keys-are : u.keys ≡ keys_from (records_of parents fs cs ats ls) s.keys
 
-fit_none : (s : State) (parents fs cs ats ls : List ℕ) → Sound s → length fs ≡ 0 → recordsOf parents fs cs ats ls ≡ [] → TakenAll s parents fs cs ats ls s
-unfolding keysFrom
-fit_none s parents fs cs ats ls g e r = record {
+fit-none : (s : State) (parents fs cs ats ls : List ℕ) → Sound s → length fs ≡ 0 → records_of parents fs cs ats ls ≡ [] → TakenAll s parents fs cs ats ls s
+unfolding keys_from
+fit-none s parents fs cs ats ls g e r = record {
   fit = record {
     placed = λ i h. absurd (omega arith);
     good = λ q m. absurd (Memᴰ.not-nil (subst (Memᴰ q) r m));
-    room = let k = g.room in let q = ap (λ (rs : List Record). length (keysFrom rs s.keys)) r in omega arith;
+    room = let k = g.room in let q = ap (λ (rs : List Record). length (keys_from rs s.keys)) r in omega arith;
   };
-  keys-are = sym (ap (λ (rs : List Record). keysFrom rs s.keys) r);
+  keys-are = sym (ap (λ (rs : List Record). keys_from rs s.keys) r);
 }
 
 records-fit : (parents fs cs ats ls : List ℕ) (s : State) → Sound s → length cs ≡ length fs → length ats ≡ length fs → length ls ≡ length fs
-    → (recordRows parents fs cs ats ls s).refusal ≡ 0 → TakenAll s parents fs cs ats ls (recordRows parents fs cs ats ls s).state
-unfolding recordRows recordsOf withRecord keysFrom
-records-fit parents [] cs ats ls s g p q r z = fit_none s parents [] cs ats ls g refl refl
+    → (record_rows parents fs cs ats ls s).refusal ≡ 0 → TakenAll s parents fs cs ats ls (record_rows parents fs cs ats ls s).state
+unfolding record_rows records_of with_record keys_from
+records-fit parents [] cs ats ls s g p q r z = fit-none s parents [] cs ats ls g refl refl
 records-fit parents (f ∷ fs) [] ats ls s g p q r z = absurd (omega arith)
 records-fit parents (f ∷ fs) (c ∷ cs) [] ls s g p q r z = absurd (omega arith)
 records-fit parents (f ∷ fs) (c ∷ cs) (a ∷ ats) [] s g p q r z = absurd (omega arith)
 records-fit parents (f ∷ fs) (c ∷ cs) (a ∷ ats) (l ∷ ls) s g p q r z = go (eqb one.refusal 0) refl z (records-fit parents fs cs ats ls one.state)
   where
     one : Ran
-    one = placedRecord parents f c a l s
+    one = placed_record parents f c a l s
 
     rest : Ran
-    rest = recordRows parents fs cs ats ls one.state
+    rest = record_rows parents fs cs ats ls one.state
 
     part : List ℕ
     part = take l (drop a parents)
@@ -376,8 +376,8 @@ records-fit parents (f ∷ fs) (c ∷ cs) (a ∷ ats) (l ∷ ls) s g p q r z = g
         }
     go false e k ih = absurd (eqb-false one.refusal 0 e k)
 
-fit-taken : (parents fs cs ats ls : List ℕ) (s : State) → Sound s → Fit s.tables.names s.keys parents fs cs ats ls → (recordRows parents fs cs ats ls s).refusal ≡ 0
-unfolding recordRows withRecord
+fit-taken : (parents fs cs ats ls : List ℕ) (s : State) → Sound s → Fit s.tables.names s.keys parents fs cs ats ls → (record_rows parents fs cs ats ls s).refusal ≡ 0
+unfolding record_rows with_record
 fit-taken parents [] cs ats ls s g w = refl
 fit-taken parents (f ∷ fs) [] ats ls s g w = refl
 fit-taken parents (f ∷ fs) (c ∷ cs) [] ls s g w = refl
@@ -385,8 +385,8 @@ fit-taken parents (f ∷ fs) (c ∷ cs) (a ∷ ats) [] s g w = refl
 fit-taken parents (f ∷ fs) (c ∷ cs) (a ∷ ats) (l ∷ ls) s g w =
     let x = fit-first parents f c a l fs cs ats ls s.tables.names s.keys w in
     let part = take l (drop a parents) in
-    ap (λ (u : Ran). (cond (eqb u.refusal 0) (recordRows parents fs cs ats ls u.state) u).refusal) (taken-one parents f c a l s x.0 x.1)
-    ∙ fit-taken parents fs cs ats ls (withRecord s f c part) (sound-one s f c part g x.1) x.2
+    ap (λ (u : Ran). (cond (eqb u.refusal 0) (record_rows parents fs cs ats ls u.state) u).refusal) (taken-one parents f c a l s x.0 x.1)
+    ∙ fit-taken parents fs cs ats ls (with_record s f c part) (sound-one s f c part g x.1) x.2
 
 -- ---- the columns of the names
 
@@ -398,15 +398,15 @@ get-name bytes (at ∷ ats) (len ∷ lens) zero e h = refl
 get-name bytes (at ∷ ats) (len ∷ lens) (suc i) e h = get-name bytes ats lens i (omega arith) (omega arith)
 
 -- each name as long as its column says
-bytes_counted : (bytes ats lens : List ℕ) → length lens ≡ length ats → ((i : ℕ) → i < length ats → get_or ats i 0 + get_or lens i 0 ≤ length bytes)
+bytes-counted : (bytes ats lens : List ℕ) → length lens ≡ length ats → ((i : ℕ) → i < length ats → get_or ats i 0 + get_or lens i 0 ≤ length bytes)
     → length (joined (names_of bytes ats lens)) ≡ sum lens
 unfolding names_of joined sum
-bytes_counted bytes [] [] e h = refl
-bytes_counted bytes [] (len ∷ lens) e h = absurd (omega arith)
-bytes_counted bytes (at ∷ ats) [] e h = absurd (omega arith)
-bytes_counted bytes (at ∷ ats) (len ∷ lens) e h =
+bytes-counted bytes [] [] e h = refl
+bytes-counted bytes [] (len ∷ lens) e h = absurd (omega arith)
+bytes-counted bytes (at ∷ ats) [] e h = absurd (omega arith)
+bytes-counted bytes (at ∷ ats) (len ∷ lens) e h =
     length-append (name_of bytes at len) (joined (names_of bytes ats lens))
-    ∙ ap₂ (λ (m n : ℕ). m + n) (inside-length bytes at len ((inside-plain (length bytes) at len).1 (h 0 (omega arith)))) (bytes_counted bytes ats lens (omega arith) (λ i k. h (suc i) (omega arith)))
+    ∙ ap₂ (λ (m n : ℕ). m + n) (inside-length bytes at len ((inside-plain (length bytes) at len).1 (h 0 (omega arith)))) (bytes-counted bytes ats lens (omega arith) (λ i k. h (suc i) (omega arith)))
 
 -- what a table's names must be
 pub record NamesFit (bytes ats lens : List ℕ) : Type 0 where
@@ -414,7 +414,7 @@ pub record NamesFit (bytes ats lens : List ℕ) : Type 0 where
   pub few : length (names_of bytes ats lens) ≤ 1024
   pub short : length (joined (names_of bytes ats lens)) ≤ 24576
   pub good : (i : ℕ) → i < length (names_of bytes ats lens) → GoodName (get_or (names_of bytes ats lens) i [])
-  pub rising : (i : ℕ) → suc i < length (names_of bytes ats lens) → compareLists (get_or (names_of bytes ats lens) i []) (get_or (names_of bytes ats lens) (suc i) []) ≡ Less
+  pub rising : (i : ℕ) → suc i < length (names_of bytes ats lens) → compare_lists (get_or (names_of bytes ats lens) i []) (get_or (names_of bytes ats lens) (suc i) []) ≡ Less
 
 module _ (bytes ats lens : List ℕ) (e : length lens ≡ length ats) where
   many : length (names_of bytes ats lens) ≡ length ats
@@ -424,14 +424,14 @@ module _ (bytes ats lens : List ℕ) (e : length lens ≡ length ats) where
   names-fit c = record {
     placed = placed;
     few = let m = many in let k = c.few in omega arith;
-    short = let b = bytes_counted bytes ats lens e placed in let k = c.short in omega arith;
+    short = let b = bytes-counted bytes ats lens e placed in let k = c.short in omega arith;
     good = λ i h.
         let m = many in
         let z = name-sized bytes ats lens c i (omega arith) in
         subst GoodName (sym (get-name bytes ats lens i e (omega arith))) (record { least = z.0; most = z.1; formed = c.formed i (omega arith) });
     rising = λ i h.
         let m = many in
-        ap₂ compareLists (get-name bytes ats lens i e (omega arith)) (get-name bytes ats lens (suc i) e (omega arith)) ∙ c.rising i (omega arith);
+        ap₂ compare_lists (get-name bytes ats lens i e (omega arith)) (get-name bytes ats lens (suc i) e (omega arith)) ∙ c.rising i (omega arith);
   }
     where
       placed : (i : ℕ) → i < length ats → get_or ats i 0 + get_or lens i 0 ≤ length bytes
@@ -441,7 +441,7 @@ module _ (bytes ats lens : List ℕ) (e : length lens ≡ length ats) where
   fit-names w = record {
     columns = sym e;
     few = let m = many in let k = w.few in omega arith;
-    short = let b = bytes_counted bytes ats lens e w.placed in let k = w.short in omega arith;
+    short = let b = bytes-counted bytes ats lens e w.placed in let k = w.short in omega arith;
     inside = λ i h.
         let k = w.placed i h in
         let n = inside-length bytes (get_or ats i 0) (get_or lens i 0) ((inside-plain (length bytes) (get_or ats i 0) (get_or lens i 0)).1 k) in
@@ -450,34 +450,34 @@ module _ (bytes ats lens : List ℕ) (e : length lens ≡ length ats) where
     formed = λ i h. (named i h).formed;
     rising = λ i h.
         let m = many in
-        sym (ap₂ compareLists (get-name bytes ats lens i e (omega arith)) (get-name bytes ats lens (suc i) e (omega arith))) ∙ w.rising i (omega arith);
+        sym (ap₂ compare_lists (get-name bytes ats lens i e (omega arith)) (get-name bytes ats lens (suc i) e (omega arith))) ∙ w.rising i (omega arith);
   }
     where
       named : (i : ℕ) → i < length ats → GoodName (name_at bytes ats lens i)
       named i h = subst GoodName (get-name bytes ats lens i e h) (w.good i (let m = many in omega arith))
 
-  pub names-exactly : ((nameRows bytes ats lens [] noTables).refusal ≡ 0) ↔ NamesFit bytes ats lens
-  unfolding noTables checkNames
+  pub names-exactly : ((name_rows bytes ats lens [] no_tables).refusal ≡ 0) ↔ NamesFit bytes ats lens
+  unfolding no_tables check_names
   names-exactly = (
     λ z. names-fit (names-checked bytes ats lens (sym e) z),
-    λ w. names-agree bytes ats lens [] noTables ∙ sym (rw (eq-eqb (length ats) (length lens) (sym e))) ∙ names.accepted bytes ats lens (fit-names w),
+    λ w. names-agree bytes ats lens [] no_tables ∙ sym (rw (eq-eqb (length ats) (length lens) (sym e))) ∙ names.accepted bytes ats lens (fit-names w),
   )
 
 -- ---- the table
 
 module _ (g : Given) (aligned : Aligned g) where
   named : Outcome
-  named = nameRows g.names g.name_at g.name_len [] noTables
+  named = name_rows g.names g.name_at g.name_len [] no_tables
 
   start : State
-  start = record { tables = named.tables; keys = []; marks = noMarks }
+  start = record { tables = named.tables; keys = []; marks = no_marks }
 
   records : Ran
-  records = recordRows g.parents g.rec_flags g.rec_class g.rec_at g.rec_len start
+  records = record_rows g.parents g.rec_flags g.rec_class g.rec_at g.rec_len start
 
   sound : Sound start
   unfolding start named
-  sound = names-good g.names g.name_at g.name_len noMarks refl
+  sound = names-good g.names g.name_at g.name_len no_marks refl
 
   both-taken : ((table g).refusal ≡ 0) ↔ ((named.refusal ≡ 0) × (records.refusal ≡ 0))
   unfolding table table_of named records start
@@ -487,10 +487,10 @@ module _ (g : Given) (aligned : Aligned g) where
       to true q r = (eqb-true named.refusal 0 q, r)
       to false q r = absurd (eqb-false named.refusal 0 q r)
 
-  many-names : named.refusal ≡ 0 → start.tables.names ≡ length (rowsIn g).names
-  unfolding start named rowsIn noTables
+  many-names : named.refusal ≡ 0 → start.tables.names ≡ length (rows_in g).names
+  unfolding start named rows_in no_tables
   many-names z =
-      names-counted g.names g.name_at g.name_len [] noTables (sym aligned.lengths-as) z
+      names-counted g.names g.name_at g.name_len [] no_tables (sym aligned.lengths-as) z
       ∙ (let k : 0 + length g.name_at ≡ length g.name_at = omega arith in k) ∙ sym (names-length g.names g.name_at g.name_len (sym aligned.lengths-as))
 
   all-taken : (table g).refusal ≡ 0 → TakenAll start g.parents g.rec_flags g.rec_class g.rec_at g.rec_len records.state
@@ -498,50 +498,50 @@ module _ (g : Given) (aligned : Aligned g) where
   all-taken z = records-fit g.parents g.rec_flags g.rec_class g.rec_at g.rec_len start sound aligned.classes-as aligned.starts-as aligned.sizes-as (both-taken.0 z).1
 
   -- A TABLE IS TAKEN EXACTLY IF EACH ROW LIES INSIDE ITS SLICE AND THE ROWS ARE WITHIN THE LIMITS
-  pub table-exactly : ((table g).refusal ≡ 0) ↔ (Placed g × InLimits (rowsIn g))
-  unfolding rowsIn start named records
+  pub table-exactly : ((table g).refusal ≡ 0) ↔ (Placed g × InLimits (rows_in g))
+  unfolding rows_in start named records
   table-exactly = (to, from)
     where
-      good-rows : (z : (table g).refusal ≡ 0) (r : Record) → Memᴰ r (rowsIn g).records → GoodRow (length (rowsIn g).names) r
+      good-rows : (z : (table g).refusal ≡ 0) (r : Record) → Memᴰ r (rows_in g).records → GoodRow (length (rows_in g).names) r
       good-rows z r m = subst (λ (k : ℕ). GoodRow k r) (many-names (both-taken.0 z).0) ((all-taken z).fit.good r m)
 
-      to : (table g).refusal ≡ 0 → Placed g × InLimits (rowsIn g)
+      to : (table g).refusal ≡ 0 → Placed g × InLimits (rows_in g)
       to z =
           let t = both-taken.0 z in
           let n = (names-exactly g.names g.name_at g.name_len aligned.lengths-as).0 t.0 in
           let f = (all-taken z).fit in (
-            record { names_in = n.placed; parents-in = f.placed },
+            record { names-in = n.placed; parents-in = f.placed },
             record {
               few-names = n.few;
-              few_bytes = n.short;
+              few-bytes = n.short;
               names-good = n.good;
               rising = n.rising;
               rows-good = good-rows z;
-              few-pairs = let c = pairs-counted (length (rowsIn g).names) (rowsIn g).records n.few (good-rows z) in let k = f.room in omega arith;
+              few-pairs = let c = pairs-counted (length (rows_in g).names) (rows_in g).records n.few (good-rows z) in let k = f.room in omega arith;
             },
           )
 
-      from : Placed g × InLimits (rowsIn g) → (table g).refusal ≡ 0
+      from : Placed g × InLimits (rows_in g) → (table g).refusal ≡ 0
       from w =
           let l = w.1 in
           let z = (names-exactly g.names g.name_at g.name_len aligned.lengths-as).1
-          (record { placed = w.0.names_in; few = l.few-names; short = l.few_bytes; good = l.names-good; rising = l.rising }) in
+          (record { placed = w.0.names-in; few = l.few-names; short = l.few-bytes; good = l.names-good; rising = l.rising }) in
           both-taken.1 (
             z,
             fit-taken g.parents g.rec_flags g.rec_class g.rec_at g.rec_len start sound (record {
               placed = w.0.parents-in;
               good = λ r m. subst (λ (k : ℕ). GoodRow k r) (sym (many-names z)) (l.rows-good r m);
-              room = let c = pairs-counted (length (rowsIn g).names) (rowsIn g).records l.few-names l.rows-good in let k = l.few-pairs in omega arith;
+              room = let c = pairs-counted (length (rows_in g).names) (rows_in g).records l.few-names l.rows-good in let k = l.few-pairs in omega arith;
             }),
           )
 
   -- and then it keeps as many keys as the rows list different pairs
-  pub keys-counted : (table g).refusal ≡ 0 → length (table g).state.keys ≡ different (pairsOf (rowsIn g).records)
-  unfolding table table_of named records start rowsIn
+  pub keys-counted : (table g).refusal ≡ 0 → length (table g).state.keys ≡ different (pairs_of (rows_in g).records)
+  unfolding table table_of named records start rows_in
   keys-counted z =
       let l = (table-exactly.0 z).1 in
       ap (λ (k : ℕ). length (cond {A = Ran} (eqb k 0) records (record { refusal = named.refusal; state = start })).state.keys) (both-taken.0 z).0
-      ∙ ap length (all-taken z).keys-are ∙ pairs-counted (length (rowsIn g).names) (rowsIn g).records l.few-names l.rows-good
+      ∙ ap length (all-taken z).keys-are ∙ pairs-counted (length (rows_in g).names) (rows_in g).records l.few-names l.rows-good
 
 -- ---- Object
 
@@ -556,9 +556,9 @@ index-next wanted ns i e = go (place_of wanted ns) refl e
 pub index-name : (wanted : List ℕ) (ns : List (List ℕ)) (i : ℕ) → place_of wanted ns ≡ some i → (i < length ns) × (get_or ns i [] ≡ wanted)
 unfolding place_of
 index-name wanted [] i e = absurd (let z : ◌≡◌ {A = ℕ} 0 1 = cc in omega arith)
-index-name wanted (n ∷ ns) i e = go (compareLists n wanted) refl e (index-name wanted ns)
+index-name wanted (n ∷ ns) i e = go (compare_lists n wanted) refl e (index-name wanted ns)
   where
-    go : (o : Order) → compareLists n wanted ≡ o → cond (isEqual o) (some 0) (next (place_of wanted ns)) ≡ some i
+    go : (o : Order) → compare_lists n wanted ≡ o → cond (is_equal o) (some 0) (next (place_of wanted ns)) ≡ some i
         → ((j : ℕ) → place_of wanted ns ≡ some j → (j < length ns) × (get_or ns j [] ≡ wanted)) → (i < suc (length ns)) × (get_or (n ∷ ns) i [] ≡ wanted)
     go Equal q f ih = let z : 0 ≡ i = cc in subst (λ (k : ℕ). (k < suc (length ns)) × (get_or (n ∷ ns) k [] ≡ wanted)) z (omega arith, lists-equal n wanted q)
     go Less q f ih = let w = index-next wanted ns i f in subst (λ (k : ℕ). (k < suc (length ns)) × (get_or (n ∷ ns) k [] ≡ wanted)) (sym w.2) (let r = ih w.0 w.1 in (omega (arith, r.0), r.1))
@@ -572,14 +572,14 @@ get-member (n ∷ ns) (suc i) h = Memᴰ.tail (get-member ns i (omega arith))
 index-has : (wanted : List ℕ) (ns : List (List ℕ)) → Memᴰ wanted ns → (i : ℕ) × (place_of wanted ns ≡ some i)
 unfolding place_of
 index-has wanted [] m = absurd (Memᴰ.not-nil m)
-index-has wanted (n ∷ ns) m = go (compareLists n wanted) refl (Memᴰ.cases_cons m) (index-has wanted ns)
+index-has wanted (n ∷ ns) m = go (compare_lists n wanted) refl (Memᴰ.cases_cons m) (index-has wanted ns)
   where
-    later : (wanted ≡ n) ⊎ Memᴰ wanted ns → (compareLists n wanted ≡ Equal → ⊥) → (Memᴰ wanted ns → (i : ℕ) × (place_of wanted ns ≡ some i)) → (i : ℕ) × (next (place_of wanted ns) ≡ some i)
-    later (inl e) d ih = absurd (d (ap (compareLists n) e ∙ lists-same n))
+    later : (wanted ≡ n) ⊎ Memᴰ wanted ns → (compare_lists n wanted ≡ Equal → ⊥) → (Memᴰ wanted ns → (i : ℕ) × (place_of wanted ns ≡ some i)) → (i : ℕ) × (next (place_of wanted ns) ≡ some i)
+    later (inl e) d ih = absurd (d (ap (compare_lists n) e ∙ lists-same n))
     later (inr k) d ih = let w = ih k in (suc w.0, ap next w.1)
 
-    go : (o : Order) → compareLists n wanted ≡ o → (wanted ≡ n) ⊎ Memᴰ wanted ns → (Memᴰ wanted ns → (i : ℕ) × (place_of wanted ns ≡ some i))
-        → (i : ℕ) × (cond (isEqual o) (some 0) (next (place_of wanted ns)) ≡ some i)
+    go : (o : Order) → compare_lists n wanted ≡ o → (wanted ≡ n) ⊎ Memᴰ wanted ns → (Memᴰ wanted ns → (i : ℕ) × (place_of wanted ns ≡ some i))
+        → (i : ℕ) × (cond (is_equal o) (some 0) (next (place_of wanted ns)) ≡ some i)
     go Equal q w ih = (0, refl)
     go Less q w ih = later w (λ e. let f : Less ≡ Equal = sym q ∙ e in let z : ◌≡◌ {A = ℕ} 0 1 = cc in omega arith) ih
     go Greater q w ih = later w (λ e. let f : Greater ≡ Equal = sym q ∙ e in let z : ◌≡◌ {A = ℕ} 0 1 = cc in omega arith) ih
@@ -591,23 +591,23 @@ index-exactly wanted ns =
 
 -- within the limits no two names are the same, so a name's number is the one place where its bytes stand
 module _ (t : Rows) (l : InLimits t) where
-  names-below : (i j : ℕ) → i < j → j < length t.names → compareLists (get_or t.names i []) (get_or t.names j []) ≡ Less
+  names-below : (i j : ℕ) → i < j → j < length t.names → compare_lists (get_or t.names i []) (get_or t.names j []) ≡ Less
   names-below i zero h k = absurd (omega arith)
   names-below i (suc j) h k =
       ⊎_elim
-      (λ e. ap (λ (m : ℕ). compareLists (get_or t.names m []) (get_or t.names (suc j) [])) e ∙ l.rising j k)
+      (λ e. ap (λ (m : ℕ). compare_lists (get_or t.names m []) (get_or t.names (suc j) [])) e ∙ l.rising j k)
       (λ m. lists-trans (get_or t.names i []) (get_or t.names j []) (get_or t.names (suc j) []) (names-below i j m (omega arith)) (l.rising j k))
       (eq-or-lt_of_le (let m : i ≤ j = omega arith in m))
 
   place-only : (i j : ℕ) → i < length t.names → j < length t.names → get_or t.names i [] ≡ get_or t.names j [] → i ≡ j
   place-only i j h k e = go (dec_lt i j) (dec_lt j i)
     where
-      differ : (n : List ℕ) → compareLists n n ≡ Less → ⊥
+      differ : (n : List ℕ) → compare_lists n n ≡ Less → ⊥
       differ n q = let f : Equal ≡ Less = sym (lists-same n) ∙ q in let z : ◌≡◌ {A = ℕ} 0 1 = cc in omega arith
 
       go : Dec (i < j) → Dec (j < i) → i ≡ j
-      go (yes m) o = absurd (differ (get_or t.names i []) (ap (compareLists (get_or t.names i [])) e ∙ names-below i j m k))
-      go (no n) (yes m) = absurd (differ (get_or t.names j []) (ap (compareLists (get_or t.names j [])) (sym e) ∙ names-below j i m h))
+      go (yes m) o = absurd (differ (get_or t.names i []) (ap (compare_lists (get_or t.names i [])) e ∙ names-below i j m k))
+      go (no n) (yes m) = absurd (differ (get_or t.names j []) (ap (compare_lists (get_or t.names j [])) (sym e) ∙ names-below j i m h))
       go (no n) (no m) = omega arith
 
   -- THE NUMBER OF A NAME IS THE PLACE WHERE IT STANDS
@@ -620,52 +620,52 @@ module _ (t : Rows) (l : InLimits t) where
   )
 
 -- ROWS IN THE DOMAIN HAVE A GOOD VIEW: what all laws of classes and types ask
-pub domain-good : (t : Rows) → InDomain t → Good (rowsView t)
-unfolding rowsView number_of
+pub domain-good : (t : Rows) → InDomain t → Good (rows_view t)
+unfolding rows_view number_of
 domain-good t d = record {
   few = d.limits.few-names;
-  object-in = let w = index-has objectName t.names d.object-named in let r = index-name objectName t.names w.0 w.1 in let e = ap number_of w.1 in bound w.0 e r.0;
+  object-in = let w = index-has object_name t.names d.object-named in let r = index-name object_name t.names w.0 w.1 in let e = ap number_of w.1 in bound w.0 e r.0;
   parents-in = λ c p h m. let w = (parents-exactly t c p).0 m in (d.limits.rows-good w.0 w.1).parents-in p w.3;
 }
   where
-    bound : (i : ℕ) → number_of (place_of objectName t.names) ≡ number_of (some i) → i < length t.names → number_of (place_of objectName t.names) < length t.names
+    bound : (i : ℕ) → number_of (place_of object_name t.names) ≡ number_of (some i) → i < length t.names → number_of (place_of object_name t.names) < length t.names
     bound i e l = omega arith
 
 -- OBJECT'S NUMBER IS NOT ALL ONES EXACTLY IF ITS NAME IS THERE
-pub object-there : (t : Rows) → length t.names ≤ 1024 → ((rowsView t).object ≡ 2 ^ 64 - 1 → ⊥) ↔ Memᴰ objectName t.names
-unfolding rowsView number_of
-object-there t few = (λ n. to (place_of objectName t.names) refl n, from)
+pub object-there : (t : Rows) → length t.names ≤ 1024 → ((rows_view t).object ≡ 2 ^ 64 - 1 → ⊥) ↔ Memᴰ object_name t.names
+unfolding rows_view number_of
+object-there t few = (λ n. to (place_of object_name t.names) refl n, from)
   where
-    to : (o : Option ℕ) → place_of objectName t.names ≡ o → (number_of (place_of objectName t.names) ≡ 2 ^ 64 - 1 → ⊥) → Memᴰ objectName t.names
+    to : (o : Option ℕ) → place_of object_name t.names ≡ o → (number_of (place_of object_name t.names) ≡ 2 ^ 64 - 1 → ⊥) → Memᴰ object_name t.names
     to none q n = absurd (n (ap number_of q))
-    to (some i) q n = (index-exactly objectName t.names).1 (i, q)
+    to (some i) q n = (index-exactly object_name t.names).1 (i, q)
 
-    from : Memᴰ objectName t.names → number_of (place_of objectName t.names) ≡ 2 ^ 64 - 1 → ⊥
+    from : Memᴰ object_name t.names → number_of (place_of object_name t.names) ≡ 2 ^ 64 - 1 → ⊥
     from m f =
-        let w = (index-exactly objectName t.names).0 m in
-        let r = (index-name objectName t.names w.0 w.1).0 in
-        let k : number_of (place_of objectName t.names) ≡ w.0 = ap number_of w.1 in
+        let w = (index-exactly object_name t.names).0 m in
+        let r = (index-name object_name t.names w.0 w.1).0 in
+        let k : number_of (place_of object_name t.names) ≡ w.0 = ap number_of w.1 in
         omega arith
 
 -- ---- plain rows as columns
 
-places-in : (n : ℕ) (xs : List (List ℕ)) (i : ℕ) → i < length (placesFrom n xs) → get_or (placesFrom n xs) i 0 + get_or (sizesOf xs) i 0 ≤ n + length (joined xs)
-unfolding placesFrom sizesOf joined
+places-in : (n : ℕ) (xs : List (List ℕ)) (i : ℕ) → i < length (places_from n xs) → get_or (places_from n xs) i 0 + get_or (sizes_of xs) i 0 ≤ n + length (joined xs)
+unfolding places_from sizes_of joined
 places-in n [] i h = absurd (omega arith)
 places-in n (x ∷ xs) zero h = let a = length-append x (joined xs) in omega arith
 places-in n (x ∷ xs) (suc i) h = let a = length-append x (joined xs) in let k = places-in (n + length x) xs i (omega arith) in omega arith
 
 module _ (t : Rows) where
-  pub rows-aligned : Aligned (columnsOf t)
-  rows-aligned = (even-exactly (columnsOf t)).0 (columns-even t)
+  pub rows-aligned : Aligned (columns_of t)
+  rows-aligned = (even-exactly (columns_of t)).0 (columns-even t)
 
-  pub rows-placed : Placed (columnsOf t)
-  unfolding columnsOf
+  pub rows-placed : Placed (columns_of t)
+  unfolding columns_of
   rows-placed = record {
-    names_in = λ i h. let k = places-in 0 t.names i h in omega arith;
-    parents-in = λ i h. let e = rows-aligned.starts-as in let k = places-in 0 (parentLists t.records) i (omega arith) in omega arith;
+    names-in = λ i h. let k = places-in 0 t.names i h in omega arith;
+    parents-in = λ i h. let e = rows-aligned.starts-as in let k = places-in 0 (parent_lists t.records) i (omega arith) in omega arith;
   }
 
   -- EVERY TABLE WITHIN THE LIMITS, WRITTEN AS COLUMNS, IS TAKEN
-  pub rows_taken : InLimits t → (table (columnsOf t)).refusal ≡ 0
-  rows_taken l = (table-exactly (columnsOf t) rows-aligned).1 (rows-placed, subst InLimits (sym (rows_back t)) l)
+  pub rows-taken : InLimits t → (table (columns_of t)).refusal ≡ 0
+  rows-taken l = (table-exactly (columns_of t) rows-aligned).1 (rows-placed, subst InLimits (sym (rows-back t)) l)

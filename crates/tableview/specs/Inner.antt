@@ -3,18 +3,18 @@
 use Rattle.view.specs.View.{View}
 use Rattle.tables.specs.Table.{view_of}
 use Rattle.lattice.specs.Lattice.{World}
-use Rattle.lattice.specs.World.{worldOf}
+use Rattle.lattice.specs.World.{world_of}
 use Rattle.rows.specs.Rows.{State}
 use Rattle.columns.specs.Given.{Given, table}
 
-abbrev pub stateView : State → View
-stateView s = view_of s.keys s.marks s.tables
+abbrev pub state_view : State → View
+state_view s = view_of s.keys s.marks s.tables
 
-abbrev pub stateWorld : State → World
-stateWorld s = worldOf s.keys s.marks s.tables
+abbrev pub state_world : State → World
+state_world s = world_of s.keys s.marks s.tables
 
-unfoldable pub viewIn : Given → View
-viewIn g = stateView (table g).state
+unfoldable pub view_in : Given → View
+view_in g = state_view (table g).state
 
-unfoldable pub worldIn : Given → World
-worldIn g = stateWorld (table g).state
+unfoldable pub world_in : Given → World
+world_in g = state_world (table g).state

@@ -13,18 +13,18 @@ use Rattle.order.specs.Truth.{implied-both}
 use Rattle.sets.specs.Sets.{at, member, insert, members, first}
 use Rattle.sets.specs.Bits.{first-ext}
 use Rattle.sets.specs.Laws.{member-ext, member-past}
-use Rattle.view.specs.View.{View, grow, level, reached, reach, steps, far, distance, ancestor, ancestors, allRecorded, complete, relation, castByFacts, cast, below, anyBelow, lowest, common, nearer, nearest, numbers, candidates, supertype}
+use Rattle.view.specs.View.{View, grow, level, reached, reach, steps, far, distance, ancestor, ancestors, all_recorded, complete, relation, cast_by_facts, cast, below, any_below, lowest, common, nearer, nearest, numbers, candidates, supertype}
 use Rattle.view.specs.declared.Relation.TheVariants.{Yes, No, Unknown}
 use Rattle.view.specs.Grow.{Formed, grow-formed, grow-has, grow-only, grow-keeps, member-le}
 use Rattle.view.specs.Reach.{level-formed}
 
 -- member by member: parents as sets
 pub record SameView (v u : View) : Type 0 where
-  pub names_same : v.names ≡ u.names
+  pub names-same : v.names ≡ u.names
   pub object-same : v.object ≡ u.object
   pub recorded-same : (c : ℕ) → v.recorded c ≡ u.recorded c
   pub parents-same : (c p : ℕ) → Memᴰ p (v.parents c) ↔ Memᴰ p (u.parents c)
-  pub declared_same : (c : ℕ) → v.declared c ≡ u.declared c
+  pub declared-same : (c : ℕ) → v.declared c ≡ u.declared c
   pub interface-same : (c : ℕ) → v.interface c ≡ u.interface c
   pub final-same : (c : ℕ) → v.final c ≡ u.final c
 
@@ -72,7 +72,7 @@ module _ (v u : View) (k : SameView v u) where
 
   pub reached-same : (x : ℕ) → reached v x ≡ reached u x
   unfolding reached
-  reached-same x = level-same v.names x ∙ ap (λ (n : ℕ). level u n x) k.names_same
+  reached-same x = level-same v.names x ∙ ap (λ (n : ℕ). level u n x) k.names-same
 
   pub reach-same : (x y : ℕ) → reach v x y ≡ reach u x y
   unfolding reach
@@ -91,21 +91,21 @@ module _ (v u : View) (k : SameView v u) where
   unfolding steps
   steps-same x y =
       first-ext (λ n. at (level v n x) y) (λ n. at (level u n x) y) (suc v.names) (λ n h. ap (λ (s : List ℕ). at s y) (level-same n x))
-      ∙ ap (λ (m : ℕ). first (λ n. at (level u n x) y) (suc m)) k.names_same
+      ∙ ap (λ (m : ℕ). first (λ n. at (level u n x) y) (suc m)) k.names-same
 
   -- THE DISTANCE
   pub distance-same : (x y : ℕ) → distance v x y ≡ distance u x y
   unfolding distance
   distance-same x y i = cond (reach-same x y i) (some (steps-same x y i)) (cond (eqb y (k.object-same i)) (some far) none)
 
-  all-recorded-same : (cs : List ℕ) → allRecorded v cs ≡ allRecorded u cs
-  unfolding allRecorded
+  all-recorded-same : (cs : List ℕ) → all_recorded v cs ≡ all_recorded u cs
+  unfolding all_recorded
   all-recorded-same [] = refl
   all-recorded-same (c ∷ cs) = ap₂ (λ (a b : Bool). a && b) (k.recorded-same c) (all-recorded-same cs)
 
   pub complete-same : (x : ℕ) → complete v x ≡ complete u x
   unfolding complete
-  complete-same x = all-recorded-same (members (at (reached v x)) 0 1024) ∙ ap (λ (s : List ℕ). allRecorded u (members (at s) 0 1024)) (reached-same x)
+  complete-same x = all-recorded-same (members (at (reached v x)) 0 1024) ∙ ap (λ (s : List ℕ). all_recorded u (members (at s) 0 1024)) (reached-same x)
 
   -- THE RELATION
   pub relation-same : (x y : ℕ) → relation v x y ≡ relation u x y
@@ -113,19 +113,19 @@ module _ (v u : View) (k : SameView v u) where
   relation-same x y i = cond (ancestor-same x y i) Yes (cond (complete-same x i) No Unknown)
 
   -- THE CAST
-  pub cast_same : (x y : ℕ) → cast v x y ≡ cast u x y
+  pub cast-same : (x y : ℕ) → cast v x y ≡ cast u x y
   unfolding cast
-  cast_same x y i =
+  cast-same x y i =
       (ancestor-same x y i || ancestor-same y x i)
-      || ((k.declared_same x i && k.declared_same y i)
-      && castByFacts (k.interface-same x i) (k.final-same x i) (k.interface-same y i) (k.final-same y i))
+      || ((k.declared-same x i && k.declared-same y i)
+      && cast_by_facts (k.interface-same x i) (k.final-same x i) (k.interface-same y i) (k.final-same y i))
 
   below-same : (d c : ℕ) → below v d c ≡ below u d c
   unfolding below
   below-same d c = ap₂ (λ (a b : Bool). not (eqb d c) && (a && not b)) (ancestor-same d c) (ancestor-same c d)
 
-  any-below-same : (ds : List ℕ) (c : ℕ) → anyBelow v ds c ≡ anyBelow u ds c
-  unfolding anyBelow
+  any-below-same : (ds : List ℕ) (c : ℕ) → any_below v ds c ≡ any_below u ds c
+  unfolding any_below
   any-below-same [] c = refl
   any-below-same (d ∷ ds) c = ap₂ (λ (a b : Bool). a || b) (below-same d c) (any-below-same ds c)
 
@@ -159,7 +159,7 @@ module _ (v u : View) (k : SameView v u) where
 
     candidates-same : candidates v left right ≡ candidates u left right
     unfolding candidates
-    candidates-same = common-same (numbers 0 v.names) ∙ ap (λ (n : ℕ). common u left right (numbers 0 n)) k.names_same
+    candidates-same = common-same (numbers 0 v.names) ∙ ap (λ (n : ℕ). common u left right (numbers 0 n)) k.names-same
 
     lows-same : lowest v (candidates v left right) (candidates v left right) ≡ lowest u (candidates u left right) (candidates u left right)
     lows-same = lowest-same (candidates v left right) (candidates v left right) ∙ ap (λ (l : List ℕ). lowest u l l) candidates-same

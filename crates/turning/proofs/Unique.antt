@@ -7,10 +7,10 @@ use Rattle.inserting.specs.Store.{Store}
 use Rattle.turning.proofs.turn.Reads as turn-reads
 use Rattle.turning.proofs.turn.Kinds as turn-kinds
 
-pub turn_one : (κs : Lfts 11) (a : Dens κs turn-kinds.ps) (r₁ r₂ : (res_t turn-kinds.r κs).Denot) (x₁ x₂ : AtExit (ended_of 11 turn-kinds.ps turn-kinds.r) κs)
+pub turn-one : (κs : Lfts 11) (a : Dens κs turn-kinds.ps) (r₁ r₂ : (res_t turn-kinds.r κs).Denot) (x₁ x₂ : AtExit (ended_of 11 turn-kinds.ps turn-kinds.r) κs)
     → turn-reads.Post κs a r₁ x₁ → turn-reads.Post κs a r₂ x₂
     → (r₁ ≡ r₂) × (x₁.1.1.1.0.now ≡ x₂.1.1.1.0.now) × (x₁.1.1.1.1.0.now ≡ x₂.1.1.1.1.0.now)
-turn_one κs a r₁ r₂ x₁ x₂ p q = (
+turn-one κs a r₁ r₂ x₁ x₂ p q = (
   ap (λ (s : Store). s.state) p ∙ sym (ap (λ (s : Store). s.state) q),
   ap (λ (s : Store). s.cells) p ∙ sym (ap (λ (s : Store). s.cells) q),
   ap (λ (s : Store). s.ring) p ∙ sym (ap (λ (s : Store). s.ring) q),

@@ -2,12 +2,12 @@
 // keys and its own flows are each read several times, so they are cut out once.
 ghost use Rattle.std.specs.Prelude.{◌≡◌, true, ◌≤◌, ◌<◌, length};
 ghost use Rattle.inserting.specs.Store.{store};
-ghost use Rattle.rules.specs.Rules.{linksIn};
-ghost use Rattle.ty.specs.Answers.{maybeWord};
-ghost use Rattle.lattice.specs.World.{worldOf};
-ghost use Rattle.lattice.specs.Lattice.{mostSpecificUpper};
-ghost use Rattle.solving.specs.Solving.{producedType, or_else};
-ghost use Rattle.turning.specs.Turning.{Asks, Turnable, stateIn, only_if, Gathers, turned};
+ghost use Rattle.rules.specs.Rules.{links_in};
+ghost use Rattle.ty.specs.Answers.{maybe_word};
+ghost use Rattle.lattice.specs.World.{world_of};
+ghost use Rattle.lattice.specs.Lattice.{most_specific_upper};
+ghost use Rattle.solving.specs.Solving.{produced_type, or_else};
+ghost use Rattle.turning.specs.Turning.{Asks, Turnable, state_in, only_if, Gathers, turned};
 
 use asking::{Asked, asks};
 use candidates::most_specific_upper;
@@ -30,7 +30,7 @@ fn produced_of(
     words: &mut [u64],
 ) -> MaybeType
     requires { Asks pairs.now marks.now t keys.now × (root < 512) × (length keys.now ≤ length words.old) }
-    ensures { result ≡ maybeWord (producedType (worldOf pairs.now marks.now t) (stateIn keys.now root)) }
+    ensures { result ≡ maybe_word (produced_type (world_of pairs.now marks.now t) (state_in keys.now root)) }
 {
     let m = copy_evidence(keys, root, words);
     join_all(pairs, marks, t, &words[0..m])
@@ -47,7 +47,7 @@ fn produced_if(
     words: &mut [u64],
 ) -> MaybeType
     requires { Asks pairs.now marks.now t keys.now × (root < 512) × (length keys.now ≤ length words.old) }
-    ensures { result ≡ only_if asked (maybeWord (producedType (worldOf pairs.now marks.now t) (stateIn keys.now root))) }
+    ensures { result ≡ only_if asked (maybe_word (produced_type (world_of pairs.now marks.now t) (state_in keys.now root))) }
 {
     if asked {
         return produced_of(pairs, marks, t, keys, root, words);
@@ -65,7 +65,7 @@ fn upper_of(
     words: &mut [u64],
 ) -> MaybeType
     requires { Asks pairs.now marks.now t keys.now × (root < 512) × (length keys.now ≤ length words.old) }
-    ensures { result ≡ maybeWord (mostSpecificUpper (worldOf pairs.now marks.now t) (stateIn keys.now root).upper) }
+    ensures { result ≡ maybe_word (most_specific_upper (world_of pairs.now marks.now t) (state_in keys.now root).upper) }
 {
     let m = copy_words(keys, root, 2, words, 0);
     most_specific_upper(pairs, marks, t, &words[0..m])
@@ -81,8 +81,8 @@ fn shape_of(
     words: &mut [u64],
     produced: MaybeType,
 ) -> MaybeType
-    requires { Asks pairs.now marks.now t keys.now × (root < 512) × (length keys.now ≤ length words.old) × (produced ≡ maybeWord (producedType (worldOf pairs.now marks.now t) (stateIn keys.now root))) }
-    ensures { result ≡ maybeWord (or_else (producedType (worldOf pairs.now marks.now t) (stateIn keys.now root)) (mostSpecificUpper (worldOf pairs.now marks.now t) (stateIn keys.now root).upper)) }
+    requires { Asks pairs.now marks.now t keys.now × (root < 512) × (length keys.now ≤ length words.old) × (produced ≡ maybe_word (produced_type (world_of pairs.now marks.now t) (state_in keys.now root))) }
+    ensures { result ≡ maybe_word (or_else (produced_type (world_of pairs.now marks.now t) (state_in keys.now root)) (most_specific_upper (world_of pairs.now marks.now t) (state_in keys.now root).upper)) }
 {
     match produced {
         MaybeType::Is(_) => produced,
@@ -101,8 +101,8 @@ fn shape_if(
     words: &mut [u64],
     produced: MaybeType,
 ) -> MaybeType
-    requires { Asks pairs.now marks.now t keys.now × (root < 512) × (length keys.now ≤ length words.old) × (asked ≡ true → produced ≡ maybeWord (producedType (worldOf pairs.now marks.now t) (stateIn keys.now root))) }
-    ensures { result ≡ only_if asked (maybeWord (or_else (producedType (worldOf pairs.now marks.now t) (stateIn keys.now root)) (mostSpecificUpper (worldOf pairs.now marks.now t) (stateIn keys.now root).upper))) }
+    requires { Asks pairs.now marks.now t keys.now × (root < 512) × (length keys.now ≤ length words.old) × (asked ≡ true → produced ≡ maybe_word (produced_type (world_of pairs.now marks.now t) (state_in keys.now root))) }
+    ensures { result ≡ only_if asked (maybe_word (or_else (produced_type (world_of pairs.now marks.now t) (state_in keys.now root)) (most_specific_upper (world_of pairs.now marks.now t) (state_in keys.now root).upper))) }
 {
     if asked {
         return shape_of(pairs, marks, t, keys, root, words, produced);
@@ -133,7 +133,7 @@ fn gather(
     uppers: &mut [u64],
 ) -> Gathered
     requires { Asks pairs.now marks.now t keys.now × (root < 512) × (length keys.now ≤ length words.old) × (length keys.now ≤ length fallbacks.old) × (length keys.now ≤ length uppers.old) × (k.element ≡ true → k.produced ≡ true) }
-    ensures { Gathers k (worldOf pairs.now marks.now t) keys.now root result fallbacks.old fallbacks.new uppers.old uppers.new }
+    ensures { Gathers k (world_of pairs.now marks.now t) keys.now root result fallbacks.old fallbacks.new uppers.old uppers.new }
 {
     let produced = produced_if(k.produced, pairs, marks, t, keys, root, words);
     let shape = shape_if(k.element, pairs, marks, t, keys, root, words, produced);
@@ -169,7 +169,7 @@ pub fn turn(
     root: u64,
 ) -> State
     requires { Turnable pairs.now marks.now t (store a.old ring.old s) words.old fallbacks.old uppers.old flows.now incoming.now reads.now writes.now × (root < 512) }
-    ensures { store a.new ring.new result ≡ turned (worldOf pairs.now marks.now t) (linksIn flows.now incoming.now reads.now writes.now) root (store a.old ring.old s) }
+    ensures { store a.new ring.new result ≡ turned (world_of pairs.now marks.now t) (links_in flows.now incoming.now reads.now writes.now) root (store a.old ring.old s) }
 {
     let to = sorted::run(flows, flows.len(), 512, root);
     let of = sorted::run(a, s.count, COMPONENT, root);

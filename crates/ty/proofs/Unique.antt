@@ -64,9 +64,9 @@ pub long-one : (κs : Lfts 0) (a : Dens κs long-kinds.ps) (r₁ r₂ : (res_t l
     → long-reads.Post κs a r₁ x₁ → long-reads.Post κs a r₂ x₂ → r₁ ≡ r₂
 long-one κs a r₁ r₂ x₁ x₂ p q = λ i. record { word = (p ∙ sym q) i }
 
-pub float_one : (κs : Lfts 0) (a : Dens κs float-kinds.ps) (r₁ r₂ : (res_t float-kinds.r κs).Denot) (x₁ x₂ : AtExit (ended_of 0 float-kinds.ps float-kinds.r) κs)
+pub float-one : (κs : Lfts 0) (a : Dens κs float-kinds.ps) (r₁ r₂ : (res_t float-kinds.r κs).Denot) (x₁ x₂ : AtExit (ended_of 0 float-kinds.ps float-kinds.r) κs)
     → float-reads.Post κs a r₁ x₁ → float-reads.Post κs a r₂ x₂ → r₁ ≡ r₂
-float_one κs a r₁ r₂ x₁ x₂ p q = λ i. record { word = (p ∙ sym q) i }
+float-one κs a r₁ r₂ x₁ x₂ p q = λ i. record { word = (p ∙ sym q) i }
 
 pub double-one : (κs : Lfts 0) (a : Dens κs double-kinds.ps) (r₁ r₂ : (res_t double-kinds.r κs).Denot) (x₁ x₂ : AtExit (ended_of 0 double-kinds.ps double-kinds.r) κs)
     → double-reads.Post κs a r₁ x₁ → double-reads.Post κs a r₂ x₂ → r₁ ≡ r₂
@@ -84,13 +84,13 @@ pub dims-one : (κs : Lfts 0) (a : Dens κs dims-kinds.ps) (r₁ r₂ : (res_t d
     → dims-reads.Post κs a r₁ x₁ → dims-reads.Post κs a r₂ x₂ → r₁ ≡ r₂
 dims-one κs a r₁ r₂ x₁ x₂ p q = p ∙ sym q
 
-pub tag_one : (κs : Lfts 0) (a : Dens κs tag-kinds.ps) (r₁ r₂ : (res_t tag-kinds.r κs).Denot) (x₁ x₂ : AtExit (ended_of 0 tag-kinds.ps tag-kinds.r) κs)
+pub tag-one : (κs : Lfts 0) (a : Dens κs tag-kinds.ps) (r₁ r₂ : (res_t tag-kinds.r κs).Denot) (x₁ x₂ : AtExit (ended_of 0 tag-kinds.ps tag-kinds.r) κs)
     → tag-reads.Post κs a r₁ x₁ → tag-reads.Post κs a r₂ x₂ → r₁ ≡ r₂
-tag_one κs a r₁ r₂ x₁ x₂ p q = p ∙ sym q
+tag-one κs a r₁ r₂ x₁ x₂ p q = p ∙ sym q
 
-pub load_one : (κs : Lfts 0) (a : Dens κs load-kinds.ps) (r₁ r₂ : (res_t load-kinds.r κs).Denot) (x₁ x₂ : AtExit (ended_of 0 load-kinds.ps load-kinds.r) κs)
+pub load-one : (κs : Lfts 0) (a : Dens κs load-kinds.ps) (r₁ r₂ : (res_t load-kinds.r κs).Denot) (x₁ x₂ : AtExit (ended_of 0 load-kinds.ps load-kinds.r) κs)
     → load-reads.Post κs a r₁ x₁ → load-reads.Post κs a r₂ x₂ → r₁ ≡ r₂
-load_one κs a r₁ r₂ x₁ x₂ p q = p ∙ sym q
+load-one κs a r₁ r₂ x₁ x₂ p q = p ∙ sym q
 
 pub is-known-one : (κs : Lfts 0) (a : Dens κs is-known-kinds.ps) (r₁ r₂ : (res_t is-known-kinds.r κs).Denot) (x₁ x₂ : AtExit (ended_of 0 is-known-kinds.ps is-known-kinds.r) κs)
     → is-known-reads.Post κs a r₁ x₁ → is-known-reads.Post κs a r₂ x₂ → r₁ ≡ r₂

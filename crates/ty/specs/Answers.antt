@@ -13,7 +13,7 @@ use Rattle.ty.specs.declared.MaybeType.TheVariants.{Is, Nothing}
 use Rattle.ty.specs.declared.Arrayed.{Arrayed}
 use Rattle.ty.specs.declared.Arrayed.TheVariants.{Of, Deep}
 use Rattle.ty.specs.Types.{ArgType, Primitive, Array, Unknown, element, depth, Int, Long, Float, Double, Boolean, Short, Byte, Char, ObjectCategory, ArrayCategory}
-use Rattle.ty.specs.Words.{dimension, noType, tag_of, load_of, base_of, type_of, legalWord, word_of, pack}
+use Rattle.ty.specs.Words.{dimension, no_type, tag_of, load_of, base_of, type_of, legal_word, word_of, pack}
 use Rattle.ty.specs.Shape.{type-array, type-flat, word-deeper, legal-element}
 use Rattle.ty.specs.Round.{word-of-type, depth-dims}
 
@@ -22,67 +22,67 @@ word w = record { word = w }
 
 -- ---- the constants
 
-abbrev pub intWord : ℕ
-intWord = 5
+abbrev pub int_word : ℕ
+int_word = 5
 
-abbrev pub longWord : ℕ
-longWord = 6
+abbrev pub long_word : ℕ
+long_word = 6
 
-abbrev pub floatWord : ℕ
-floatWord = 7
+abbrev pub float_word : ℕ
+float_word = 7
 
-abbrev pub doubleWord : ℕ
-doubleWord = 8
+abbrev pub double_word : ℕ
+double_word = 8
 
-abbrev pub unknownWord : ℕ
-unknownWord = 0x0002a567813249a0
+abbrev pub unknown_word : ℕ
+unknown_word = 0x0002a567813249a0
 
 -- ArgType::unknown()
-abbrev pub unknownType : ArgType
-unknownType =
+abbrev pub unknown_type : ArgType
+unknown_type =
     Unknown (Int ∷ Long ∷ Float ∷ Double ∷ Boolean ∷ Short ∷ Byte ∷ Char ∷ ObjectCategory ∷ ArrayCategory ∷ [])
 
 -- they are the words of the types that they are named after
-pub constants : (word_of (Primitive Int) ≡ intWord)
-    × (word_of (Primitive Long) ≡ longWord)
-    × (word_of (Primitive Float) ≡ floatWord)
-    × (word_of (Primitive Double) ≡ doubleWord)
-    × (word_of unknownType ≡ unknownWord)
+pub constants : (word_of (Primitive Int) ≡ int_word)
+    × (word_of (Primitive Long) ≡ long_word)
+    × (word_of (Primitive Float) ≡ float_word)
+    × (word_of (Primitive Double) ≡ double_word)
+    × (word_of unknown_type ≡ unknown_word)
 unfolding word_of pack
 constants = (refl, refl, refl, refl, refl)
 
 -- ---- the answers
 
-unfoldable pub decodeWord : ℕ → ℕ → Decoded
-decodeWord names w = cond (legalWord names w) (Good (word w)) (Refused noType)
+unfoldable pub decode_word : ℕ → ℕ → Decoded
+decode_word names w = cond (legal_word names w) (Good (word w)) (Refused no_type)
 
 -- a word's element: a dimension less, where it has one
-unfoldable pub elementWord : ℕ → MaybeType
-elementWord w = cond (leb dimension w) (Is (word (w - dimension))) Nothing
+unfoldable pub element_word : ℕ → MaybeType
+element_word w = cond (leb dimension w) (Is (word (w - dimension))) Nothing
 
 -- a word's array: a dimension more, where it has fewer than 255
-unfoldable pub arrayWord : ℕ → Arrayed
-arrayWord w = cond (ltb w (255 * dimension)) (Of (word (w + dimension))) Deep
+unfoldable pub array_word : ℕ → Arrayed
+array_word w = cond (ltb w (255 * dimension)) (Of (word (w + dimension))) Deep
 
 -- a type that may be missing, as a word
-abbrev pub maybeWord : Option ArgType → MaybeType
-maybeWord none = Nothing
-maybeWord (some t) = Is (word (word_of t))
+abbrev pub maybe_word : Option ArgType → MaybeType
+maybe_word none = Nothing
+maybe_word (some t) = Is (word (word_of t))
 
 module _ (names w : ℕ) where
-  pub decode-good : legalWord names w ≡ true → Good (word w) ≡ decodeWord names w
-  unfolding decodeWord
+  pub decode-good : legal_word names w ≡ true → Good (word w) ≡ decode_word names w
+  unfolding decode_word
   decode-good e = rw e
 
-  pub decode-bad : legalWord names w ≡ false → Refused noType ≡ decodeWord names w
-  unfolding decodeWord
+  pub decode-bad : legal_word names w ≡ false → Refused no_type ≡ decode_word names w
+  unfolding decode_word
   decode-bad e = rw e
 
 -- ---- element and array of a legal word are those of its type
 
-module _ (names w : ℕ) (legal : legalWord names w ≡ true) where
-  pub element-type : elementWord w ≡ maybeWord (element (type_of w))
-  unfolding elementWord element base_of
+module _ (names w : ℕ) (legal : legal_word names w ≡ true) where
+  pub element-type : element_word w ≡ maybe_word (element (type_of w))
+  unfolding element_word element base_of
   element-type = go (leb (2 ^ 56) w) refl
     where
       none-flat : (tag load : ℕ) → element (base_of tag load) ≡ none
@@ -90,23 +90,23 @@ module _ (names w : ℕ) (legal : legalWord names w ≡ true) where
       none-flat (suc zero) load = refl
       none-flat (suc (suc t)) load = refl
 
-      go : (b : Bool) → leb (2 ^ 56) w ≡ b → cond b (Is (word (w - 2 ^ 56))) Nothing ≡ maybeWord (element (type_of w))
+      go : (b : Bool) → leb (2 ^ 56) w ≡ b → cond b (Is (word (w - 2 ^ 56))) Nothing ≡ maybe_word (element (type_of w))
       go true e =
           let h = leb-true (2 ^ 56) w e in
           ap (λ (x : ℕ). Is (word x)) (sym (word-of-type names (w - 2 ^ 56) (legal-element names w h ∙ legal)))
-          ∙ sym (ap (λ (t : ArgType). maybeWord (element t)) (type-array w h))
+          ∙ sym (ap (λ (t : ArgType). maybe_word (element t)) (type-array w h))
       go false e =
-          sym (ap (λ (t : ArgType). maybeWord (element t)) (type-flat w (leb-false (2 ^ 56) w e)) ∙ ap maybeWord (none-flat (tag_of w) (load_of w)))
+          sym (ap (λ (t : ArgType). maybe_word (element t)) (type-flat w (leb-false (2 ^ 56) w e)) ∙ ap maybe_word (none-flat (tag_of w) (load_of w)))
 
-  pub array-type : depth (type_of w) < 255 → arrayWord w ≡ Of (word (word_of (Array (type_of w))))
-  unfolding arrayWord
+  pub array-type : depth (type_of w) < 255 → array_word w ≡ Of (word (word_of (Array (type_of w))))
+  unfolding array_word
   array-type h =
       let d = depth-dims w in
       ap (λ (b : Bool). cond b (Of (word (w + 2 ^ 56))) Deep) (lt-ltb w (255 * 2 ^ 56) (omega arith))
       ∙ ap (λ (x : ℕ). Of (word x)) (ap (λ (x : ℕ). x + 2 ^ 56) (sym (word-of-type names w legal)) ∙ sym (word-deeper (type_of w)))
 
-  pub array-deep : 255 ≤ depth (type_of w) → arrayWord w ≡ Deep
-  unfolding arrayWord
+  pub array-deep : 255 ≤ depth (type_of w) → array_word w ≡ Deep
+  unfolding array_word
   array-deep h =
       let d = depth-dims w in
       ap (λ (b : Bool). cond b (Of (word (w + 2 ^ 56))) Deep) (le-ltb w (255 * 2 ^ 56) (omega arith))
@@ -114,24 +114,24 @@ module _ (names w : ℕ) (legal : legalWord names w ≡ true) where
 -- what the answer of `decode` tells
 
 module _ (names w : ℕ) where
-  pub good-legal : (t : TypeWord) → decodeWord names w ≡ Good t → legalWord names w ≡ true
-  unfolding decodeWord
-  good-legal t h = go (legalWord names w) h
+  pub good-legal : (t : TypeWord) → decode_word names w ≡ Good t → legal_word names w ≡ true
+  unfolding decode_word
+  good-legal t h = go (legal_word names w) h
     where
-      go : (b : Bool) → cond b (Good (word w)) (Refused noType) ≡ Good t → b ≡ true
+      go : (b : Bool) → cond b (Good (word w)) (Refused no_type) ≡ Good t → b ≡ true
       go true e = refl
       go false e = cc
 
-  pub refused-legal : (k : ℕ) → decodeWord names w ≡ Refused k → legalWord names w ≡ false
-  unfolding decodeWord
-  refused-legal k h = go (legalWord names w) h
+  pub refused-legal : (k : ℕ) → decode_word names w ≡ Refused k → legal_word names w ≡ false
+  unfolding decode_word
+  refused-legal k h = go (legal_word names w) h
     where
-      go : (b : Bool) → cond b (Good (word w)) (Refused noType) ≡ Refused k → b ≡ false
+      go : (b : Bool) → cond b (Good (word w)) (Refused no_type) ≡ Refused k → b ≡ false
       go true e = cc
       go false e = refl
 
   -- the type is the word itself
-  pub good-type : (t : TypeWord) → decodeWord names w ≡ Good t → legalWord names t.word ≡ true
+  pub good-type : (t : TypeWord) → decode_word names w ≡ Good t → legal_word names t.word ≡ true
   good-type t h =
       let q : word w ≡ t = cc (decode-good names w (good-legal t h)) in
-      ap (λ (u : TypeWord). legalWord names u.word) (sym q) ∙ good-legal t h
+      ap (λ (u : TypeWord). legal_word names u.word) (sym q) ∙ good-legal t h

@@ -3,67 +3,67 @@ use Rattle.std.specs.Prelude.{◌≡◌, refl, Bool, true, false, not, ◌&&◌,
 use Rattle.std.proofs.Common.{sym, ap, ap₂, ◌∙◌, arith}
 use Rattle.std.proofs.Math.Seq.{take-append_seam, drop-append_seam}
 use borrow.Author.Tests.{eqb-true, eqb-false, leb-true, ne_eqb, not-true}
-use Rattle.order.specs.Truth.{and_left, and_right, and_both, and_assoc}
+use Rattle.order.specs.Truth.{and-left, and-right, and-both, and-assoc}
 use Rattle.order.specs.Lists.{elem}
-use Rattle.ty.specs.Words.{goodDigits, distinct}
+use Rattle.ty.specs.Words.{good_digits, distinct}
 use Rattle.ty.specs.Digits.{Digits}
 
 -- ---- good digits are a list without repeats, and zeros
 
--- goodDigits 0 asks for zeros alone
-pub digits-split : (n : ℕ) (ds : List ℕ) → goodDigits n ds ≡ (distinct (take n ds) && goodDigits 0 (drop n ds))
-unfolding goodDigits distinct
+-- good_digits 0 asks for zeros alone
+pub digits-split : (n : ℕ) (ds : List ℕ) → good_digits n ds ≡ (distinct (take n ds) && good_digits 0 (drop n ds))
+unfolding good_digits distinct
 digits-split zero [] = refl
 digits-split zero (d ∷ ds) = refl
 digits-split (suc n) [] = refl
 digits-split (suc n) (d ∷ ds) =
     let fresh = not (elem d (take n ds)) in
-    let rest = goodDigits 0 (drop n ds) in
+    let rest = good_digits 0 (drop n ds) in
     ap (λ (t : Bool). leb d 10 && (fresh && t)) (digits-split n ds)
-    ∙ ap (◌&&◌ (leb d 10)) (and_assoc fresh (distinct (take n ds)) rest)
-    ∙ and_assoc (leb d 10) (fresh && distinct (take n ds)) rest
+    ∙ ap (◌&&◌ (leb d 10)) (and-assoc fresh (distinct (take n ds)) rest)
+    ∙ and-assoc (leb d 10) (fresh && distinct (take n ds)) rest
 
-zeros-are : (ds : List ℕ) → goodDigits 0 ds ≡ true → ds ≡ replicate (length ds) 0
-unfolding goodDigits
+zeros-are : (ds : List ℕ) → good_digits 0 ds ≡ true → ds ≡ replicate (length ds) 0
+unfolding good_digits
 zeros-are [] h = refl
 zeros-are (d ∷ ds) h =
     ap₂ (λ (x : ℕ) (xs : List ℕ). x ∷ xs)
-    (eqb-true d 0 (and_left (eqb d 0) (goodDigits 0 ds) h))
-    (zeros-are ds (and_right (eqb d 0) (goodDigits 0 ds) h))
+    (eqb-true d 0 (and-left (eqb d 0) (good_digits 0 ds) h))
+    (zeros-are ds (and-right (eqb d 0) (good_digits 0 ds) h))
 
-zeros-good : (k : ℕ) → goodDigits 0 (replicate k 0) ≡ true
-unfolding goodDigits
+zeros-good : (k : ℕ) → good_digits 0 (replicate k 0) ≡ true
+unfolding good_digits
 zeros-good zero = refl
 zeros-good (suc k) = zeros-good k
 
-pub good-distinct : (n : ℕ) (ds : List ℕ) → goodDigits n ds ≡ true → distinct (take n ds) ≡ true
-good-distinct n ds h = and_left (distinct (take n ds)) (goodDigits 0 (drop n ds)) (sym (digits-split n ds) ∙ h)
+pub good-distinct : (n : ℕ) (ds : List ℕ) → good_digits n ds ≡ true → distinct (take n ds) ≡ true
+good-distinct n ds h = and-left (distinct (take n ds)) (good_digits 0 (drop n ds)) (sym (digits-split n ds) ∙ h)
 
-pub good-zeros : (n : ℕ) (ds : List ℕ) → goodDigits n ds ≡ true → drop n ds ≡ replicate (length (drop n ds)) 0
+pub good-zeros : (n : ℕ) (ds : List ℕ) → good_digits n ds ≡ true → drop n ds ≡ replicate (length (drop n ds)) 0
 good-zeros n ds h =
-    zeros-are (drop n ds) (and_right (distinct (take n ds)) (goodDigits 0 (drop n ds)) (sym (digits-split n ds) ∙ h))
+    zeros-are (drop n ds) (and-right (distinct (take n ds)) (good_digits 0 (drop n ds)) (sym (digits-split n ds) ∙ h))
 
-pub good-padded : (cs : List ℕ) (k : ℕ) → distinct cs ≡ true → goodDigits (length cs) (cs ++ replicate k 0) ≡ true
+pub good-padded : (cs : List ℕ) (k : ℕ) → distinct cs ≡ true → good_digits (length cs) (cs ++ replicate k 0) ≡ true
 good-padded cs k h =
     digits-split (length cs) (cs ++ replicate k 0)
-    ∙ ap₂ (λ (xs ys : List ℕ). distinct xs && goodDigits 0 ys) (take-append_seam cs (replicate k 0)) (drop-append_seam cs (replicate k 0))
-    ∙ and_both (distinct cs) (goodDigits 0 (replicate k 0)) h (zeros-good k)
+    ∙ ap₂ (λ (xs ys : List ℕ). distinct xs && good_digits 0 ys) (take-append_seam cs (replicate k 0)) (drop-append_seam cs (replicate k 0))
+    ∙ and-both (distinct cs) (good_digits 0 (replicate k 0)) h (zeros-good k)
 
 -- ---- what a list without repeats is made of
 
 module _ (c : ℕ) (cs : List ℕ) (h : distinct (c ∷ cs) ≡ true) where
   pub distinct-first : c ≤ 10
   unfolding distinct
-  distinct-first = leb-true c 10 (and_left (leb c 10) (not (elem c cs) && distinct cs) h)
+  distinct-first = leb-true c 10 (and-left (leb c 10) (not (elem c cs) && distinct cs) h)
 
   pub distinct-fresh : elem c cs ≡ false
   unfolding distinct
   distinct-fresh =
-      not-true (elem c cs) (and_left (not (elem c cs)) (distinct cs) (and_right (leb c 10) (not (elem c cs) && distinct cs) h))
+      not-true (elem c cs) (and-left (not (elem c cs)) (distinct cs) (and-right (leb c 10) (not (elem c cs) && distinct cs) h))
 
   pub distinct-rest : distinct cs ≡ true
   unfolding distinct
-  distinct-rest = and_right (not (elem c cs)) (distinct cs) (and_right (leb c 10) (not (elem c cs) && distinct cs) h)
+  distinct-rest = and-right (not (elem c cs)) (distinct cs) (and-right (leb c 10) (not (elem c cs) && distinct cs) h)
 
 pub distinct-digits : (cs : List ℕ) → distinct cs ≡ true → Digits cs
 distinct-digits [] h = tt
@@ -96,10 +96,10 @@ held-above (suc n) c cs h =
     ap₂ (λ (t : Bool) (k : ℕ). one (t || elem n cs) + k) (ne_eqb c n (omega arith)) (held-above n c cs (omega arith))
 
 -- a number that it does not have is one more
-held_more : (n c : ℕ) (cs : List ℕ) → c < n → elem c cs ≡ false → held n (c ∷ cs) ≡ suc (held n cs)
+held-more : (n c : ℕ) (cs : List ℕ) → c < n → elem c cs ≡ false → held n (c ∷ cs) ≡ suc (held n cs)
 unfolding held elem
-held_more zero c cs h e = absurd (omega arith)
-held_more (suc n) c cs h e = go (eqb c n) refl (λ (g : c < n). held_more n c cs g e)
+held-more zero c cs h e = absurd (omega arith)
+held-more (suc n) c cs h e = go (eqb c n) refl (λ (g : c < n). held-more n c cs g e)
   where
     go : (t : Bool) → eqb c n ≡ t → (c < n → held n (c ∷ cs) ≡ suc (held n cs))
         → one (t || elem n cs) + held n (c ∷ cs) ≡ suc (one (elem n cs) + held n cs)
@@ -114,7 +114,7 @@ distinct-held : (cs : List ℕ) → distinct cs ≡ true → length cs ≤ held 
 distinct-held [] h = omega arith
 distinct-held (c ∷ cs) h =
     let first = distinct-first c cs h in
-    let more = held_more 11 c cs (let k : c < 11 = omega arith in k) (distinct-fresh c cs h) in
+    let more = held-more 11 c cs (let k : c < 11 = omega arith in k) (distinct-fresh c cs h) in
     let rest = distinct-held cs (distinct-rest c cs h) in
     omega arith
 

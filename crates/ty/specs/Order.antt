@@ -3,8 +3,8 @@
 use Rattle.std.specs.Prelude.{◌≡◌, refl, List, [], ◌∷◌, ℕ, zero, suc, get_or}
 use Rattle.std.proofs.Common.{sym, ap, ◌∙◌}
 use Rattle.order.specs.declared.Order.TheVariants.{Less, Equal}
-use Rattle.order.specs.Compare.{flip, compareNumbers, compareLists}
-use Rattle.order.specs.Laws.{then_equal, lists-same, lists-equal, lists-swap, lists-trans}
+use Rattle.order.specs.Compare.{flip, compare_numbers, compare_lists}
+use Rattle.order.specs.Laws.{then-equal, lists-same, lists-equal, lists-swap, lists-trans}
 use Rattle.ty.specs.Types.{ArgType, Primitive, Object, Array, Unknown, Void, compare}
 
 -- ---- types, compared as lists
@@ -17,15 +17,15 @@ code (Array t) = 2 ∷ code t
 code (Unknown cs) = 3 ∷ cs
 
 -- and back
-abbrev decodeAs : ℕ → List ℕ → ArgType → ArgType
-decodeAs zero rest t = Primitive (get_or rest 0 0)
-decodeAs (suc zero) rest t = Object (get_or rest 0 0)
-decodeAs (suc (suc zero)) rest t = Array t
-decodeAs (suc (suc (suc n))) rest t = Unknown rest
+abbrev decode_as : ℕ → List ℕ → ArgType → ArgType
+decode_as zero rest t = Primitive (get_or rest 0 0)
+decode_as (suc zero) rest t = Object (get_or rest 0 0)
+decode_as (suc (suc zero)) rest t = Array t
+decode_as (suc (suc (suc n))) rest t = Unknown rest
 
 decode : List ℕ → ArgType
 decode [] = Primitive Void
-decode (x ∷ rest) = decodeAs x rest (decode rest)
+decode (x ∷ rest) = decode_as x rest (decode rest)
 
 decode-code : (t : ArgType) → decode (code t) ≡ t
 unfolding code decode
@@ -34,14 +34,14 @@ decode-code (Object c) = refl
 decode-code (Array t) = ap Array (decode-code t)
 decode-code (Unknown cs) = refl
 
-compare-code : (t u : ArgType) → compare t u ≡ compareLists (code t) (code u)
-unfolding compare code compareLists compareNumbers
-compare-code (Primitive a) (Primitive b) = sym (then_equal (compareNumbers a b))
+compare-code : (t u : ArgType) → compare t u ≡ compare_lists (code t) (code u)
+unfolding compare code compare_lists compare_numbers
+compare-code (Primitive a) (Primitive b) = sym (then-equal (compare_numbers a b))
 compare-code (Primitive a) (Object b) = refl
 compare-code (Primitive a) (Array u) = refl
 compare-code (Primitive a) (Unknown ys) = refl
 compare-code (Object a) (Primitive b) = refl
-compare-code (Object a) (Object b) = sym (then_equal (compareNumbers a b))
+compare-code (Object a) (Object b) = sym (then-equal (compare_numbers a b))
 compare-code (Object a) (Array u) = refl
 compare-code (Object a) (Unknown ys) = refl
 compare-code (Array t) (Primitive b) = refl
@@ -53,8 +53,8 @@ compare-code (Unknown xs) (Object b) = refl
 compare-code (Unknown xs) (Array u) = refl
 compare-code (Unknown xs) (Unknown ys) = refl
 
-pub compare_same : (t : ArgType) → compare t t ≡ Equal
-compare_same t = compare-code t t ∙ lists-same (code t)
+pub compare-same : (t : ArgType) → compare t t ≡ Equal
+compare-same t = compare-code t t ∙ lists-same (code t)
 
 pub compare-equal : (t u : ArgType) → compare t u ≡ Equal → t ≡ u
 compare-equal t u h =

@@ -2,11 +2,11 @@
 use Rattle.std.specs.Prelude.{◌≡◌, ℕ, suc, ◌+◌, ◌-◌, ◌^◌, ◌≤◌, ◌<◌}
 use Rattle.std.proofs.Common.{sym, ap, ◌∙◌, add_comm, arith}
 use Rattle.ty.specs.Types.{ArgType, Array, arrays}
-use Rattle.ty.specs.Words.{dimsOf, tag_of, load_of, base_of, type_of, word_of, legalWord}
+use Rattle.ty.specs.Words.{dims_of, tag_of, load_of, base_of, type_of, word_of, legal_word}
 
 -- ---- the parts of the word with one dimension more
 
-pub dims-deeper : (w : ℕ) → dimsOf (w + 2 ^ 56) ≡ suc (dimsOf w)
+pub dims-deeper : (w : ℕ) → dims_of (w + 2 ^ 56) ≡ suc (dims_of w)
 dims-deeper w = omega arith
 
 pub tag-deeper : (w : ℕ) → tag_of (w + 2 ^ 56) ≡ tag_of w
@@ -30,7 +30,7 @@ type-array w h = ap type_of (element-word w h) ∙ type-deeper (w - 2 ^ 56)
 
 pub type-flat : (w : ℕ) → w < 2 ^ 56 → type_of w ≡ base_of (tag_of w) (load_of w)
 unfolding type_of arrays
-type-flat w h = ap (λ (d : ℕ). arrays d (base_of (tag_of w) (load_of w))) (let e : dimsOf w ≡ 0 = omega arith in e)
+type-flat w h = ap (λ (d : ℕ). arrays d (base_of (tag_of w) (load_of w))) (let e : dims_of w ≡ 0 = omega arith in e)
 
 pub word-deeper : (t : ArgType) → word_of (Array t) ≡ word_of t + 2 ^ 56
 unfolding word_of
@@ -38,9 +38,9 @@ word-deeper t = add_comm (2 ^ 56) (word_of t)
 
 -- ---- whether it is legal: dimensions do not count
 
-pub legal-deeper : (names w : ℕ) → legalWord names (w + 2 ^ 56) ≡ legalWord names w
-unfolding legalWord
+pub legal-deeper : (names w : ℕ) → legal_word names (w + 2 ^ 56) ≡ legal_word names w
+unfolding legal_word
 legal-deeper names w = rw (tag-deeper w, load-deeper w)
 
-pub legal-element : (names w : ℕ) → 2 ^ 56 ≤ w → legalWord names (w - 2 ^ 56) ≡ legalWord names w
-legal-element names w h = sym (ap (legalWord names) (element-word w h) ∙ legal-deeper names (w - 2 ^ 56))
+pub legal-element : (names w : ℕ) → 2 ^ 56 ≤ w → legal_word names (w - 2 ^ 56) ≡ legal_word names w
+legal-element names w h = sym (ap (legal_word names) (element-word w h) ∙ legal-deeper names (w - 2 ^ 56))

@@ -11,10 +11,10 @@ use Rattle.std.specs.Int.Bits.{bit_or, or_zero_l}
 use Rattle.std.proofs.Math.ListN.{take}
 use Rattle.std.proofs.Math.Seq.{take-nil, drop-cons}
 use borrow.Author.Tests.{eq-eqb, ne_eqb, le-ltb, le-leb, lt-leb, leb-true, leb-false}
-use Rattle.order.specs.Truth.{and_assoc}
+use Rattle.order.specs.Truth.{and-assoc}
 use Rattle.order.specs.Lists.{elem}
-use Rattle.ty.specs.Types.{ArgType, Primitive, Object, Array, Unknown, isKnown, isPrimitive, isObject, isArray, isReference, wideCategory, allWide, is_wide, isConcrete, categories, maskWith, hintOfList, concreteHint, arrays}
-use Rattle.ty.specs.Words.{dimsOf, tag_of, load_of, unpack, list_of, goodDigits, goodUnknown, base_of, type_of, word_of, legalBase, legalWord, allLegal}
+use Rattle.ty.specs.Types.{ArgType, Primitive, Object, Array, Unknown, is_known, is_primitive, is_object, is_array, is_reference, wide_category, all_wide, is_wide, is_concrete, categories, mask_with, hint_of_list, concrete_hint, arrays}
+use Rattle.ty.specs.Words.{dims_of, tag_of, load_of, unpack, list_of, good_digits, good_unknown, base_of, type_of, word_of, legal_base, legal_word, all_legal}
 use Rattle.ty.specs.Shape.{type-array, type-flat}
 use Rattle.ty.specs.Round.{word-known, legal-primitive, legal-object, legal-unknown, legal-none}
 
@@ -37,14 +37,14 @@ module _ (load n i : ℕ) where
   pub rest-none : n ≤ i → rest_of load n i ≡ []
   rest-none h = ap (λ (m : ℕ). take m (unpack (11 - i) load)) (let e : n - i ≡ 0 = omega arith in e)
 
-  pub rest_end : 11 ≤ i → rest_of load n i ≡ []
+  pub rest-end : 11 ≤ i → rest_of load n i ≡ []
   unfolding unpack
-  rest_end h = ap (λ (m : ℕ). take (n - i) (unpack m load)) (let e : 11 - i ≡ 0 = omega arith in e) ∙ take-nil (n - i)
+  rest-end h = ap (λ (m : ℕ). take (n - i) (unpack m load)) (let e : 11 - i ≡ 0 = omega arith in e) ∙ take-nil (n - i)
 
 -- from the digit 0 on it is the whole list
-pub rest_all : (load : ℕ) → list_of load ≡ rest_of load (load / 2 ^ 44) 0
+pub rest-all : (load : ℕ) → list_of load ≡ rest_of load (load / 2 ^ 44) 0
 unfolding list_of
-rest_all load = ap (λ (m : ℕ). take m (unpack 11 load)) (let e : load / 2 ^ 44 ≡ load / 2 ^ 44 - 0 = omega arith in e)
+rest-all load = ap (λ (m : ℕ). take m (unpack 11 load)) (let e : load / 2 ^ 44 ≡ load / 2 ^ 44 - 0 = omega arith in e)
 
 -- ---- whether a digit is among them, whether all are wide, and the set of them
 
@@ -58,94 +58,94 @@ module _ (load n i : ℕ) where
   unfolding elem
   elem-none d h = ap (elem d) (rest-none load n i h)
 
-  pub wide-yes : (d : ℕ) → d ≡ load / 2 ^ (4 * (10 - i)) % 16 → i < 11 → i < n → wideCategory d ≡ true
-      → allWide (rest_of load n i) ≡ allWide (rest_of load n (i + 1))
-  unfolding allWide
+  pub wide-yes : (d : ℕ) → d ≡ load / 2 ^ (4 * (10 - i)) % 16 → i < 11 → i < n → wide_category d ≡ true
+      → all_wide (rest_of load n i) ≡ all_wide (rest_of load n (i + 1))
+  unfolding all_wide
   wide-yes d e h k w =
-      ap allWide (rest-step load n i h k)
-      ∙ ap (λ (x : Bool). x && allWide (rest_of load n (i + 1))) (ap wideCategory (sym e) ∙ w)
+      ap all_wide (rest-step load n i h k)
+      ∙ ap (λ (x : Bool). x && all_wide (rest_of load n (i + 1))) (ap wide_category (sym e) ∙ w)
 
-  pub wide-no : (d : ℕ) → d ≡ load / 2 ^ (4 * (10 - i)) % 16 → i < 11 → i < n → wideCategory d ≡ false
-      → allWide (rest_of load n i) ≡ false
-  unfolding allWide
+  pub wide-no : (d : ℕ) → d ≡ load / 2 ^ (4 * (10 - i)) % 16 → i < 11 → i < n → wide_category d ≡ false
+      → all_wide (rest_of load n i) ≡ false
+  unfolding all_wide
   wide-no d e h k w =
-      ap allWide (rest-step load n i h k)
-      ∙ ap (λ (x : Bool). x && allWide (rest_of load n (i + 1))) (ap wideCategory (sym e) ∙ w)
+      ap all_wide (rest-step load n i h k)
+      ∙ ap (λ (x : Bool). x && all_wide (rest_of load n (i + 1))) (ap wide_category (sym e) ∙ w)
 
-  pub wide-none : n ≤ i → allWide (rest_of load n i) ≡ true
-  unfolding allWide
-  wide-none h = ap allWide (rest-none load n i h)
+  pub wide-none : n ≤ i → all_wide (rest_of load n i) ≡ true
+  unfolding all_wide
+  wide-none h = ap all_wide (rest-none load n i h)
 
-  pub wide-end : 11 ≤ i → allWide (rest_of load n i) ≡ true
-  unfolding allWide
-  wide-end h = ap allWide (rest_end load n i h)
+  pub wide-end : 11 ≤ i → all_wide (rest_of load n i) ≡ true
+  unfolding all_wide
+  wide-end h = ap all_wide (rest-end load n i h)
 
-  pub mask_step : (m : ℕ) → i < 11 → i < n
-      → maskWith m (rest_of load n i) ≡ maskWith (bit_or m (2 ^ (load / 2 ^ (4 * (10 - i)) % 16))) (rest_of load n (i + 1))
-  unfolding maskWith
-  mask_step m h k = ap (maskWith m) (rest-step load n i h k)
+  pub mask-step : (m : ℕ) → i < 11 → i < n
+      → mask_with m (rest_of load n i) ≡ mask_with (bit_or m (2 ^ (load / 2 ^ (4 * (10 - i)) % 16))) (rest_of load n (i + 1))
+  unfolding mask_with
+  mask-step m h k = ap (mask_with m) (rest-step load n i h k)
 
-  pub mask-none : (m : ℕ) → n ≤ i → maskWith m (rest_of load n i) ≡ m
-  unfolding maskWith
-  mask-none m h = ap (maskWith m) (rest-none load n i h)
+  pub mask-none : (m : ℕ) → n ≤ i → mask_with m (rest_of load n i) ≡ m
+  unfolding mask_with
+  mask-none m h = ap (mask_with m) (rest-none load n i h)
 
-  pub mask_end : (m : ℕ) → 11 ≤ i → maskWith m (rest_of load n i) ≡ m
-  unfolding maskWith
-  mask_end m h = ap (maskWith m) (rest_end load n i h)
+  pub mask-end : (m : ℕ) → 11 ≤ i → mask_with m (rest_of load n i) ≡ m
+  unfolding mask_with
+  mask-end m h = ap (mask_with m) (rest-end load n i h)
 
 -- ---- whether the digits are those of an Unknown
 
 -- whether the digit i is as it must be: a category that does not come again, or 0 after the list
-unfoldable pub digitGood : ℕ → ℕ → ℕ → Bool
-digitGood load n i =
+unfoldable pub digit_good : ℕ → ℕ → ℕ → Bool
+digit_good load n i =
     cond (leb n i) (eqb (load / 2 ^ (4 * (10 - i)) % 16) 0) (leb (load / 2 ^ (4 * (10 - i)) % 16) 10 && not (elem (load / 2 ^ (4 * (10 - i)) % 16) (rest_of load n (i + 1))))
 
 module _ (load n i : ℕ) where
-  pub digit-past : n ≤ i → (d : ℕ) → d ≡ load / 2 ^ (4 * (10 - i)) % 16 → eqb d 0 ≡ digitGood load n i
-  unfolding digitGood
+  pub digit-past : n ≤ i → (d : ℕ) → d ≡ load / 2 ^ (4 * (10 - i)) % 16 → eqb d 0 ≡ digit_good load n i
+  unfolding digit_good
   digit-past h d e = simp (le-leb n i h, e)
 
-  pub digit-large : i < n → (d : ℕ) → d ≡ load / 2 ^ (4 * (10 - i)) % 16 → 10 < d → false ≡ digitGood load n i
-  unfolding digitGood
+  pub digit-large : i < n → (d : ℕ) → d ≡ load / 2 ^ (4 * (10 - i)) % 16 → 10 < d → false ≡ digit_good load n i
+  unfolding digit_good
   digit-large h d e g = simp (lt-leb n i h, ← e, lt-leb d 10 g)
 
-  pub digit-in : i < n → (d : ℕ) → d ≡ load / 2 ^ (4 * (10 - i)) % 16 → d ≤ 10 → not (elem d (rest_of load n (i + 1))) ≡ digitGood load n i
-  unfolding digitGood
+  pub digit-in : i < n → (d : ℕ) → d ≡ load / 2 ^ (4 * (10 - i)) % 16 → d ≤ 10 → not (elem d (rest_of load n (i + 1))) ≡ digit_good load n i
+  unfolding digit_good
   digit-in h d e g = simp (lt-leb n i h, ← e, le-leb d 10 g)
 
   -- the test of the digit i, and then of those after it
-  pub good-step : i < 11 → n ≤ 11 → goodDigits (n - i) (unpack (11 - i) load) ≡ (digitGood load n i && goodDigits (n - (i + 1)) (unpack (11 - (i + 1)) load))
-  unfolding goodDigits digitGood
+  pub good-step : i < 11 → n ≤ 11 → good_digits (n - i) (unpack (11 - i) load) ≡ (digit_good load n i && good_digits (n - (i + 1)) (unpack (11 - (i + 1)) load))
+  unfolding good_digits digit_good
   good-step h k = go (leb n i) refl
     where
       D : ℕ
       D = load / 2 ^ (4 * (10 - i)) % 16
 
       G : Bool
-      G = goodDigits (n - (i + 1)) (unpack (11 - (i + 1)) load)
+      G = good_digits (n - (i + 1)) (unpack (11 - (i + 1)) load)
 
       go : (b : Bool) → leb n i ≡ b
-          → goodDigits (n - i) (unpack (11 - i) load) ≡ (cond b (eqb D 0) (leb D 10 && not (elem D (rest_of load n (i + 1)))) && G)
+          → good_digits (n - i) (unpack (11 - i) load) ≡ (cond b (eqb D 0) (leb D 10 && not (elem D (rest_of load n (i + 1)))) && G)
       go true e =
           let l = leb-true n i e in
-          ap₂ (λ (m : ℕ) (ds : List ℕ). goodDigits m ds) (let q : n - i ≡ 0 = omega arith in q) (unpack-step load n i h)
-          ∙ ap (λ (m : ℕ). eqb D 0 && goodDigits m (unpack (11 - (i + 1)) load)) (let q : 0 ≡ n - (i + 1) = omega arith in q)
+          ap₂ (λ (m : ℕ) (ds : List ℕ). good_digits m ds) (let q : n - i ≡ 0 = omega arith in q) (unpack-step load n i h)
+          ∙ ap (λ (m : ℕ). eqb D 0 && good_digits m (unpack (11 - (i + 1)) load)) (let q : 0 ≡ n - (i + 1) = omega arith in q)
       go false e =
           let l = leb-false n i e in
-          ap₂ (λ (m : ℕ) (ds : List ℕ). goodDigits m ds) (let q : n - i ≡ suc (n - (i + 1)) = omega arith in q) (unpack-step load n i h)
-          ∙ and_assoc (leb D 10) (not (elem D (rest_of load n (i + 1)))) G
+          ap₂ (λ (m : ℕ) (ds : List ℕ). good_digits m ds) (let q : n - i ≡ suc (n - (i + 1)) = omega arith in q) (unpack-step load n i h)
+          ∙ and-assoc (leb D 10) (not (elem D (rest_of load n (i + 1)))) G
 
-  pub good-end : n ≤ 11 → 11 ≤ i → goodDigits (n - i) (unpack (11 - i) load) ≡ true
-  unfolding goodDigits unpack
-  good-end h k = ap₂ (λ (m : ℕ) (l : ℕ). goodDigits m (unpack l load)) (let e : n - i ≡ 0 = omega arith in e) (let e : 11 - i ≡ 0 = omega arith in e)
+  pub good-end : n ≤ 11 → 11 ≤ i → good_digits (n - i) (unpack (11 - i) load) ≡ true
+  unfolding good_digits unpack
+  good-end h k = ap₂ (λ (m : ℕ) (l : ℕ). good_digits m (unpack l load)) (let e : n - i ≡ 0 = omega arith in e) (let e : 11 - i ≡ 0 = omega arith in e)
 
-pub unknown-long : (load : ℕ) → 11 < load / 2 ^ 44 → goodUnknown load ≡ false
-unfolding goodUnknown
-unknown-long load h = ap (λ (t : Bool). t && goodDigits (load / 2 ^ 44) (unpack 11 load)) (lt-leb (load / 2 ^ 44) 11 h)
+pub unknown-long : (load : ℕ) → 11 < load / 2 ^ 44 → good_unknown load ≡ false
+unfolding good_unknown
+unknown-long load h = ap (λ (t : Bool). t && good_digits (load / 2 ^ 44) (unpack 11 load)) (lt-leb (load / 2 ^ 44) 11 h)
 
-pub unknown-short : (load : ℕ) → load / 2 ^ 44 ≤ 11 → goodUnknown load ≡ goodDigits (load / 2 ^ 44) (unpack 11 load)
-unfolding goodUnknown
-unknown-short load h = ap (λ (t : Bool). t && goodDigits (load / 2 ^ 44) (unpack 11 load)) (le-leb (load / 2 ^ 44) 11 h)
+pub unknown-short : (load : ℕ) → load / 2 ^ 44 ≤ 11 → good_unknown load ≡ good_digits (load / 2 ^ 44) (unpack 11 load)
+unfolding good_unknown
+unknown-short load h = ap (λ (t : Bool). t && good_digits (load / 2 ^ 44) (unpack 11 load)) (le-leb (load / 2 ^ 44) 11 h)
 
 -- ---- a word's type by its dimensions and its tag
 
@@ -169,100 +169,100 @@ module _ (w : ℕ) where
 
 -- ---- the queries, with a dimension and without
 
-known-base : (t load : ℕ) → ltb t 2 ≡ isKnown (base_of t load)
-unfolding isKnown base_of
+known-base : (t load : ℕ) → ltb t 2 ≡ is_known (base_of t load)
+unfolding is_known base_of
 known-base zero load = refl
 known-base (suc zero) load = refl
 known-base (suc (suc t)) load = le-ltb (suc (suc t)) 2 (omega arith)
 
-primitive-base : (t load : ℕ) → eqb t 0 ≡ isPrimitive (base_of t load)
-unfolding isPrimitive base_of
+primitive-base : (t load : ℕ) → eqb t 0 ≡ is_primitive (base_of t load)
+unfolding is_primitive base_of
 primitive-base zero load = refl
 primitive-base (suc zero) load = refl
 primitive-base (suc (suc t)) load = ne_eqb (suc (suc t)) 0 (λ e. omega arith)
 
-object-base : (t load : ℕ) → eqb t 1 ≡ isObject (base_of t load)
-unfolding isObject base_of
+object-base : (t load : ℕ) → eqb t 1 ≡ is_object (base_of t load)
+unfolding is_object base_of
 object-base zero load = refl
 object-base (suc zero) load = refl
 object-base (suc (suc t)) load = ne_eqb (suc (suc t)) 1 (λ e. omega arith)
 
-reference-base : (t load : ℕ) → eqb t 1 ≡ isReference (base_of t load)
-unfolding isReference base_of
+reference-base : (t load : ℕ) → eqb t 1 ≡ is_reference (base_of t load)
+unfolding is_reference base_of
 reference-base zero load = refl
 reference-base (suc zero) load = refl
 reference-base (suc (suc t)) load = ne_eqb (suc (suc t)) 1 (λ e. omega arith)
 
-array-base : (t load : ℕ) → false ≡ isArray (base_of t load)
-unfolding isArray base_of
+array-base : (t load : ℕ) → false ≡ is_array (base_of t load)
+unfolding is_array base_of
 array-base zero load = refl
 array-base (suc zero) load = refl
 array-base (suc (suc t)) load = refl
 
 module _ (w : ℕ) where
-  pub known-array : 2 ^ 56 ≤ w → true ≡ isKnown (type_of w)
-  unfolding isKnown
-  known-array h = sym (ap isKnown (type-array w h))
+  pub known-array : 2 ^ 56 ≤ w → true ≡ is_known (type_of w)
+  unfolding is_known
+  known-array h = sym (ap is_known (type-array w h))
 
-  pub known-flat : w < 2 ^ 56 → ltb (tag_of w) 2 ≡ isKnown (type_of w)
-  known-flat h = known-base (tag_of w) (load_of w) ∙ sym (ap isKnown (type-flat w h))
+  pub known-flat : w < 2 ^ 56 → ltb (tag_of w) 2 ≡ is_known (type_of w)
+  known-flat h = known-base (tag_of w) (load_of w) ∙ sym (ap is_known (type-flat w h))
 
-  pub primitive-array : 2 ^ 56 ≤ w → false ≡ isPrimitive (type_of w)
-  unfolding isPrimitive
-  primitive-array h = sym (ap isPrimitive (type-array w h))
+  pub primitive-array : 2 ^ 56 ≤ w → false ≡ is_primitive (type_of w)
+  unfolding is_primitive
+  primitive-array h = sym (ap is_primitive (type-array w h))
 
-  pub primitive-flat : w < 2 ^ 56 → eqb (tag_of w) 0 ≡ isPrimitive (type_of w)
-  primitive-flat h = primitive-base (tag_of w) (load_of w) ∙ sym (ap isPrimitive (type-flat w h))
+  pub primitive-flat : w < 2 ^ 56 → eqb (tag_of w) 0 ≡ is_primitive (type_of w)
+  primitive-flat h = primitive-base (tag_of w) (load_of w) ∙ sym (ap is_primitive (type-flat w h))
 
-  pub object-array : 2 ^ 56 ≤ w → false ≡ isObject (type_of w)
-  unfolding isObject
-  object-array h = sym (ap isObject (type-array w h))
+  pub object-array : 2 ^ 56 ≤ w → false ≡ is_object (type_of w)
+  unfolding is_object
+  object-array h = sym (ap is_object (type-array w h))
 
-  pub object-flat : w < 2 ^ 56 → eqb (tag_of w) 1 ≡ isObject (type_of w)
-  object-flat h = object-base (tag_of w) (load_of w) ∙ sym (ap isObject (type-flat w h))
+  pub object-flat : w < 2 ^ 56 → eqb (tag_of w) 1 ≡ is_object (type_of w)
+  object-flat h = object-base (tag_of w) (load_of w) ∙ sym (ap is_object (type-flat w h))
 
-  pub reference-array : 2 ^ 56 ≤ w → true ≡ isReference (type_of w)
-  unfolding isReference
-  reference-array h = sym (ap isReference (type-array w h))
+  pub reference-array : 2 ^ 56 ≤ w → true ≡ is_reference (type_of w)
+  unfolding is_reference
+  reference-array h = sym (ap is_reference (type-array w h))
 
-  pub reference-flat : w < 2 ^ 56 → eqb (tag_of w) 1 ≡ isReference (type_of w)
-  reference-flat h = reference-base (tag_of w) (load_of w) ∙ sym (ap isReference (type-flat w h))
+  pub reference-flat : w < 2 ^ 56 → eqb (tag_of w) 1 ≡ is_reference (type_of w)
+  reference-flat h = reference-base (tag_of w) (load_of w) ∙ sym (ap is_reference (type-flat w h))
 
-  pub array-test : leb (2 ^ 56) w ≡ isArray (type_of w)
-  unfolding isArray
+  pub array-test : leb (2 ^ 56) w ≡ is_array (type_of w)
+  unfolding is_array
   array-test = go (leb (2 ^ 56) w) refl
     where
-      go : (b : Bool) → leb (2 ^ 56) w ≡ b → b ≡ isArray (type_of w)
-      go true e = sym (ap isArray (type-array w (leb-true (2 ^ 56) w e)))
-      go false e = array-base (tag_of w) (load_of w) ∙ sym (ap isArray (type-flat w (leb-false (2 ^ 56) w e)))
+      go : (b : Bool) → leb (2 ^ 56) w ≡ b → b ≡ is_array (type_of w)
+      go true e = sym (ap is_array (type-array w (leb-true (2 ^ 56) w e)))
+      go false e = array-base (tag_of w) (load_of w) ∙ sym (ap is_array (type-flat w (leb-false (2 ^ 56) w e)))
 
 -- ---- concrete: dimensions do not count
 
-concrete-arrays : (d : ℕ) (t : ArgType) → isConcrete (arrays d t) ≡ isConcrete t
-unfolding isConcrete arrays
+concrete-arrays : (d : ℕ) (t : ArgType) → is_concrete (arrays d t) ≡ is_concrete t
+unfolding is_concrete arrays
 concrete-arrays zero t = refl
 concrete-arrays (suc d) t = concrete-arrays d t
 
-pub concrete-base : (w : ℕ) → isConcrete (type_of w) ≡ isConcrete (base_of (tag_of w) (load_of w))
+pub concrete-base : (w : ℕ) → is_concrete (type_of w) ≡ is_concrete (base_of (tag_of w) (load_of w))
 unfolding type_of
-concrete-base w = concrete-arrays (dimsOf w) (base_of (tag_of w) (load_of w))
+concrete-base w = concrete-arrays (dims_of w) (base_of (tag_of w) (load_of w))
 
 module _ (w : ℕ) where
-  concrete-primitive : tag_of w ≡ 0 → isConcrete (type_of w) ≡ not (eqb (load_of w) 9 || eqb (load_of w) 10)
-  unfolding isConcrete base_of
-  concrete-primitive e = concrete-base w ∙ ap (λ (t : ℕ). isConcrete (base_of t (load_of w))) e
+  concrete-primitive : tag_of w ≡ 0 → is_concrete (type_of w) ≡ not (eqb (load_of w) 9 || eqb (load_of w) 10)
+  unfolding is_concrete base_of
+  concrete-primitive e = concrete-base w ∙ ap (λ (t : ℕ). is_concrete (base_of t (load_of w))) e
 
-  pub concrete-object-category : tag_of w ≡ 0 → load_of w ≡ 9 → false ≡ isConcrete (type_of w)
+  pub concrete-object-category : tag_of w ≡ 0 → load_of w ≡ 9 → false ≡ is_concrete (type_of w)
   concrete-object-category e f = sym (concrete-primitive e ∙ ap (λ (b : Bool). not (b || eqb (load_of w) 10)) (eq-eqb (load_of w) 9 f))
 
-  pub concrete-other : tag_of w ≡ 0 → (load_of w ≡ 9 → ⊥) → not (eqb (load_of w) 10) ≡ isConcrete (type_of w)
+  pub concrete-other : tag_of w ≡ 0 → (load_of w ≡ 9 → ⊥) → not (eqb (load_of w) 10) ≡ is_concrete (type_of w)
   concrete-other e f = sym (concrete-primitive e ∙ ap (λ (b : Bool). not (b || eqb (load_of w) 10)) (ne_eqb (load_of w) 9 f))
 
-  pub concrete-tag : (tag_of w ≡ 0 → ⊥) → eqb (tag_of w) 1 ≡ isConcrete (type_of w)
-  unfolding isConcrete base_of
+  pub concrete-tag : (tag_of w ≡ 0 → ⊥) → eqb (tag_of w) 1 ≡ is_concrete (type_of w)
+  unfolding is_concrete base_of
   concrete-tag e = by-tag (tag_of w) e ∙ sym (concrete-base w)
     where
-      by-tag : (t : ℕ) → (t ≡ 0 → ⊥) → eqb t 1 ≡ isConcrete (base_of t (load_of w))
+      by-tag : (t : ℕ) → (t ≡ 0 → ⊥) → eqb t 1 ≡ is_concrete (base_of t (load_of w))
       by-tag zero p = absurd (p refl)
       by-tag (suc zero) p = refl
       by-tag (suc (suc t)) p = ne_eqb (suc (suc t)) 1 (λ q. omega arith)
@@ -276,34 +276,34 @@ hint-none : (b : Bool) (a : ArgType) → b ≡ false → cond b (some a) none �
 hint-none b a e = rw e
 
 -- of a known type: itself, where it is concrete
-pub hint-known : (object : ℕ) (t : ArgType) → isKnown t ≡ true → isConcrete t ≡ true → concreteHint object t ≡ some t
-unfolding concreteHint isKnown isConcrete
-hint-known object (Primitive k) a b = hint-same (isConcrete (Primitive k)) (Primitive k) b
+pub hint-known : (object : ℕ) (t : ArgType) → is_known t ≡ true → is_concrete t ≡ true → concrete_hint object t ≡ some t
+unfolding concrete_hint is_known is_concrete
+hint-known object (Primitive k) a b = hint-same (is_concrete (Primitive k)) (Primitive k) b
 hint-known object (Object c) a b = refl
-hint-known object (Array t) a b = hint-same (isConcrete t) (Array t) b
+hint-known object (Array t) a b = hint-same (is_concrete t) (Array t) b
 hint-known object (Unknown cs) a b = absurd (let z : ◌≡◌ {A = ℕ} 0 1 = cc in omega arith)
 
-pub hint-vague : (object : ℕ) (t : ArgType) → isKnown t ≡ true → isConcrete t ≡ false → concreteHint object t ≡ none
-unfolding concreteHint isKnown isConcrete
-hint-vague object (Primitive k) a b = hint-none (isConcrete (Primitive k)) (Primitive k) b
+pub hint-vague : (object : ℕ) (t : ArgType) → is_known t ≡ true → is_concrete t ≡ false → concrete_hint object t ≡ none
+unfolding concrete_hint is_known is_concrete
+hint-vague object (Primitive k) a b = hint-none (is_concrete (Primitive k)) (Primitive k) b
 hint-vague object (Object c) a b = absurd (let z : ◌≡◌ {A = ℕ} 0 1 = cc in omega arith)
-hint-vague object (Array t) a b = hint-none (isConcrete t) (Array t) b
+hint-vague object (Array t) a b = hint-none (is_concrete t) (Array t) b
 hint-vague object (Unknown cs) a b = absurd (let z : ◌≡◌ {A = ℕ} 0 1 = cc in omega arith)
 
 -- of an Unknown: what its list hints at
-pub hint-unknown : (object w : ℕ) → isKnown (type_of w) ≡ false → concreteHint object (type_of w) ≡ hintOfList object (list_of (load_of w))
-unfolding concreteHint
+pub hint-unknown : (object w : ℕ) → is_known (type_of w) ≡ false → concrete_hint object (type_of w) ≡ hint_of_list object (list_of (load_of w))
+unfolding concrete_hint
 hint-unknown object w e = go (leb (2 ^ 56) w) refl
   where
     never : {P : Type 0} → true ≡ false → P
     never q = absurd (let z : ◌≡◌ {A = ℕ} 0 1 = cc in omega arith)
 
-    flat : w < 2 ^ 56 → (t : ℕ) → tag_of w ≡ t → concreteHint object (type_of w) ≡ hintOfList object (list_of (load_of w))
+    flat : w < 2 ^ 56 → (t : ℕ) → tag_of w ≡ t → concrete_hint object (type_of w) ≡ hint_of_list object (list_of (load_of w))
     flat h zero q = never (ap (λ (t : ℕ). ltb t 2) (sym q) ∙ known-flat w h ∙ e)
     flat h (suc zero) q = never (ap (λ (t : ℕ). ltb t 2) (sym q) ∙ known-flat w h ∙ e)
-    flat h (suc (suc t)) q = ap (concreteHint object) (type-unknown w h (λ z. omega arith) (λ z. omega arith))
+    flat h (suc (suc t)) q = ap (concrete_hint object) (type-unknown w h (λ z. omega arith) (λ z. omega arith))
 
-    go : (b : Bool) → leb (2 ^ 56) w ≡ b → concreteHint object (type_of w) ≡ hintOfList object (list_of (load_of w))
+    go : (b : Bool) → leb (2 ^ 56) w ≡ b → concrete_hint object (type_of w) ≡ hint_of_list object (list_of (load_of w))
     go true q = never (known-array w (leb-true (2 ^ 56) w q) ∙ e)
     go false q = flat (leb-false (2 ^ 56) w q) (tag_of w) refl
 
@@ -313,34 +313,34 @@ module _ (object load : ℕ) where
   unfolding list_of unpack
   single e = ap (λ (m : ℕ). take m (unpack 11 load)) e
 
-  pub hint-object : (c : ℕ) → c ≡ load / 2 ^ (4 * (10 - 0)) % 16 → load / 2 ^ 44 ≡ 1 → c ≡ 9 → hintOfList object (list_of load) ≡ some (Object object)
-  unfolding hintOfList
-  hint-object c d e f = ap (hintOfList object) (single e) ∙ simp (← d, eq-eqb c 9 f)
+  pub hint-object : (c : ℕ) → c ≡ load / 2 ^ (4 * (10 - 0)) % 16 → load / 2 ^ 44 ≡ 1 → c ≡ 9 → hint_of_list object (list_of load) ≡ some (Object object)
+  unfolding hint_of_list
+  hint-object c d e f = ap (hint_of_list object) (single e) ∙ simp (← d, eq-eqb c 9 f)
 
-  pub hint-array : (c : ℕ) → c ≡ load / 2 ^ (4 * (10 - 0)) % 16 → load / 2 ^ 44 ≡ 1 → c ≡ 10 → hintOfList object (list_of load) ≡ none
-  unfolding hintOfList
-  hint-array c d e f = ap (hintOfList object) (single e) ∙ simp (← d, f)
+  pub hint-array : (c : ℕ) → c ≡ load / 2 ^ (4 * (10 - 0)) % 16 → load / 2 ^ 44 ≡ 1 → c ≡ 10 → hint_of_list object (list_of load) ≡ none
+  unfolding hint_of_list
+  hint-array c d e f = ap (hint_of_list object) (single e) ∙ simp (← d, f)
 
   pub hint-primitive : (c : ℕ) → c ≡ load / 2 ^ (4 * (10 - 0)) % 16 → load / 2 ^ 44 ≡ 1 → (c ≡ 9 → ⊥) → (c ≡ 10 → ⊥)
-      → hintOfList object (list_of load) ≡ some (Primitive c)
-  unfolding hintOfList
-  hint-primitive c d e f g = ap (hintOfList object) (single e) ∙ simp (← d, ne_eqb c 9 f, ne_eqb c 10 g)
+      → hint_of_list object (list_of load) ≡ some (Primitive c)
+  unfolding hint_of_list
+  hint-primitive c d e f g = ap (hint_of_list object) (single e) ∙ simp (← d, ne_eqb c 9 f, ne_eqb c 10 g)
 
-  pub hint-many : (load / 2 ^ 44 ≡ 1 → ⊥) → hintOfList object (list_of load) ≡ none
-  unfolding hintOfList list_of unpack
+  pub hint-many : (load / 2 ^ 44 ≡ 1 → ⊥) → hint_of_list object (list_of load) ≡ none
+  unfolding hint_of_list list_of unpack
   hint-many e = go (load / 2 ^ 44) e
     where
-      go : (n : ℕ) → (n ≡ 1 → ⊥) → hintOfList object (take n (unpack 11 load)) ≡ none
+      go : (n : ℕ) → (n ≡ 1 → ⊥) → hint_of_list object (take n (unpack 11 load)) ≡ none
       go zero h = refl
       go (suc zero) h = absurd (h refl)
       go (suc (suc n)) h = refl
 
 -- where a type is its own hint, the word is its own
-pub concrete-word : (w : ℕ) → isConcrete (type_of w) ≡ true → word_of (type_of w) ≡ w
-unfolding isConcrete base_of
+pub concrete-word : (w : ℕ) → is_concrete (type_of w) ≡ true → word_of (type_of w) ≡ w
+unfolding is_concrete base_of
 concrete-word w h = word-known w (below (tag_of w) (sym (concrete-base w) ∙ h))
   where
-    below : (t : ℕ) → isConcrete (base_of t (load_of w)) ≡ true → t < 2
+    below : (t : ℕ) → is_concrete (base_of t (load_of w)) ≡ true → t < 2
     below zero e = omega arith
     below (suc zero) e = omega arith
     below (suc (suc t)) e = absurd (true≢false (sym e))
@@ -352,7 +352,7 @@ module _ (w : ℕ) where
   unfolding is_wide
   wide-array h = sym (ap is_wide (type-array w h))
 
-  pub wide-primitive : w < 2 ^ 56 → tag_of w ≡ 0 → wideCategory (load_of w) ≡ is_wide (type_of w)
+  pub wide-primitive : w < 2 ^ 56 → tag_of w ≡ 0 → wide_category (load_of w) ≡ is_wide (type_of w)
   unfolding is_wide
   wide-primitive h e = sym (ap is_wide (type-primitive w h e))
 
@@ -360,49 +360,49 @@ module _ (w : ℕ) where
   unfolding is_wide
   wide-object h e = sym (ap is_wide (type-object w h e))
 
-  pub wide-unknown : w < 2 ^ 56 → (tag_of w ≡ 0 → ⊥) → (tag_of w ≡ 1 → ⊥) → allWide (list_of (load_of w)) ≡ is_wide (type_of w)
+  pub wide-unknown : w < 2 ^ 56 → (tag_of w ≡ 0 → ⊥) → (tag_of w ≡ 1 → ⊥) → all_wide (list_of (load_of w)) ≡ is_wide (type_of w)
   unfolding is_wide
   wide-unknown h a b = sym (ap is_wide (type-unknown w h a b))
 
-  pub mask-array : 2 ^ 56 ≤ w → 1024 ≡ maskWith 0 (categories (type_of w))
-  unfolding maskWith categories
-  mask-array h = sym (ap (λ (t : ArgType). maskWith 0 (categories t)) (type-array w h) ∙ or_zero_l 1024)
+  pub mask-array : 2 ^ 56 ≤ w → 1024 ≡ mask_with 0 (categories (type_of w))
+  unfolding mask_with categories
+  mask-array h = sym (ap (λ (t : ArgType). mask_with 0 (categories t)) (type-array w h) ∙ or_zero_l 1024)
 
-  pub mask-primitive : w < 2 ^ 56 → tag_of w ≡ 0 → 2 ^ load_of w ≡ maskWith 0 (categories (type_of w))
-  unfolding maskWith categories
-  mask-primitive h e = sym (ap (λ (t : ArgType). maskWith 0 (categories t)) (type-primitive w h e) ∙ or_zero_l (2 ^ load_of w))
+  pub mask-primitive : w < 2 ^ 56 → tag_of w ≡ 0 → 2 ^ load_of w ≡ mask_with 0 (categories (type_of w))
+  unfolding mask_with categories
+  mask-primitive h e = sym (ap (λ (t : ArgType). mask_with 0 (categories t)) (type-primitive w h e) ∙ or_zero_l (2 ^ load_of w))
 
-  pub mask-object : w < 2 ^ 56 → tag_of w ≡ 1 → 512 ≡ maskWith 0 (categories (type_of w))
-  unfolding maskWith categories
-  mask-object h e = sym (ap (λ (t : ArgType). maskWith 0 (categories t)) (type-object w h e) ∙ or_zero_l 512)
+  pub mask-object : w < 2 ^ 56 → tag_of w ≡ 1 → 512 ≡ mask_with 0 (categories (type_of w))
+  unfolding mask_with categories
+  mask-object h e = sym (ap (λ (t : ArgType). mask_with 0 (categories t)) (type-object w h e) ∙ or_zero_l 512)
 
-  pub mask-unknown : w < 2 ^ 56 → (tag_of w ≡ 0 → ⊥) → (tag_of w ≡ 1 → ⊥) → maskWith 0 (list_of (load_of w)) ≡ maskWith 0 (categories (type_of w))
+  pub mask-unknown : w < 2 ^ 56 → (tag_of w ≡ 0 → ⊥) → (tag_of w ≡ 1 → ⊥) → mask_with 0 (list_of (load_of w)) ≡ mask_with 0 (categories (type_of w))
   unfolding categories
-  mask-unknown h a b = sym (ap (λ (t : ArgType). maskWith 0 (categories t)) (type-unknown w h a b))
+  mask-unknown h a b = sym (ap (λ (t : ArgType). mask_with 0 (categories t)) (type-unknown w h a b))
 
 -- a legal primitive has one of the eleven categories
-pub legal-category : (names w : ℕ) → legalWord names w ≡ true → tag_of w ≡ 0 → load_of w ≤ 10
-unfolding legalWord
+pub legal-category : (names w : ℕ) → legal_word names w ≡ true → tag_of w ≡ 0 → load_of w ≤ 10
+unfolding legal_word
 legal-category names w h e =
-    leb-true (load_of w) 10 (sym (legal-primitive names (load_of w)) ∙ ap (λ (t : ℕ). legalBase names t (load_of w)) (sym e) ∙ h)
+    leb-true (load_of w) 10 (sym (legal-primitive names (load_of w)) ∙ ap (λ (t : ℕ). legal_base names t (load_of w)) (sym e) ∙ h)
 
 -- ---- the check, by the tag
 
 module _ (names w : ℕ) where
-  pub check-primitive : tag_of w ≡ 0 → legalWord names w ≡ leb (load_of w) 10
-  unfolding legalWord
-  check-primitive e = ap (λ (t : ℕ). legalBase names t (load_of w)) e ∙ legal-primitive names (load_of w)
+  pub check-primitive : tag_of w ≡ 0 → legal_word names w ≡ leb (load_of w) 10
+  unfolding legal_word
+  check-primitive e = ap (λ (t : ℕ). legal_base names t (load_of w)) e ∙ legal-primitive names (load_of w)
 
-  pub check-object : tag_of w ≡ 1 → legalWord names w ≡ ltb (load_of w) names
-  unfolding legalWord
-  check-object e = ap (λ (t : ℕ). legalBase names t (load_of w)) e ∙ legal-object names (load_of w)
+  pub check-object : tag_of w ≡ 1 → legal_word names w ≡ ltb (load_of w) names
+  unfolding legal_word
+  check-object e = ap (λ (t : ℕ). legal_base names t (load_of w)) e ∙ legal-object names (load_of w)
 
-  pub check-unknown : tag_of w ≡ 2 → legalWord names w ≡ goodUnknown (load_of w)
-  unfolding legalWord
-  check-unknown e = ap (λ (t : ℕ). legalBase names t (load_of w)) e ∙ legal-unknown names (load_of w)
+  pub check-unknown : tag_of w ≡ 2 → legal_word names w ≡ good_unknown (load_of w)
+  unfolding legal_word
+  check-unknown e = ap (λ (t : ℕ). legal_base names t (load_of w)) e ∙ legal-unknown names (load_of w)
 
-  pub check-none : (tag_of w ≡ 0 → ⊥) → (tag_of w ≡ 1 → ⊥) → (tag_of w ≡ 2 → ⊥) → legalWord names w ≡ false
-  unfolding legalWord
+  pub check-none : (tag_of w ≡ 0 → ⊥) → (tag_of w ≡ 1 → ⊥) → (tag_of w ≡ 2 → ⊥) → legal_word names w ≡ false
+  unfolding legal_word
   check-none a b c = legal-none names (load_of w) (tag_of w) (above (tag_of w) a b c)
     where
       above : (t : ℕ) → (t ≡ 0 → ⊥) → (t ≡ 1 → ⊥) → (t ≡ 2 → ⊥) → 2 < t
@@ -412,14 +412,14 @@ module _ (names w : ℕ) where
 
 module _ (names : ℕ) (ws : List ℕ) (i : ℕ) where
   -- what is said of the word i decides what is said of it and the words after it
-  pub all-legal-next : i < length ws → (t : Bool) → legalWord names (get_or ws i 0) ≡ t → allLegal names (drop i ws) ≡ (t && allLegal names (drop (i + 1) ws))
-  unfolding allLegal
-  all-legal-next h t e = rw (add-one i, drop-cons ws i 0 h) (ap (λ (b : Bool). b && allLegal names (drop (suc i) ws)) e)
+  pub all-legal-next : i < length ws → (t : Bool) → legal_word names (get_or ws i 0) ≡ t → all_legal names (drop i ws) ≡ (t && all_legal names (drop (i + 1) ws))
+  unfolding all_legal
+  all-legal-next h t e = rw (add-one i, drop-cons ws i 0 h) (ap (λ (b : Bool). b && all_legal names (drop (suc i) ws)) e)
 
-  pub all-legal-end : length ws ≤ i → allLegal names (drop i ws) ≡ true
-  unfolding allLegal
+  pub all-legal-end : length ws ≤ i → all_legal names (drop i ws) ≡ true
+  unfolding all_legal
   all-legal-end h = rw (drop_of_length-le ws h)
 
 -- 1 << k, within a word
-pub one_shifted : (k : ℕ) → k < 64 → 1 * 2 ^ k % 2 ^ 64 ≡ 2 ^ k
-one_shifted k h = shl_exact 1 k 64 (omega arith) (omega arith) ∙ one-mul (2 ^ k)
+pub one-shifted : (k : ℕ) → k < 64 → 1 * 2 ^ k % 2 ^ 64 ≡ 2 ^ k
+one-shifted k h = shl_exact 1 k 64 (omega arith) (omega arith) ∙ one-mul (2 ^ k)

@@ -5,7 +5,7 @@ use Rattle.std.proofs.Math.Option.{Option, some, none}
 use Rattle.std.specs.Int.Bits.{bit_or}
 use Rattle.order.specs.declared.Order.{Order}
 use Rattle.order.specs.declared.Order.TheVariants.{Less, Greater}
-use Rattle.order.specs.Compare.{compareNumbers, compareLists}
+use Rattle.order.specs.Compare.{compare_numbers, compare_lists}
 
 -- ---- PrimitiveType
 
@@ -64,48 +64,48 @@ arrays (suc d) t = Array (arrays d t)
 
 -- ---- type queries
 
-unfoldable pub isKnown : ArgType → Bool
-isKnown (Primitive k) = true
-isKnown (Object c) = true
-isKnown (Array t) = true
-isKnown (Unknown cs) = false
+unfoldable pub is_known : ArgType → Bool
+is_known (Primitive k) = true
+is_known (Object c) = true
+is_known (Array t) = true
+is_known (Unknown cs) = false
 
-unfoldable pub isPrimitive : ArgType → Bool
-isPrimitive (Primitive k) = true
-isPrimitive (Object c) = false
-isPrimitive (Array t) = false
-isPrimitive (Unknown cs) = false
+unfoldable pub is_primitive : ArgType → Bool
+is_primitive (Primitive k) = true
+is_primitive (Object c) = false
+is_primitive (Array t) = false
+is_primitive (Unknown cs) = false
 
-unfoldable pub isObject : ArgType → Bool
-isObject (Primitive k) = false
-isObject (Object c) = true
-isObject (Array t) = false
-isObject (Unknown cs) = false
+unfoldable pub is_object : ArgType → Bool
+is_object (Primitive k) = false
+is_object (Object c) = true
+is_object (Array t) = false
+is_object (Unknown cs) = false
 
-unfoldable pub isArray : ArgType → Bool
-isArray (Primitive k) = false
-isArray (Object c) = false
-isArray (Array t) = true
-isArray (Unknown cs) = false
+unfoldable pub is_array : ArgType → Bool
+is_array (Primitive k) = false
+is_array (Object c) = false
+is_array (Array t) = true
+is_array (Unknown cs) = false
 
-unfoldable pub isReference : ArgType → Bool
-isReference (Primitive k) = false
-isReference (Object c) = true
-isReference (Array t) = true
-isReference (Unknown cs) = false
+unfoldable pub is_reference : ArgType → Bool
+is_reference (Primitive k) = false
+is_reference (Object c) = true
+is_reference (Array t) = true
+is_reference (Unknown cs) = false
 
-unfoldable pub wideCategory : ℕ → Bool
-wideCategory k = eqb k Long || eqb k Double
+unfoldable pub wide_category : ℕ → Bool
+wide_category k = eqb k Long || eqb k Double
 
-unfoldable pub allWide : List ℕ → Bool
-allWide [] = true
-allWide (c ∷ cs) = wideCategory c && allWide cs
+unfoldable pub all_wide : List ℕ → Bool
+all_wide [] = true
+all_wide (c ∷ cs) = wide_category c && all_wide cs
 
 unfoldable pub is_wide : ArgType → Bool
-is_wide (Primitive k) = wideCategory k
+is_wide (Primitive k) = wide_category k
 is_wide (Object c) = false
 is_wide (Array t) = false
-is_wide (Unknown cs) = allWide cs
+is_wide (Unknown cs) = all_wide cs
 
 -- as_array_element
 unfoldable pub element : ArgType → Option ArgType
@@ -116,11 +116,11 @@ element (Unknown cs) = none
 
 -- ---- what lattice.rs asks of one type alone
 
-unfoldable pub isConcrete : ArgType → Bool
-isConcrete (Primitive k) = not (eqb k ObjectCategory || eqb k ArrayCategory)
-isConcrete (Object c) = true
-isConcrete (Array t) = isConcrete t
-isConcrete (Unknown cs) = false
+unfoldable pub is_concrete : ArgType → Bool
+is_concrete (Primitive k) = not (eqb k ObjectCategory || eqb k ArrayCategory)
+is_concrete (Object c) = true
+is_concrete (Array t) = is_concrete t
+is_concrete (Unknown cs) = false
 
 -- the list that the set of a type's categories is made of
 unfoldable pub categories : ArgType → List ℕ
@@ -130,31 +130,31 @@ categories (Array t) = ArrayCategory ∷ []
 categories (Unknown cs) = cs
 
 -- a set of categories, one bit a category, with those of a list
-unfoldable pub maskWith : ℕ → List ℕ → ℕ
-maskWith m [] = m
-maskWith m (c ∷ cs) = maskWith (bit_or m (2 ^ c)) cs
+unfoldable pub mask_with : ℕ → List ℕ → ℕ
+mask_with m [] = m
+mask_with m (c ∷ cs) = mask_with (bit_or m (2 ^ c)) cs
 
 -- the one type that a list of categories stands for; `object` is the number of java/lang/Object
-unfoldable pub hintOfList : ℕ → List ℕ → Option ArgType
-hintOfList object [] = none
-hintOfList object (c ∷ []) = cond (eqb c ObjectCategory) (some (Object object)) (cond (eqb c ArrayCategory) none (some (Primitive c)))
-hintOfList object (c ∷ d ∷ cs) = none
+unfoldable pub hint_of_list : ℕ → List ℕ → Option ArgType
+hint_of_list object [] = none
+hint_of_list object (c ∷ []) = cond (eqb c ObjectCategory) (some (Object object)) (cond (eqb c ArrayCategory) none (some (Primitive c)))
+hint_of_list object (c ∷ d ∷ cs) = none
 
-unfoldable pub concreteHint : ℕ → ArgType → Option ArgType
-concreteHint object (Primitive k) = cond (isConcrete (Primitive k)) (some (Primitive k)) none
-concreteHint object (Object c) = some (Object c)
-concreteHint object (Array t) = cond (isConcrete t) (some (Array t)) none
-concreteHint object (Unknown cs) = hintOfList object cs
+unfoldable pub concrete_hint : ℕ → ArgType → Option ArgType
+concrete_hint object (Primitive k) = cond (is_concrete (Primitive k)) (some (Primitive k)) none
+concrete_hint object (Object c) = some (Object c)
+concrete_hint object (Array t) = cond (is_concrete t) (some (Array t)) none
+concrete_hint object (Unknown cs) = hint_of_list object cs
 
 -- ---- the derived order: Primitive < Object < Array < Unknown, then what they hold
 
 unfoldable pub compare : ArgType → ArgType → Order
-compare (Primitive a) (Primitive b) = compareNumbers a b
+compare (Primitive a) (Primitive b) = compare_numbers a b
 compare (Primitive a) (Object b) = Less
 compare (Primitive a) (Array u) = Less
 compare (Primitive a) (Unknown ys) = Less
 compare (Object a) (Primitive b) = Greater
-compare (Object a) (Object b) = compareNumbers a b
+compare (Object a) (Object b) = compare_numbers a b
 compare (Object a) (Array u) = Less
 compare (Object a) (Unknown ys) = Less
 compare (Array t) (Primitive b) = Greater
@@ -164,4 +164,4 @@ compare (Array t) (Unknown ys) = Less
 compare (Unknown xs) (Primitive b) = Greater
 compare (Unknown xs) (Object b) = Greater
 compare (Unknown xs) (Array u) = Greater
-compare (Unknown xs) (Unknown ys) = compareLists xs ys
+compare (Unknown xs) (Unknown ys) = compare_lists xs ys

@@ -10,20 +10,20 @@ use Rattle.ty.specs.Types.{ArgType, Primitive, Object, Array, Unknown, arrays, d
 abbrev pub dimension : ℕ
 dimension = 2 ^ 56
 
-abbrev pub tagStep : ℕ
-tagStep = 2 ^ 48
+abbrev pub tag_step : ℕ
+tag_step = 2 ^ 48
 
-abbrev pub lengthStep : ℕ
-lengthStep = 2 ^ 44
+abbrev pub length_step : ℕ
+length_step = 2 ^ 44
 
-abbrev pub dimsOf : ℕ → ℕ
-dimsOf w = w / dimension
+abbrev pub dims_of : ℕ → ℕ
+dims_of w = w / dimension
 
 abbrev pub tag_of : ℕ → ℕ
-tag_of w = w / tagStep % 256
+tag_of w = w / tag_step % 256
 
 abbrev pub load_of : ℕ → ℕ
-load_of w = w % tagStep
+load_of w = w % tag_step
 
 -- ---- an Unknown's payload: a digit for the length, then a digit for each category, eleven in all
 
@@ -39,16 +39,16 @@ pack (suc n) [] = zero
 pack (suc n) (d ∷ ds) = d * 2 ^ (4 * n) + pack n ds
 
 unfoldable pub list_of : ℕ → List ℕ
-list_of load = take (load / lengthStep) (unpack 11 load)
+list_of load = take (load / length_step) (unpack 11 load)
 
 -- n categories, none twice, and zeros after them
-unfoldable pub goodDigits : ℕ → List ℕ → Bool
-goodDigits n [] = true
-goodDigits zero (d ∷ ds) = eqb d 0 && goodDigits zero ds
-goodDigits (suc n) (d ∷ ds) = leb d 10 && (not (elem d (take n ds)) && goodDigits n ds)
+unfoldable pub good_digits : ℕ → List ℕ → Bool
+good_digits n [] = true
+good_digits zero (d ∷ ds) = eqb d 0 && good_digits zero ds
+good_digits (suc n) (d ∷ ds) = leb d 10 && (not (elem d (take n ds)) && good_digits n ds)
 
-unfoldable pub goodUnknown : ℕ → Bool
-goodUnknown load = leb (load / lengthStep) 11 && goodDigits (load / lengthStep) (unpack 11 load)
+unfoldable pub good_unknown : ℕ → Bool
+good_unknown load = leb (load / length_step) 11 && good_digits (load / length_step) (unpack 11 load)
 
 -- ---- words and types
 
@@ -59,46 +59,46 @@ base_of (suc zero) load = Object load
 base_of (suc (suc t)) load = Unknown (list_of load)
 
 unfoldable pub type_of : ℕ → ArgType
-type_of w = arrays (dimsOf w) (base_of (tag_of w) (load_of w))
+type_of w = arrays (dims_of w) (base_of (tag_of w) (load_of w))
 
 -- a type's word
 unfoldable pub word_of : ArgType → ℕ
 word_of (Primitive k) = k
-word_of (Object c) = tagStep + c
+word_of (Object c) = tag_step + c
 word_of (Array t) = dimension + word_of t
-word_of (Unknown cs) = 2 * tagStep + (length cs * lengthStep + pack 11 cs)
+word_of (Unknown cs) = 2 * tag_step + (length cs * length_step + pack 11 cs)
 
 -- the refusal of a word that is no type
-abbrev pub noType : ℕ
-noType = 7
+abbrev pub no_type : ℕ
+no_type = 7
 
 -- whether a word is one of a type over that many names: refusal 7 is for the others
-unfoldable pub legalBase : ℕ → ℕ → ℕ → Bool
-legalBase names tag load =
-    (eqb tag 0 && leb load 10) || ((eqb tag 1 && ltb load names) || (eqb tag 2 && goodUnknown load))
+unfoldable pub legal_base : ℕ → ℕ → ℕ → Bool
+legal_base names tag load =
+    (eqb tag 0 && leb load 10) || ((eqb tag 1 && ltb load names) || (eqb tag 2 && good_unknown load))
 
-unfoldable pub legalWord : ℕ → ℕ → Bool
-legalWord names w = legalBase names (tag_of w) (load_of w)
+unfoldable pub legal_word : ℕ → ℕ → Bool
+legal_word names w = legal_base names (tag_of w) (load_of w)
 
 -- the same of each word of a list
-unfoldable pub allLegal : ℕ → List ℕ → Bool
-allLegal names [] = true
-allLegal names (w ∷ ws) = legalWord names w && allLegal names ws
+unfoldable pub all_legal : ℕ → List ℕ → Bool
+all_legal names [] = true
+all_legal names (w ∷ ws) = legal_word names w && all_legal names ws
 
 -- whether a type is within the limits: categories up to 10 and none twice in a list, classes that are names, 255 dimensions
 unfoldable pub distinct : List ℕ → Bool
 distinct [] = true
 distinct (c ∷ cs) = leb c 10 && (not (elem c cs) && distinct cs)
 
-unfoldable pub legalAtBase : ℕ → ArgType → Bool
-legalAtBase names (Primitive k) = leb k 10
-legalAtBase names (Object c) = ltb c names
-legalAtBase names (Array t) = legalAtBase names t
-legalAtBase names (Unknown cs) = distinct cs
+unfoldable pub legal_at_base : ℕ → ArgType → Bool
+legal_at_base names (Primitive k) = leb k 10
+legal_at_base names (Object c) = ltb c names
+legal_at_base names (Array t) = legal_at_base names t
+legal_at_base names (Unknown cs) = distinct cs
 
-unfoldable pub legalType : ℕ → ArgType → Bool
-legalType names t = leb (depth t) 255 && legalAtBase names t
+unfoldable pub legal_type : ℕ → ArgType → Bool
+legal_type names t = leb (depth t) 255 && legal_at_base names t
 
 -- what the functions that lean on a word's form require: every caller has checked its words against at most 1,024 names
 abbrev pub Legal : ℕ → Type 0
-Legal w = legalWord 1024 w ≡ true
+Legal w = legal_word 1024 w ≡ true

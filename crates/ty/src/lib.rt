@@ -1,10 +1,10 @@
 // Types of ty.rs as words of 64 bits: which words are types, the constants, and what is asked of one type alone.
 ghost use Rattle.std.specs.Prelude.{◌≡◌, ◌+◌, ◌-◌, ◌*◌, ◌/◌, ◌%◌, ◌^◌, ◌≤◌, ◌<◌, take};
 ghost use Rattle.order.specs.Lists.{elem};
-ghost use Rattle.ty.specs.Types.{isKnown, isPrimitive, isObject, isArray, isReference, wideCategory, allWide, is_wide, isConcrete, categories, concreteHint, hintOfList, maskWith};
-ghost use Rattle.ty.specs.Words.{tagStep, dimsOf, tag_of, load_of, unpack, list_of, goodUnknown, type_of, legalWord, allLegal, Legal};
-ghost use Rattle.ty.specs.Steps.{digitGood};
-ghost use Rattle.ty.specs.Answers.{intWord, longWord, floatWord, doubleWord, unknownWord, decodeWord, elementWord, arrayWord, maybeWord};
+ghost use Rattle.ty.specs.Types.{is_known, is_primitive, is_object, is_array, is_reference, wide_category, all_wide, is_wide, is_concrete, categories, concrete_hint, hint_of_list, mask_with};
+ghost use Rattle.ty.specs.Words.{tag_step, dims_of, tag_of, load_of, unpack, list_of, good_unknown, type_of, legal_word, all_legal, Legal};
+ghost use Rattle.ty.specs.Steps.{digit_good};
+ghost use Rattle.ty.specs.Answers.{int_word, long_word, float_word, double_word, unknown_word, decode_word, element_word, array_word, maybe_word};
 
 // What one dimension adds to a word, one step of the tag, and one of the length of an Unknown's list.
 pub const DIMENSION: u64 = 1 << 56;
@@ -80,7 +80,7 @@ fn contains(load: u64, from: u64, n: u64, d: u64) -> bool
 // Whether the digit i is as it must be in a list of n: a category that does not come again, or 0 after the list.
 fn good_digit(load: u64, n: u64, i: u64) -> bool
     requires { (i < 11) × (n ≤ 11) }
-    ensures { result ≡ digitGood load n i }
+    ensures { result ≡ digit_good load n i }
 {
     let d = digit(load, i);
     if n <= i {
@@ -95,7 +95,7 @@ fn good_digit(load: u64, n: u64, i: u64) -> bool
 
 // Whether the payload is that of an Unknown: a length up to 11, that many categories with none twice, and zeros.
 fn good_unknown(load: u64) -> bool
-    ensures { result ≡ goodUnknown load }
+    ensures { result ≡ good_unknown load }
 {
     let n = load / LENGTH;
     if 11 < n {
@@ -114,7 +114,7 @@ fn good_unknown(load: u64) -> bool
 }
 
 fn wide_category(category: u64) -> bool
-    ensures { result ≡ wideCategory category }
+    ensures { result ≡ wide_category category }
 {
     if category == LONG {
         return true;
@@ -124,7 +124,7 @@ fn wide_category(category: u64) -> bool
 
 // Whether every category of an Unknown's list is wide; of an empty list, too.
 fn all_wide(load: u64) -> bool
-    ensures { result ≡ allWide (list_of load) }
+    ensures { result ≡ all_wide (list_of load) }
 {
     let n = load / LENGTH;
     let mut i: u64 = 0;
@@ -144,7 +144,7 @@ fn all_wide(load: u64) -> bool
 
 // The set of an Unknown's categories, one bit a category.
 fn list_mask(load: u64) -> u64
-    ensures { result ≡ maskWith 0 (list_of load) }
+    ensures { result ≡ mask_with 0 (list_of load) }
 {
     let n = load / LENGTH;
     let mut m: u64 = 0;
@@ -162,7 +162,7 @@ fn list_mask(load: u64) -> u64
 
 // Whether a word is that of a type over that many names.
 pub fn is_legal(word: u64, names: u64) -> bool
-    ensures { result ≡ legalWord names word }
+    ensures { result ≡ legal_word names word }
 {
     let tag = word / TAG % 256;
     let load = word % TAG;
@@ -180,7 +180,7 @@ pub fn is_legal(word: u64, names: u64) -> bool
 
 // The same of each word of a slice.
 pub fn are_legal(words: &[u64], names: u64) -> bool
-    ensures { result ≡ allLegal names words.now }
+    ensures { result ≡ all_legal names words.now }
 {
     let mut i: usize = 0;
     while i < words.len() {
@@ -196,7 +196,7 @@ pub fn are_legal(words: &[u64], names: u64) -> bool
 
 // The type of a word over that many names, or refusal 7.
 pub fn decode(word: u64, names: u64) -> Decoded
-    ensures { result ≡ decodeWord names word }
+    ensures { result ≡ decode_word names word }
 {
     if is_legal(word, names) {
         Decoded::Good(TypeWord { word: word })
@@ -220,31 +220,31 @@ impl TypeWord {
 
     // The constants, with what they stand for.
     pub fn int() -> TypeWord
-        ensures { result.word ≡ intWord }
+        ensures { result.word ≡ int_word }
     {
         Self::INT
     }
 
     pub fn long() -> TypeWord
-        ensures { result.word ≡ longWord }
+        ensures { result.word ≡ long_word }
     {
         Self::LONG
     }
 
     pub fn float() -> TypeWord
-        ensures { result.word ≡ floatWord }
+        ensures { result.word ≡ float_word }
     {
         Self::FLOAT
     }
 
     pub fn double() -> TypeWord
-        ensures { result.word ≡ doubleWord }
+        ensures { result.word ≡ double_word }
     {
         Self::DOUBLE
     }
 
     pub fn unknown() -> TypeWord
-        ensures { result.word ≡ unknownWord }
+        ensures { result.word ≡ unknown_word }
     {
         Self::UNKNOWN
     }
@@ -252,13 +252,13 @@ impl TypeWord {
     // The class of that number.
     pub fn object(class: u64) -> TypeWord
         requires { class < 1024 }
-        ensures { result.word ≡ tagStep + class }
+        ensures { result.word ≡ tag_step + class }
     {
         TypeWord { word: TAG + class }
     }
 
     pub fn dims(self) -> u64
-        ensures { result ≡ dimsOf self.word }
+        ensures { result ≡ dims_of self.word }
     {
         self.word / DIMENSION
     }
@@ -276,7 +276,7 @@ impl TypeWord {
     }
 
     pub fn is_known(self) -> bool
-        ensures { result ≡ isKnown (type_of self.word) }
+        ensures { result ≡ is_known (type_of self.word) }
     {
         let w = self.word;
         if DIMENSION <= w {
@@ -286,7 +286,7 @@ impl TypeWord {
     }
 
     pub fn is_primitive(self) -> bool
-        ensures { result ≡ isPrimitive (type_of self.word) }
+        ensures { result ≡ is_primitive (type_of self.word) }
     {
         let w = self.word;
         if DIMENSION <= w {
@@ -296,7 +296,7 @@ impl TypeWord {
     }
 
     pub fn is_object(self) -> bool
-        ensures { result ≡ isObject (type_of self.word) }
+        ensures { result ≡ is_object (type_of self.word) }
     {
         let w = self.word;
         if DIMENSION <= w {
@@ -306,14 +306,14 @@ impl TypeWord {
     }
 
     pub fn is_array(self) -> bool
-        ensures { result ≡ isArray (type_of self.word) }
+        ensures { result ≡ is_array (type_of self.word) }
     {
         DIMENSION <= self.word
     }
 
     // Whether this is a class or an array.
     pub fn is_reference(self) -> bool
-        ensures { result ≡ isReference (type_of self.word) }
+        ensures { result ≡ is_reference (type_of self.word) }
     {
         let w = self.word;
         if DIMENSION <= w {
@@ -343,7 +343,7 @@ impl TypeWord {
 
     // Whether no category stands for a class or an array that is not named, and nothing is Unknown.
     pub fn is_concrete(self) -> bool
-        ensures { result ≡ isConcrete (type_of self.word) }
+        ensures { result ≡ is_concrete (type_of self.word) }
     {
         let w = self.word;
         let tag = w / TAG % 256;
@@ -358,7 +358,7 @@ impl TypeWord {
     }
 
     pub fn element(self) -> MaybeType
-        ensures { result ≡ elementWord self.word }
+        ensures { result ≡ element_word self.word }
     {
         let w = self.word;
         if DIMENSION <= w {
@@ -370,7 +370,7 @@ impl TypeWord {
     }
 
     pub fn array(self) -> Arrayed
-        ensures { result ≡ arrayWord self.word }
+        ensures { result ≡ array_word self.word }
     {
         let w = self.word;
         if w < FULL {
@@ -384,7 +384,7 @@ impl TypeWord {
     // The set of categories, one bit each: of a class Object, of an array Array.
     pub fn categories(self) -> u64
         requires { Legal self.word }
-        ensures { result ≡ maskWith 0 (categories (type_of self.word)) }
+        ensures { result ≡ mask_with 0 (categories (type_of self.word)) }
     {
         let w = self.word;
         if DIMENSION <= w {
@@ -404,7 +404,7 @@ impl TypeWord {
     // The concrete type that this one hints at; `object` is the number of java/lang/Object.
     pub fn concrete_hint(self, object: u64) -> MaybeType
         requires { object < 1024 }
-        ensures { result ≡ maybeWord (concreteHint object (type_of self.word)) }
+        ensures { result ≡ maybe_word (concrete_hint object (type_of self.word)) }
     {
         if self.is_known() {
             if self.is_concrete() {
@@ -419,7 +419,7 @@ impl TypeWord {
 // The hint of an Unknown's list: of one category alone.
 fn single_hint(load: u64, object: u64) -> MaybeType
     requires { object < 1024 }
-    ensures { result ≡ maybeWord (hintOfList object (list_of load)) }
+    ensures { result ≡ maybe_word (hint_of_list object (list_of load)) }
 {
     if load / LENGTH != 1 {
         return MaybeType::Nothing;

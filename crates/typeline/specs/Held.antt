@@ -6,17 +6,17 @@ use Rattle.std.proofs.lemmas.List.{length-replicate}
 use Rattle.std.specs.Int.{w64}
 use Rattle.sets.specs.declared.Set.{Set}
 use Rattle.framestate.specs.declared.Numbers.{Numbers}
-use Rattle.tables.specs.Table.{marksRoom}
+use Rattle.tables.specs.Table.{marks_room}
 use Rattle.layers.specs.declared.StackTables.{StackTables}
-use Rattle.layers.specs.Layers.{layersRoom}
+use Rattle.layers.specs.Layers.{layers_room}
 use Rattle.layers.specs.Laws.{inside-none}
-use Rattle.rows.specs.Rows.{noTables}
-use Rattle.columns.specs.Given.{noMarks}
-use Rattle.problems.specs.Problems.{noProblem}
-use Rattle.frames.specs.Frames.{emptyStore}
-use Rattle.framelaws.specs.Reached.{Sound, sound_empty}
+use Rattle.rows.specs.Rows.{no_tables}
+use Rattle.columns.specs.Given.{no_marks}
+use Rattle.problems.specs.Problems.{no_problem}
+use Rattle.frames.specs.Frames.{empty_store}
+use Rattle.framelaws.specs.Reached.{Sound, sound-empty}
 use Rattle.framestate.specs.FrameState.{store_of}
-use Rattle.solveframe.specs.Parts.{problemRoom, slicesOf, sized}
+use Rattle.solveframe.specs.Parts.{problem_room, slices_of, sized}
 use Rattle.stepping.specs.Stepping.{Stands}
 
 -- how much of the buffer may wait
@@ -27,17 +27,17 @@ pub record Holds (last pairs marks rows answers out : List ℕ) (n : Numbers) (f
   pub waits : filled ≤ 49152
 
 -- the numbers of one layer without a name or a record
-abbrev pub emptyLayers : StackTables
-emptyLayers = record {
+abbrev pub empty_layers : StackTables
+empty_layers = record {
   tables = record { names = 0; bytes = 0; object = 2 ^ 64 - 1; cloneable = 2 ^ 64 - 1; serializable = 2 ^ 64 - 1; pairs = 0 };
   layer = record { own = record { words = replicate 16 0 }; keys = 0 };
   under = 0;
 }
 
 -- the numbers of the empty state
-abbrev pub emptyNumbers : Numbers
-emptyNumbers = record {
-  stack = emptyLayers;
+abbrev pub empty_numbers : Numbers
+empty_numbers = record {
+  stack = empty_layers;
   last = 0;
   components = 0;
   variables = 0;
@@ -50,13 +50,13 @@ emptyNumbers = record {
 }
 
 abbrev pub Empty : Numbers → Type 0
-Empty n = n ≡ emptyNumbers
+Empty n = n ≡ empty_numbers
 
 -- as the code makes them
-pub layers-empty : (s : Set) → s.words ≡ replicate 16 0 → ◌≡◌ {A = StackTables} (record { tables = emptyLayers.tables; layer = record { own = s; keys = 0 }; under = 0 }) emptyLayers
-layers-empty s e = λ i. record { tables = emptyLayers.tables; layer = record { own = record { words = e i }; keys = 0 }; under = 0 }
+pub layers-empty : (s : Set) → s.words ≡ replicate 16 0 → ◌≡◌ {A = StackTables} (record { tables = empty_layers.tables; layer = record { own = s; keys = 0 }; under = 0 }) empty_layers
+layers-empty s e = λ i. record { tables = empty_layers.tables; layer = record { own = record { words = e i }; keys = 0 }; under = 0 }
 
-pub numbers-empty : (s : StackTables) → s ≡ emptyLayers → Empty (record { stack = s; last = 0; components = 0; variables = 0; bounds = 0; flows = 0; uppers = 0; reads = 0; writes = 0; rank = 0 })
+pub numbers-empty : (s : StackTables) → s ≡ empty_layers → Empty (record { stack = s; last = 0; components = 0; variables = 0; bounds = 0; flows = 0; uppers = 0; reads = 0; writes = 0; rank = 0 })
 numbers-empty s e = λ i. record { stack = e i; last = 0; components = 0; variables = 0; bounds = 0; flows = 0; uppers = 0; reads = 0; writes = 0; rank = 0 }
 
 pub say-room : (filled : ℕ) (out : List ℕ) → filled ≤ 49152 → length out ≡ 131072 → filled + 81920 ≤ length out
@@ -64,18 +64,18 @@ say-room filled out a b = omega arith
 
 -- THE EMPTY STATE stands in any slices of these lengths without a mark
 module _ (last pairs marks rows : List ℕ) where
-  store-empty : marks ≡ noMarks → store_of (slicesOf last pairs marks rows) emptyNumbers ≡ emptyStore
-  unfolding emptyStore noTables noProblem
+  store-empty : marks ≡ no_marks → store_of (slices_of last pairs marks rows) empty_numbers ≡ empty_store
+  unfolding empty_store no_tables no_problem
   store-empty m = λ i. record {
     last = [];
-    classes = record { top = record { shown = record { tables = emptyLayers.tables; keys = []; marks = m i }; own = replicate 16 0 }; under = 0 };
-    problem = record { components = 0; variables = []; bounds = []; flows = []; upperFlows = []; reads = []; writes = [] };
+    classes = record { top = record { shown = record { tables = empty_layers.tables; keys = []; marks = m i }; own = replicate 16 0 }; under = 0 };
+    problem = record { components = 0; variables = []; bounds = []; flows = []; upper_flows = []; reads = []; writes = [] };
     rank = 0;
   }
 
-  pub stands-empty : length last ≡ 255 → length pairs ≡ layersRoom → marks ≡ noMarks → length marks ≡ marksRoom → length rows ≡ problemRoom → Stands last pairs marks rows emptyNumbers
+  pub stands-empty : length last ≡ 255 → length pairs ≡ layers_room → marks ≡ no_marks → length marks ≡ marks_room → length rows ≡ problem_room → Stands last pairs marks rows empty_numbers
   stands-empty a b m c d =
-      let sound : Sound (store_of (slicesOf last pairs marks rows) emptyNumbers) = subst Sound (sym (store-empty m)) sound_empty in
+      let sound : Sound (store_of (slices_of last pairs marks rows) empty_numbers) = subst Sound (sym (store-empty m)) sound-empty in
       record {
         ready = record {
           sized = sized last pairs marks rows a b c d;
@@ -88,12 +88,12 @@ module _ (last pairs marks rows : List ℕ) where
       }
 
 -- EMPTY ARRAYS hold it
-pub holds-empty : (last pairs marks rows answers out : List ℕ) → last ≡ replicate 255 0 → pairs ≡ replicate layersRoom 0 → marks ≡ noMarks → rows ≡ replicate problemRoom 0 → answers ≡ replicate 2048 0 → out ≡ replicate 131072 0
-    → Holds last pairs marks rows answers out emptyNumbers 0
+pub holds-empty : (last pairs marks rows answers out : List ℕ) → last ≡ replicate 255 0 → pairs ≡ replicate layers_room 0 → marks ≡ no_marks → rows ≡ replicate problem_room 0 → answers ≡ replicate 2048 0 → out ≡ replicate 131072 0
+    → Holds last pairs marks rows answers out empty_numbers 0
 holds-empty last pairs marks rows answers out a b c d e f = record {
   stands =
-      stands-empty last pairs marks rows (ap length a ∙ length-replicate {A = ℕ} 255 0) (ap length b ∙ length-replicate {A = ℕ} layersRoom 0) c
-      (ap length c ∙ length-replicate {A = ℕ} marksRoom 0) (ap length d ∙ length-replicate {A = ℕ} problemRoom 0);
+      stands-empty last pairs marks rows (ap length a ∙ length-replicate {A = ℕ} 255 0) (ap length b ∙ length-replicate {A = ℕ} layers_room 0) c
+      (ap length c ∙ length-replicate {A = ℕ} marks_room 0) (ap length d ∙ length-replicate {A = ℕ} problem_room 0);
   all-answers = ap length e ∙ length-replicate {A = ℕ} 2048 0;
   all-out = ap length f ∙ length-replicate {A = ℕ} 131072 0;
   waits = omega arith;
@@ -101,8 +101,8 @@ holds-empty last pairs marks rows answers out a b c d e f = record {
 
 -- ---- as the code meets it
 
-pub holds_same : (last pairs marks rows answers out : List ℕ) (n m : Numbers) (f g : ℕ) → Holds last pairs marks rows answers out n f → m ≡ n → g ≡ f → Holds last pairs marks rows answers out m g
-holds_same last pairs marks rows answers out n m f g h a b =
+pub holds-same : (last pairs marks rows answers out : List ℕ) (n m : Numbers) (f g : ℕ) → Holds last pairs marks rows answers out n f → m ≡ n → g ≡ f → Holds last pairs marks rows answers out m g
+holds-same last pairs marks rows answers out n m f g h a b =
     subst (λ (x : ℕ). Holds last pairs marks rows answers out m x) (sym b) (subst (λ (x : Numbers). Holds last pairs marks rows answers out x f) (sym a) h)
 
 pub line-room : (used : ℕ) (line : List ℕ) → used ≤ 1025 → length line ≡ 1025 → used ≤ length line
@@ -118,8 +118,8 @@ pub feed-less : (n i e : ℕ) → i < n → i ≤ e → e ≤ n → n + 1 - (e +
 feed-less n i e a b c = omega arith
 
 -- the place after a line's end is a number
-pub next_fits : (n e : ℕ) → e ≤ n → n < 2 ^ 63 → Fits w64 (e + 1)
-next_fits n e a b = record { fits = omega arith }
+pub next-fits : (n e : ℕ) → e ≤ n → n < 2 ^ 63 → Fits w64 (e + 1)
+next-fits n e a b = record { fits = omega arith }
 
 pub feed-more : (n e : ℕ) → e ≤ n → e + 1 ≤ n + 1
 feed-more n e a = omega arith

@@ -4,7 +4,7 @@ mod input;
 mod output;
 
 ghost use Rattle.std.specs.Prelude.{◌≡◌, ◌≤◌, length};
-ghost use Rattle.typeline.specs.Held.{Holds, emptyLayers, emptyNumbers, Empty};
+ghost use Rattle.typeline.specs.Held.{Holds, empty_layers, empty_numbers, Empty};
 
 use framestate::Numbers;
 use layers::{Layer, StackTables};
@@ -54,7 +54,7 @@ impl State {
 
 // One layer without a name or a record.
 fn no_layers() -> StackTables
-    ensures { result ≡ emptyLayers }
+    ensures { result ≡ empty_layers }
 {
     let tables = Tables {
         names: 0,
@@ -240,7 +240,7 @@ fn run(
     answers: &mut [u64],
     out: &mut [u8],
 )
-    requires { Holds last.old pairs.old marks.old rows.old answers.old out.old emptyNumbers 0 × (length line.old ≡ 1025) }
+    requires { Holds last.old pairs.old marks.old rows.old answers.old out.old empty_numbers 0 × (length line.old ≡ 1025) }
 {
     let numbers = no_numbers();
     let mut s = State {

@@ -10,16 +10,16 @@ use lib.Dec.{eqb}
 use lib.ListN.{length, get_or, take, drop, length-drop, drop_of_length-le}
 use lib.Seq.{slice, slice-cons, length-slice, drop-drop, take-nil, length-take-le}
 use borrow.Author.Tests.{eq-eqb, ne_eqb, eqb-true, eqb-false, lt-ltb, le-ltb}
-use Rattle.utf8.specs.Utf8.{Range, table, matches, within, sequence, validPrefix, ascii, wellFormed}
+use Rattle.utf8.specs.Utf8.{Range, table, matches, within, sequence, valid_prefix, ascii, well_formed}
 use Rattle.utf8.specs.Rows.{matches-le, sequence-row, sequence-le}
 use Rattle.utf8.specs.Laws.{prefix-step, prefix-stop, prefix-le, ascii-whole}
 
 -- the part, taken either way
-pub part_slice : (from to : ℕ) (s : List ℕ) → from ≤ to → take (to - from) (drop from s) ≡ slice from to s
-part_slice zero to s h = ap (λ (n : ℕ). take n s) (sub-zero to)
-part_slice (suc f) zero s h = absurd (omega arith)
-part_slice (suc f) (suc t) [] h = take-nil (suc t - suc f)
-part_slice (suc f) (suc t) (x ∷ s) h = ap (λ (n : ℕ). take n (drop f s)) (suc-sub-suc t f) ∙ part_slice f t s (omega arith)
+pub part-slice : (from to : ℕ) (s : List ℕ) → from ≤ to → take (to - from) (drop from s) ≡ slice from to s
+part-slice zero to s h = ap (λ (n : ℕ). take n s) (sub-zero to)
+part-slice (suc f) zero s h = absurd (omega arith)
+part-slice (suc f) (suc t) [] h = take-nil (suc t - suc f)
+part-slice (suc f) (suc t) (x ∷ s) h = ap (λ (n : ℕ). take n (drop f s)) (suc-sub-suc t f) ∙ part-slice f t s (omega arith)
 
 pub part-cons : (i to : ℕ) (s : List ℕ) → i < to → to ≤ length s → slice i to s ≡ get_or s i 0 ∷ slice (i + 1) to s
 part-cons i to s h fits = slice-cons i to s 0 h fits ∙ ap (λ (n : ℕ). get_or s i 0 ∷ slice n to s) (sym (add-one i))
@@ -58,17 +58,17 @@ match-not r row (b ∷ bs) e h = none (within r b) (matches row bs) (sym e ∙ h
 
 -- ---- the length by the row, row k of the table, in whose first range the first byte lies
 
-row_in : (rows : List (List Range)) (k : ℕ) {r : Range} {row : List Range} → get_or rows k [] ≡ r ∷ row → Memᴰ (r ∷ row) rows
-row_in [] k e =
+row-in : (rows : List (List Range)) (k : ℕ) {r : Range} {row : List Range} → get_or rows k [] ≡ r ∷ row → Memᴰ (r ∷ row) rows
+row-in [] k e =
     let z : ◌≡◌ {A = ℕ} 0 1 = cc in
     absurd (omega arith)
-row_in (x ∷ rows) zero e = Memᴰ.head (sym e)
-row_in (x ∷ rows) (suc k) e = Memᴰ.tail (row_in rows k e)
+row-in (x ∷ rows) zero e = Memᴰ.head (sym e)
+row-in (x ∷ rows) (suc k) e = Memᴰ.tail (row-in rows k e)
 
-pub by_row : (k : ℕ) {r : Range} {row : List Range} {a n : ℕ} (bs : List ℕ) {t : Bool} → get_or table k [] ≡ r ∷ row → r.lo ≤ a → a ≤ r.hi
+pub by-row : (k : ℕ) {r : Range} {row : List Range} {a n : ℕ} (bs : List ℕ) {t : Bool} → get_or table k [] ≡ r ∷ row → r.lo ≤ a → a ≤ r.hi
     → t ≡ matches row bs → n ≡ cond t (suc (length row)) 0 → n ≡ sequence (a ∷ bs)
-by_row k {r} {row} {a} bs e l h m q =
-    q ∙ ap (λ (u : Bool). cond u (suc (length row)) 0) m ∙ sym (sequence-row r row a bs (row_in table k e) l h)
+by-row k {r} {row} {a} bs e l h m q =
+    q ∙ ap (λ (u : Bool). cond u (suc (length row)) 0) m ∙ sym (sequence-row r row a bs (row-in table k e) l h)
 
 -- ---- the valid prefix from i on, after a sequence of n bytes
 
@@ -76,14 +76,14 @@ module _ (s : List ℕ) (i to : ℕ) (fits : to ≤ length s) where
   pub pass-in : i ≤ to → {n : ℕ} → n ≡ sequence (slice i to s) → i + n ≤ to
   pass-in h e = omega (arith, e, sequence-le (slice i to s), length-slice i to s fits)
 
-  pub pass_step : {n : ℕ} → n ≡ sequence (slice i to s) → (n ≡ 0 → ⊥)
-      → i + validPrefix (slice i to s) ≡ i + n + validPrefix (slice (i + n) to s)
-  pass_step {n} e h = omega (arith, rw (drop-drop n i (take to s)) at (prefix-step (slice i to s) n (sym e) h))
+  pub pass-step : {n : ℕ} → n ≡ sequence (slice i to s) → (n ≡ 0 → ⊥)
+      → i + valid_prefix (slice i to s) ≡ i + n + valid_prefix (slice (i + n) to s)
+  pass-step {n} e h = omega (arith, rw (drop-drop n i (take to s)) at (prefix-step (slice i to s) n (sym e) h))
 
-  pub pass-stop : {n : ℕ} → n ≡ sequence (slice i to s) → n ≡ 0 → i + validPrefix (slice i to s) ≡ i
+  pub pass-stop : {n : ℕ} → n ≡ sequence (slice i to s) → n ≡ 0 → i + valid_prefix (slice i to s) ≡ i
   pass-stop e h = omega (arith, prefix-stop (slice i to s) (sym e ∙ h))
 
-  pub pass-end : to ≤ i → i + validPrefix (slice i to s) ≡ i
+  pub pass-end : to ≤ i → i + valid_prefix (slice i to s) ≡ i
   pass-end h = omega (arith, prefix-le (slice i to s), length-slice i to s fits)
 
 -- ---- bytes below 80 from i on
@@ -102,16 +102,16 @@ module _ (s : List ℕ) (i to : ℕ) (fits : to ≤ length s) where
   ascii-end h = rw (drop_of_length-le (take to s) {i = i} (omega (arith, length-take-le to s fits)))
 
 pub ascii-part : (s : List ℕ) (from to : ℕ) → from ≤ to → to ≤ length s → ascii (slice from to s) ≡ true
-    → from + validPrefix (take (to - from) (drop from s)) ≡ to
+    → from + valid_prefix (take (to - from) (drop from s)) ≡ to
 ascii-part s from to h fits e =
-    rw (part_slice from to s h) (omega (arith, ascii-whole (slice from to s) e, length-slice from to s fits))
+    rw (part-slice from to s h) (omega (arith, ascii-whole (slice from to s) e, length-slice from to s fits))
 
 -- ---- the part is well-formed where its valid prefix ends it
 
-pub whole_part : (s : List ℕ) (from to : ℕ) → from ≤ to → to ≤ length s → {r : ℕ} → r ≡ from + validPrefix (take (to - from) (drop from s))
-    → eqb r to ≡ wellFormed (take (to - from) (drop from s))
-unfolding wellFormed
-whole_part s from to h fits {r} e = go (eqb (validPrefix part) (length part)) refl
+pub whole-part : (s : List ℕ) (from to : ℕ) → from ≤ to → to ≤ length s → {r : ℕ} → r ≡ from + valid_prefix (take (to - from) (drop from s))
+    → eqb r to ≡ well_formed (take (to - from) (drop from s))
+unfolding well_formed
+whole-part s from to h fits {r} e = go (eqb (valid_prefix part) (length part)) refl
   where
     part : List ℕ
     part = take (to - from) (drop from s)
@@ -119,6 +119,6 @@ whole_part s from to h fits {r} e = go (eqb (validPrefix part) (length part)) re
     size : length part ≡ to - from
     size = length-take-le (to - from) (drop from s) (omega (arith, length-drop from s))
 
-    go : (t : Bool) → eqb (validPrefix part) (length part) ≡ t → eqb r to ≡ t
-    go true q = eq-eqb r to (omega (arith, e, size, eqb-true (validPrefix part) (length part) q))
-    go false q = ne_eqb r to (λ p. eqb-false (validPrefix part) (length part) q (omega (arith, p, e, size)))
+    go : (t : Bool) → eqb (valid_prefix part) (length part) ≡ t → eqb r to ≡ t
+    go true q = eq-eqb r to (omega (arith, e, size, eqb-true (valid_prefix part) (length part) q))
+    go false q = ne_eqb r to (λ p. eqb-false (valid_prefix part) (length part) q (omega (arith, p, e, size)))

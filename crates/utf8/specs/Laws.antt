@@ -4,7 +4,7 @@ use Rattle.std.proofs.Common.{sym, ap, subst, ◌∙◌, arith, length-append, t
 use mathlib.Core.List.{List, [], ◌∷◌, ◌++◌, Memᴰ, append_assoc, append-nil}
 use Rattle.std.proofs.Math.Seq.{drop-append_seam}
 use Rattle.order.specs.Truth.{both}
-use Rattle.utf8.specs.Utf8.{◌‥◌, table, matches, sequence, passing, scan, validPrefix, ascii, wellFormed, Fits, Fits.done, Fits.next, WellFormed, WellFormed.empty, WellFormed.more}
+use Rattle.utf8.specs.Utf8.{◌‥◌, table, matches, sequence, passing, scan, valid_prefix, ascii, well_formed, Fits, Fits.done, Fits.next, WellFormed, WellFormed.empty, WellFormed.more}
 use Rattle.utf8.specs.Rows.{fits-some, sequence-row, sequence-fits, sequence-found, sequence-le, long-high}
 
 -- ---- the valid prefix
@@ -18,8 +18,8 @@ scan-skip (b ∷ bs) (suc k) h =
     omega arith
 
 -- A SEQUENCE IS PASSED WHOLE
-pub prefix-step : (bs : List ℕ) (n : ℕ) → sequence bs ≡ n → (n ≡ 0 → ⊥) → validPrefix bs ≡ n + validPrefix (drop n bs)
-unfolding validPrefix scan
+pub prefix-step : (bs : List ℕ) (n : ℕ) → sequence bs ≡ n → (n ≡ 0 → ⊥) → valid_prefix bs ≡ n + valid_prefix (drop n bs)
+unfolding valid_prefix scan
 prefix-step bs zero e p = absurd (p refl)
 prefix-step [] (suc n) e p = absurd (omega (arith, sequence-le []))
 prefix-step (b ∷ bs) (suc n) e p =
@@ -28,8 +28,8 @@ prefix-step (b ∷ bs) (suc n) e p =
     rw e (omega arith)
 
 -- NOTHING IS PASSED WHERE NONE STANDS AT THE FRONT
-pub prefix-stop : (bs : List ℕ) → sequence bs ≡ 0 → validPrefix bs ≡ 0
-unfolding validPrefix scan
+pub prefix-stop : (bs : List ℕ) → sequence bs ≡ 0 → valid_prefix bs ≡ 0
+unfolding valid_prefix scan
 prefix-stop [] e = refl
 prefix-stop (b ∷ bs) e = rw e
 
@@ -43,12 +43,12 @@ scan-le (b ∷ bs) zero = go (sequence (b ∷ bs)) (scan-le bs)
     go zero ih = omega arith
     go (suc n) ih = omega (arith, ih n)
 
-pub prefix-le : (bs : List ℕ) → validPrefix bs ≤ length bs
-unfolding validPrefix
+pub prefix-le : (bs : List ℕ) → valid_prefix bs ≤ length bs
+unfolding valid_prefix
 prefix-le bs = scan-le bs 0
 
 -- A WELL-FORMED LIST IS PASSED WHOLE, WHATEVER FOLLOWS IT
-pub prefix-append : {xs : List ℕ} → WellFormed xs → (ys : List ℕ) → validPrefix (xs ++ ys) ≡ length xs + validPrefix ys
+pub prefix-append : {xs : List ℕ} → WellFormed xs → (ys : List ℕ) → valid_prefix (xs ++ ys) ≡ length xs + valid_prefix ys
 prefix-append empty ys = omega arith
 prefix-append (more {xs} {ys = zs} m f w) ys =
     let s = rw drop-append_seam at (prefix-step (xs ++ (zs ++ ys)) (length xs) (sequence-fits (zs ++ ys) m f) (fits-some m f)) in
@@ -75,38 +75,38 @@ prefix-whole-from (b ∷ bs) zero h = go (sequence (b ∷ bs)) refl (prefix-whol
         subst WellFormed (ap (λ (r : List ℕ). b ∷ r) joined) (more w.1 w.2 (ih n l))
 
 -- THE VALID PREFIX IS WELL-FORMED
-pub prefix-whole : (bs : List ℕ) → WellFormed (take (validPrefix bs) bs)
-unfolding validPrefix
+pub prefix-whole : (bs : List ℕ) → WellFormed (take (valid_prefix bs) bs)
+unfolding valid_prefix
 prefix-whole bs = prefix-whole-from bs 0 (omega arith)
 
 -- NO WELL-FORMED PREFIX IS LONGER
-pub prefix-longest : (bs : List ℕ) (n : ℕ) → n ≤ length bs → WellFormed (take n bs) → n ≤ validPrefix bs
+pub prefix-longest : (bs : List ℕ) (n : ℕ) → n ≤ length bs → WellFormed (take n bs) → n ≤ valid_prefix bs
 prefix-longest bs n h w =
     let e = rw take-append-drop at (prefix-append w (drop n bs)) in
     omega (arith, e, length-take-le n bs h)
 
 -- ---- the computation decides the relation
 
-wellFormed-sound : (bs : List ℕ) → wellFormed bs ≡ true → WellFormed bs
-unfolding wellFormed
-wellFormed-sound bs e =
-    let q = eqb-true (validPrefix bs) (length bs) e in
-    subst WellFormed (take_all (validPrefix bs) bs (omega arith)) (prefix-whole bs)
+well_formed-sound : (bs : List ℕ) → well_formed bs ≡ true → WellFormed bs
+unfolding well_formed
+well_formed-sound bs e =
+    let q = eqb-true (valid_prefix bs) (length bs) e in
+    subst WellFormed (take_all (valid_prefix bs) bs (omega arith)) (prefix-whole bs)
 
-wellFormed-complete : (bs : List ℕ) → WellFormed bs → wellFormed bs ≡ true
-unfolding wellFormed
-wellFormed-complete bs w =
+well_formed-complete : (bs : List ℕ) → WellFormed bs → well_formed bs ≡ true
+unfolding well_formed
+well_formed-complete bs w =
     let e = rw append-nil at (prefix-append w []) in
-    eq-eqb (validPrefix bs) (length bs) (omega (arith, e, prefix-le []))
+    eq-eqb (valid_prefix bs) (length bs) (omega (arith, e, prefix-le []))
 
 -- WELL-FORMED EXACTLY WHERE THE TEST SAYS SO
-pub wellFormed-decides : (bs : List ℕ) → (wellFormed bs ≡ true) ↔ WellFormed bs
-wellFormed-decides bs = (wellFormed-sound bs, wellFormed-complete bs)
+pub well_formed-decides : (bs : List ℕ) → (well_formed bs ≡ true) ↔ WellFormed bs
+well_formed-decides bs = (well_formed-sound bs, well_formed-complete bs)
 
 -- ONE WELL-FORMED LIST AFTER ANOTHER IS WELL-FORMED
-pub wellFormed-append : {xs ys : List ℕ} → WellFormed xs → WellFormed ys → WellFormed (xs ++ ys)
-wellFormed-append empty v = v
-wellFormed-append {ys} (more {xs = us} {ys = vs} m f w) v = rw append_assoc (more m f (wellFormed-append w v))
+pub well_formed-append : {xs ys : List ℕ} → WellFormed xs → WellFormed ys → WellFormed (xs ++ ys)
+well_formed-append empty v = v
+well_formed-append {ys} (more {xs = us} {ys = vs} m f w) v = rw append_assoc (more m f (well_formed-append w v))
 
 -- ---- ASCII stands alone
 
@@ -115,15 +115,15 @@ pub ascii-sequence : (b : ℕ) (bs : List ℕ) → b < 0x80 → sequence (b ∷ 
 unfolding table matches
 ascii-sequence b bs h = sequence-row (0x00 ‥ 0x7F) [] b bs (Memᴰ.head refl) (omega arith) (omega arith)
 
-pub ascii_more : {b : ℕ} {bs : List ℕ} → b < 0x80 → WellFormed bs → WellFormed (b ∷ bs)
+pub ascii-more : {b : ℕ} {bs : List ℕ} → b < 0x80 → WellFormed bs → WellFormed (b ∷ bs)
 unfolding table
-ascii_more {b} h w = more (Memᴰ.head refl) (next {r = 0x00 ‥ 0x7F} {b = b} (omega arith) (omega arith) done) w
+ascii-more {b} h w = more (Memᴰ.head refl) (next {r = 0x00 ‥ 0x7F} {b = b} (omega arith) (omega arith) done) w
 
-pub ascii-prefix : (b : ℕ) (bs : List ℕ) → b < 0x80 → validPrefix (b ∷ bs) ≡ suc (validPrefix bs)
+pub ascii-prefix : (b : ℕ) (bs : List ℕ) → b < 0x80 → valid_prefix (b ∷ bs) ≡ suc (valid_prefix bs)
 ascii-prefix b bs h = omega (arith, prefix-step (b ∷ bs) 1 (ascii-sequence b bs h) (λ e. omega (arith, e)))
 
 -- WHERE ALL BYTES ARE BELOW 80, THE VALID PREFIX IS THE WHOLE LIST
-pub ascii-whole : (bs : List ℕ) → ascii bs ≡ true → validPrefix bs ≡ length bs
+pub ascii-whole : (bs : List ℕ) → ascii bs ≡ true → valid_prefix bs ≡ length bs
 unfolding ascii
 ascii-whole [] e = omega (arith, prefix-le [])
 ascii-whole (b ∷ bs) e =
@@ -132,15 +132,15 @@ ascii-whole (b ∷ bs) e =
     ascii-prefix b bs h ∙ ap suc (ascii-whole bs p.1)
 
 -- bytes of 80 and above at the front stand wholly before a byte below 80
-cut_high : (us xs : List ℕ) {vs ys : List ℕ} {b : ℕ} → ((x : ℕ) → Memᴰ x us → 0x80 ≤ x) → b < 0x80 → us ++ vs ≡ xs ++ (b ∷ ys)
+cut-high : (us xs : List ℕ) {vs ys : List ℕ} {b : ℕ} → ((x : ℕ) → Memᴰ x us → 0x80 ≤ x) → b < 0x80 → us ++ vs ≡ xs ++ (b ∷ ys)
     → (zs : List ℕ) × (xs ≡ us ++ zs) × (vs ≡ zs ++ (b ∷ ys))
-cut_high [] xs h l e = (xs, refl, e)
-cut_high (u ∷ us) [] {b = b} h l e =
+cut-high [] xs h l e = (xs, refl, e)
+cut-high (u ∷ us) [] {b = b} h l e =
     let p : u ≡ b = cc in
     absurd (omega (arith, h u (Memᴰ.head refl)))
-cut_high (u ∷ us) (x ∷ xs) {vs} {ys} {b} h l e =
+cut-high (u ∷ us) (x ∷ xs) {vs} {ys} {b} h l e =
     let p : us ++ vs ≡ xs ++ (b ∷ ys) = cc in
-    let w = cut_high us xs (λ y m. h y (Memᴰ.tail m)) l p in
+    let w = cut-high us xs (λ y m. h y (Memᴰ.tail m)) l p in
     let q = w.1 in
     let d : u ≡ x = cc in
     (w.0, (cc), w.2)
@@ -162,7 +162,7 @@ ascii-cut-from (more {row} {xs = us} {ys = vs} m f w) xs ys b h e = go us xs f e
         let sides = ih xs q in
         (subst (λ (y : ℕ). WellFormed (y ∷ xs)) p (more m f sides.0), sides.1)
     go (u ∷ u' ∷ us) xs f e ih =
-        let c = cut_high (u ∷ u' ∷ us) xs (λ x k. long-high m f (omega arith) k) h e in
+        let c = cut-high (u ∷ u' ∷ us) xs (λ x k. long-high m f (omega arith) k) h e in
         let sides = ih c.0 c.2 in
         (subst WellFormed (sym c.1) (more m f sides.0), sides.1)
 

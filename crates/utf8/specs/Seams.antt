@@ -5,7 +5,7 @@ use Rattle.std.proofs.Common.{subst, ◌∙◌, add-one, arith, eqb-true, ltb-tr
 use mathlib.Core.List.{List, [], ◌∷◌, Memᴰ}
 use Rattle.std.proofs.lemmas.Bool.{lt-leb}
 use Rattle.utf8.specs.Utf8.{Range, ◌‥◌, table, Fits, Fits.done, Fits.next, WellFormed, WellFormed.empty, WellFormed.more}
-use Rattle.utf8.specs.Laws.{ascii_more}
+use Rattle.utf8.specs.Laws.{ascii-more}
 
 -- 1 where c continues a sequence
 unfoldable pub continues : ℕ → ℕ
@@ -253,7 +253,7 @@ smooth-shown (suc n) (c ∷ cs) k a b l h s = go (ltb c 0x80) (ltb c 0xE0) refl 
     go : (t u : Bool) → ltb c 0x80 ≡ t → ltb c 0xE0 ≡ u → Shown n → WellFormed (c ∷ cs)
     go true u p q ih =
         let f = ltb-true c 0x80 p in
-        ascii_more f (ih cs (omega arith) b c (omega arith) (omega arith) s.1)
+        ascii-more f (ih cs (omega arith) b c (omega arith) (omega arith) s.1)
     go false true p q ih =
         let w = begins a b c l h s.0 (ltb-false c 0x80 p) in
         two-first n ih b c cs (omega arith) w.0 (ltb-true c 0xE0 q) s.1

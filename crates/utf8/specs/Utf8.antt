@@ -37,13 +37,13 @@ matches (r ∷ row) [] = false
 matches (r ∷ row) (b ∷ bs) = within r b && matches row bs
 
 -- the length of the first of the rows that matches; 0 where none does
-unfoldable pub firstMatch : List (List Range) → List ℕ → ℕ
-firstMatch [] bs = 0
-firstMatch (row ∷ rows) bs = cond (matches row bs) (length row) (firstMatch rows bs)
+unfoldable pub first_match : List (List Range) → List ℕ → ℕ
+first_match [] bs = 0
+first_match (row ∷ rows) bs = cond (matches row bs) (length row) (first_match rows bs)
 
 -- the length of the sequence at the front; 0 where none stands there
 unfoldable pub sequence : List ℕ → ℕ
-sequence bs = firstMatch table bs
+sequence bs = first_match table bs
 
 -- from a sequence of n bytes, its first byte and what comes of passing the others; nothing where n is 0
 abbrev pub passing : ℕ → (ℕ → ℕ) → ℕ
@@ -57,16 +57,16 @@ scan (b ∷ bs) zero = passing (sequence (b ∷ bs)) (scan bs)
 scan (b ∷ bs) (suc k) = suc (scan bs k)
 
 -- the length of the longest prefix of whole sequences
-unfoldable pub validPrefix : List ℕ → ℕ
-validPrefix bs = scan bs 0
+unfoldable pub valid_prefix : List ℕ → ℕ
+valid_prefix bs = scan bs 0
 
 -- whether all bytes are below 80
 unfoldable pub ascii : List ℕ → Bool
 ascii [] = true
 ascii (b ∷ bs) = ltb b 0x80 && ascii bs
 
-unfoldable pub wellFormed : List ℕ → Bool
-wellFormed bs = eqb (validPrefix bs) (length bs)
+unfoldable pub well_formed : List ℕ → Bool
+well_formed bs = eqb (valid_prefix bs) (length bs)
 
 -- ---- the relation
 

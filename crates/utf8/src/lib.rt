@@ -1,7 +1,7 @@
 // Well-formed UTF-8 by Unicode's table 3-7: how far the bytes of a part of a slice are whole sequences.
 ghost use Rattle.std.specs.Prelude.{◌≡◌, true, cond, [], ◌∷◌, ◌+◌, ◌-◌, ◌≤◌, ◌<◌, eqb, length, take, drop};
 ghost use Rattle.std.proofs.Math.Seq.{slice};
-ghost use Rattle.utf8.specs.Utf8.{◌‥◌, matches, sequence, ascii, validPrefix, wellFormed};
+ghost use Rattle.utf8.specs.Utf8.{◌‥◌, matches, sequence, ascii, valid_prefix, well_formed};
 ghost use Rattle.utf8.specs.Seams.{continues, due, unlike, misfit, stray, fault, faults, Clean, CleanEnds};
 
 // Whether the byte at i stands before `to` and lies in lo..=hi.
@@ -210,7 +210,7 @@ fn clean_ends(s: &[u8], from: usize, to: usize) -> bool
 // Whether s[from..to] is seen to be well-formed by whole blocks: long enough, and without a sequence of four bytes.
 fn is_clean(s: &[u8], from: usize, to: usize) -> bool
     requires { (from ≤ to) × (to ≤ length s.now) }
-    ensures { result ≡ true → from + validPrefix (slice from to s.now) ≡ to }
+    ensures { result ≡ true → from + valid_prefix (slice from to s.now) ≡ to }
 {
     if 18 <= to - from {
         if clean_ends(s, from, to) {
@@ -226,7 +226,7 @@ fn is_clean(s: &[u8], from: usize, to: usize) -> bool
 // The same as `valid_up_to`, sequence by sequence.
 fn by_sequences(s: &[u8], from: usize, to: usize) -> usize
     requires { (from ≤ to) × (to ≤ length s.now) }
-    ensures { result ≡ from + validPrefix (slice from to s.now) }
+    ensures { result ≡ from + valid_prefix (slice from to s.now) }
 {
     let mut i = from;
     while i < to {
@@ -242,7 +242,7 @@ fn by_sequences(s: &[u8], from: usize, to: usize) -> usize
 // Where the first byte of s[from..to] stands that no whole valid prefix holds; `to` where all of it is well-formed.
 pub fn valid_up_to(s: &[u8], from: usize, to: usize) -> usize
     requires { (from ≤ to) × (to ≤ length s.now) }
-    ensures { result ≡ from + validPrefix (take (to - from) (drop from s.now)) }
+    ensures { result ≡ from + valid_prefix (take (to - from) (drop from s.now)) }
 {
     if is_ascii(s, from, to) {
         to
@@ -256,7 +256,7 @@ pub fn valid_up_to(s: &[u8], from: usize, to: usize) -> usize
 // Whether s[from..to] is well-formed.
 pub fn is_well_formed(s: &[u8], from: usize, to: usize) -> bool
     requires { (from ≤ to) × (to ≤ length s.now) }
-    ensures { result ≡ wellFormed (take (to - from) (drop from s.now)) }
+    ensures { result ≡ well_formed (take (to - from) (drop from s.now)) }
 {
     valid_up_to(s, from, to) == to
 }

@@ -9,10 +9,10 @@ use Rattle.std.proofs.Math.Option.{some, none}
 use native.Mathlib.Omega.{arith}
 use Rattle.std.proofs.Math.Dec.{eqb}
 use Rattle.sets.specs.Sets.{bit, at, member, insert, members, first}
-use Rattle.sets.specs.Laws.{at-member, member-at, member-insert, members_only, members-all, count-tally}
-use Rattle.view.specs.View.{View, insertAll, withParents, grow, level, reached, reach, steps, far, distance, distanceOr, ancestor, ancestors}
+use Rattle.sets.specs.Laws.{at-member, member-at, member-insert, members-only, members-all, count-tally}
+use Rattle.view.specs.View.{View, insert_all, with_parents, grow, level, reached, reach, steps, far, distance, distance_or, ancestor, ancestors}
 use Rattle.view.specs.Grow.{Formed, insert-formed, count-above}
-use Rattle.view.specs.Reach.{Good, Path, here, there, path_join, reach-path, reach-refl, reach-below, reach-trans, reach-alone, reached-formed, steps-below, steps-self}
+use Rattle.view.specs.Reach.{Good, Path, here, there, path-join, reach-path, reach-refl, reach-below, reach-trans, reach-alone, reached-formed, steps-below, steps-self}
 
 module _ (v : View) where
   pub ancestor-self : (x : ℕ) → ancestor v x x ≡ true
@@ -80,9 +80,9 @@ module _ (v : View) (g : Good v) where
 
   -- ---- where no class reaches itself by a step and Object has no parents, no two are each an ancestor of the other
 
-  no_way_back : ((c n : ℕ) → Path v c c (suc n) → ⊥) → {x y m n : ℕ} → Path v x y m → Path v y x n → x ≡ y
-  no_way_back free here b = refl
-  no_way_back free {x} {n = n} (there {n = m} a q) b = absurd (free x (m + n) (rw (suc-add m n) at (path_join v (there a q) b)))
+  no-way-back : ((c n : ℕ) → Path v c c (suc n) → ⊥) → {x y m n : ℕ} → Path v x y m → Path v y x n → x ≡ y
+  no-way-back free here b = refl
+  no-way-back free {x} {n = n} (there {n = m} a q) b = absurd (free x (m + n) (rw (suc-add m n) at (path-join v (there a q) b)))
 
   pub ancestor-antisymmetric : ((c n : ℕ) → Path v c c (suc n) → ⊥) → v.parents v.object ≡ []
       → (x y : ℕ) → x < v.names → y < v.names → ancestor v x y ≡ true → ancestor v y x ≡ true → x ≡ y
@@ -95,7 +95,7 @@ module _ (v : View) (g : Good v) where
       go (inl e) (inl f) = f ∙ sym e
       go (inl e) (inr m) = up y x e m
       go (inr k) (inl f) = sym (up x y f k)
-      go (inr k) (inr m) = no_way_back free (reach-path v g x hx y k).2 (reach-path v g y hy x m).2
+      go (inr k) (inr m) = no-way-back free (reach-path v g x hx y k).2 (reach-path v g y hy x m).2
 
   -- ---- the set
   module _ (x : ℕ) (h : x < v.names) where
@@ -116,7 +116,7 @@ module _ (v : View) (g : Good v) where
     -- so the list of its members is the ancestors, ascending and each once, and its length, the count of the set, is their number
     pub ancestors-list : (y : ℕ) → Memᴰ y (members (at (ancestors v x)) 0 1024) ↔ (ancestor v x y ≡ true)
     ancestors-list y = (
-      λ m. sym (ancestors-member y) ∙ members_only (ancestors v x) 1024 y m,
+      λ m. sym (ancestors-member y) ∙ members-only (ancestors v x) 1024 y m,
       λ a. members-all (ancestors v x) 1024 y (let b = ancestor-below x y h a in let f = g.few in omega arith) (ancestors-member y ∙ a),
     )
 
@@ -134,8 +134,8 @@ module _ (v : View) (g : Good v) where
     unfolding distance
     distance-reached y m = ap (λ (t : Bool). cond t (some (steps v x y)) (cond (eqb y v.object) (some far) none)) m
 
-    pub distance_self : distance v x x ≡ some 0
-    distance_self = distance-reached x (reach-refl v g x h) ∙ ap some (steps-self v g x h)
+    pub distance-self : distance v x x ≡ some 0
+    distance-self = distance-reached x (reach-refl v g x h) ∙ ap some (steps-self v g x h)
 
     -- Object's where it is not reached
     pub distance-object : reach v x v.object ≡ false → distance v x v.object ≡ some far
@@ -145,9 +145,9 @@ module _ (v : View) (g : Good v) where
         ∙ ap (λ (t : Bool). cond t (some far) none) (eq-eqb v.object v.object refl)
 
     -- there is one exactly of an ancestor
-    pub distance_none : (y : ℕ) → (distance v x y ≡ none) ↔ (ancestor v x y ≡ false)
+    pub distance-none : (y : ℕ) → (distance v x y ≡ none) ↔ (ancestor v x y ≡ false)
     unfolding distance
-    distance_none y = (λ e. ancestor-or x y h ∙ some-there (reach v x y) (eqb y v.object) e, λ a. back (reach v x y) (eqb y v.object) (sym (ancestor-or x y h) ∙ a))
+    distance-none y = (λ e. ancestor-or x y h ∙ some-there (reach v x y) (eqb y v.object) e, λ a. back (reach v x y) (eqb y v.object) (sym (ancestor-or x y h) ∙ a))
       where
         some-there : (r o : Bool) → cond r (some (steps v x y)) (cond o (some far) none) ≡ none → (o || r) ≡ false
         some-there true o e = absurd (let z : ◌≡◌ {A = ℕ} 0 1 = cc in omega arith)
@@ -161,11 +161,11 @@ module _ (v : View) (g : Good v) where
         back false false e = refl
 
     -- none is above that of an unreached Object: a sum of two needs 63 digits
-    pub distance-bound : (y : ℕ) → distanceOr (distance v x y) ≤ far
+    pub distance-bound : (y : ℕ) → distance_or (distance v x y) ≤ far
     unfolding distance
     distance-bound y = go (reach v x y) refl (eqb y v.object)
       where
-        go : (r : Bool) → reach v x y ≡ r → (o : Bool) → distanceOr (cond r (some (steps v x y)) (cond o (some far) none)) ≤ far
+        go : (r : Bool) → reach v x y ≡ r → (o : Bool) → distance_or (cond r (some (steps v x y)) (cond o (some far) none)) ≤ far
         go true e o = let l = steps-below v g x h y e in let f = g.few in omega arith
         go false e true = omega arith
         go false e false = omega arith
@@ -178,9 +178,9 @@ upward (suc zero) = []
 upward (suc (suc zero)) = 1 ∷ []
 upward (suc (suc (suc c))) = []
 
-abbrev pub overObject : View
-overObject = record { names = 3; object = 2; recorded = λ c. ltb c 3; parents = upward; declared = λ c. false; interface = λ c. false; final = λ c. false }
+abbrev pub over_object : View
+over_object = record { names = 3; object = 2; recorded = λ c. ltb c 3; parents = upward; declared = λ c. false; interface = λ c. false; final = λ c. false }
 
-pub not-transitive : (ancestor overObject 0 2 ≡ true) × (ancestor overObject 2 1 ≡ true) × (ancestor overObject 0 1 ≡ false)
-unfolding bit at member insert members first insertAll withParents grow level reached reach ancestor
+pub not-transitive : (ancestor over_object 0 2 ≡ true) × (ancestor over_object 2 1 ≡ true) × (ancestor over_object 0 1 ≡ false)
+unfolding bit at member insert members first insert_all with_parents grow level reached reach ancestor
 not-transitive = (refl, refl, refl)

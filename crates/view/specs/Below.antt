@@ -13,8 +13,8 @@ use native.Mathlib.Omega.{arith}
 use Rattle.std.proofs.Math.Dec.{eqb}
 use Rattle.sets.specs.Sets.{at, member, members}
 use Rattle.sets.specs.Bits.{tally-le, tally-eq}
-use Rattle.sets.specs.Laws.{at-member, at_none, count-tally}
-use Rattle.view.specs.View.{View, reached, reach, ancestor, below, anyBelow, lowest}
+use Rattle.sets.specs.Laws.{at-member, at-none, count-tally}
+use Rattle.view.specs.View.{View, reached, reach, ancestor, below, any_below, lowest}
 use Rattle.view.specs.Grow.{count-above}
 use Rattle.view.specs.Reach.{Good, reach-refl, reached-subset}
 use Rattle.view.specs.Ancestors.{ancestor-self, ancestor-object, ancestor-or, ancestor-reach, ancestor-trans}
@@ -35,7 +35,7 @@ size-le s t h =
 size-lt : (s t : List ℕ) → ((j : ℕ) → at s j ≤ at t j) → (i : ℕ) → i < 1024 → member s i ≡ false → member t i ≡ true → size s < size t
 size-lt s t h i l out in' =
     ⊎_elim
-    (λ e. absurd (let a = tally-eq (at s) (at t) 1024 h (sym (count-tally s 1024) ∙ e ∙ count-tally t 1024) i l in let b = at_none s i out in let c = at-member t i in' in omega arith))
+    (λ e. absurd (let a = tally-eq (at s) (at t) 1024 h (sym (count-tally s 1024) ∙ e ∙ count-tally t 1024) i l in let b = at-none s i out in let c = at-member t i in' in omega arith))
     (λ k. k)
     (eq-or-lt_of_le (size-le s t h))
 
@@ -70,8 +70,8 @@ module _ (v : View) where
   pub below-object : (d : ℕ) → below v d v.object ≡ not (ancestor v v.object d)
   below-object d = below-tests d v.object ∙ ap (λ (t : Bool). t && not (ancestor v v.object d)) (ancestor-object v d)
 
-  pub below_up : (d c : ℕ) → below v d c ≡ true → (ancestor v d c ≡ true) × (ancestor v c d ≡ false)
-  below_up d c b = go (ancestor v d c) (ancestor v c d) (sym (below-tests d c) ∙ b)
+  pub below-up : (d c : ℕ) → below v d c ≡ true → (ancestor v d c ≡ true) × (ancestor v c d ≡ false)
+  below-up d c b = go (ancestor v d c) (ancestor v c d) (sym (below-tests d c) ∙ b)
     where
       go : (s t : Bool) → (s && not t) ≡ true → (s ≡ true) × (t ≡ false)
       go true true e = absurd (false≢true e)
@@ -129,7 +129,7 @@ module _ (v : View) (g : Good v) where
       go (yes e) o = absurd (not-object d c b e)
       go (no n) (yes e) = let z = ap (rank v) e ∙ rank-object v in let p = rank-other v d n in let q = reached-size d h in omega arith
       go (no n) (no m) =
-          let a = below_up v d c b in
+          let a = below-up v d c b in
           let r = ancestor-reach v g d c h m a.0 in
           let s = sym (ancestor-or v g c d k ∙ ap (λ (t : Bool). t || reach v c d) (ne_eqb d v.object n)) ∙ a.1 in
           let l = smaller c d h r s in
@@ -140,54 +140,54 @@ module _ (v : View) (g : Good v) where
   -- and it is transitive
   pub below-trans : (e d c : ℕ) → e < v.names → c < v.names → below v e d ≡ true → below v d c ≡ true → below v e c ≡ true
   below-trans e d c he hc p q =
-      let up : ancestor v e c ≡ true = ancestor-trans v g e d c he (not-object d c q) (below_up v e d p).0 (below_up v d c q).0 in
+      let up : ancestor v e c ≡ true = ancestor-trans v g e d c he (not-object d c q) (below-up v e d p).0 (below-up v d c q).0 in
       below-tests v e c ∙ ap₂ (λ (s t : Bool). s && not t) up (go (ancestor v c e) refl)
     where
       go : (t : Bool) → ancestor v c e ≡ t → t ≡ false
-      go true a = absurd (true≢false (sym (ancestor-trans v g c e d hc (not-object e d p) a (below_up v e d p).0) ∙ (below_up v d c q).1))
+      go true a = absurd (true≢false (sym (ancestor-trans v g c e d hc (not-object e d p) a (below-up v e d p).0) ∙ (below-up v d c q).1))
       go false a = refl
 
 module _ (v : View) where
   -- ---- those of a list with none of `all` strictly below
 
-  pub anyBelow-false : (ds : List ℕ) (c : ℕ) → anyBelow v ds c ≡ false → (d : ℕ) → Memᴰ d ds → below v d c ≡ false
-  unfolding anyBelow
-  anyBelow-false [] c e d m = absurd (Memᴰ.not-nil m)
-  anyBelow-false (b ∷ ds) c e d m = go (below v b c) refl e (Memᴰ.cases_cons m) (λ q r. anyBelow-false ds c q d r)
+  pub any_below-false : (ds : List ℕ) (c : ℕ) → any_below v ds c ≡ false → (d : ℕ) → Memᴰ d ds → below v d c ≡ false
+  unfolding any_below
+  any_below-false [] c e d m = absurd (Memᴰ.not-nil m)
+  any_below-false (b ∷ ds) c e d m = go (below v b c) refl e (Memᴰ.cases_cons m) (λ q r. any_below-false ds c q d r)
     where
-      go : (t : Bool) → below v b c ≡ t → (t || anyBelow v ds c) ≡ false → (d ≡ b) ⊎ Memᴰ d ds → (anyBelow v ds c ≡ false → Memᴰ d ds → below v d c ≡ false) → below v d c ≡ false
+      go : (t : Bool) → below v b c ≡ t → (t || any_below v ds c) ≡ false → (d ≡ b) ⊎ Memᴰ d ds → (any_below v ds c ≡ false → Memᴰ d ds → below v d c ≡ false) → below v d c ≡ false
       go true p q w ih = absurd (true≢false q)
       go false p q (inl k) ih = ap (λ (z : ℕ). below v z c) k ∙ p
       go false p q (inr r) ih = ih q r
 
-  pub anyBelow-none : (ds : List ℕ) (c : ℕ) → ((d : ℕ) → Memᴰ d ds → below v d c ≡ false) → anyBelow v ds c ≡ false
-  unfolding anyBelow
-  anyBelow-none [] c f = refl
-  anyBelow-none (b ∷ ds) c f =
-      ap (λ (t : Bool). t || anyBelow v ds c) (f b (Memᴰ.head refl)) ∙ anyBelow-none ds c (λ d m. f d (Memᴰ.tail m))
+  pub any_below-none : (ds : List ℕ) (c : ℕ) → ((d : ℕ) → Memᴰ d ds → below v d c ≡ false) → any_below v ds c ≡ false
+  unfolding any_below
+  any_below-none [] c f = refl
+  any_below-none (b ∷ ds) c f =
+      ap (λ (t : Bool). t || any_below v ds c) (f b (Memᴰ.head refl)) ∙ any_below-none ds c (λ d m. f d (Memᴰ.tail m))
 
   module _ (all : List ℕ) where
-    pub lowest-has : (cs : List ℕ) (c : ℕ) → Memᴰ c cs → anyBelow v all c ≡ false → Memᴰ c (lowest v all cs)
+    pub lowest-has : (cs : List ℕ) (c : ℕ) → Memᴰ c cs → any_below v all c ≡ false → Memᴰ c (lowest v all cs)
     unfolding lowest
     lowest-has [] c m e = absurd (Memᴰ.not-nil m)
-    lowest-has (d ∷ cs) c m e = go (anyBelow v all d) refl (Memᴰ.cases_cons m) (λ r. lowest-has cs c r e)
+    lowest-has (d ∷ cs) c m e = go (any_below v all d) refl (Memᴰ.cases_cons m) (λ r. lowest-has cs c r e)
       where
-        go : (t : Bool) → anyBelow v all d ≡ t → (c ≡ d) ⊎ Memᴰ c cs → (Memᴰ c cs → Memᴰ c (lowest v all cs)) → Memᴰ c (cond t (lowest v all cs) (d ∷ lowest v all cs))
-        go true p (inl q) ih = absurd (true≢false (sym p ∙ sym (ap (anyBelow v all) q) ∙ e))
+        go : (t : Bool) → any_below v all d ≡ t → (c ≡ d) ⊎ Memᴰ c cs → (Memᴰ c cs → Memᴰ c (lowest v all cs)) → Memᴰ c (cond t (lowest v all cs) (d ∷ lowest v all cs))
+        go true p (inl q) ih = absurd (true≢false (sym p ∙ sym (ap (any_below v all) q) ∙ e))
         go true p (inr r) ih = ih r
         go false p (inl q) ih = Memᴰ.head q
         go false p (inr r) ih = Memᴰ.tail (ih r)
 
-    pub lowest-only : (cs : List ℕ) (c : ℕ) → Memᴰ c (lowest v all cs) → Memᴰ c cs × (anyBelow v all c ≡ false)
+    pub lowest-only : (cs : List ℕ) (c : ℕ) → Memᴰ c (lowest v all cs) → Memᴰ c cs × (any_below v all c ≡ false)
     unfolding lowest
     lowest-only [] c m = absurd (Memᴰ.not-nil m)
-    lowest-only (d ∷ cs) c m = go (anyBelow v all d) refl m (lowest-only cs c)
+    lowest-only (d ∷ cs) c m = go (any_below v all d) refl m (lowest-only cs c)
       where
-        go : (t : Bool) → anyBelow v all d ≡ t → Memᴰ c (cond t (lowest v all cs) (d ∷ lowest v all cs))
-            → (Memᴰ c (lowest v all cs) → Memᴰ c cs × (anyBelow v all c ≡ false)) → Memᴰ c (d ∷ cs) × (anyBelow v all c ≡ false)
+        go : (t : Bool) → any_below v all d ≡ t → Memᴰ c (cond t (lowest v all cs) (d ∷ lowest v all cs))
+            → (Memᴰ c (lowest v all cs) → Memᴰ c cs × (any_below v all c ≡ false)) → Memᴰ c (d ∷ cs) × (any_below v all c ≡ false)
         go true p k ih = let w = ih k in (Memᴰ.tail w.0, w.1)
         go false p k ih =
-            ⊎_elim (λ e. (Memᴰ.head e, ap (anyBelow v all) e ∙ p)) (λ r. let w = ih r in (Memᴰ.tail w.0, w.1)) (Memᴰ.cases_cons k)
+            ⊎_elim (λ e. (Memᴰ.head e, ap (any_below v all) e ∙ p)) (λ r. let w = ih r in (Memᴰ.tail w.0, w.1)) (Memᴰ.cases_cons k)
 
   -- one of a list has the greatest rank
   greatest : (c : ℕ) (cs : List ℕ) → (m : ℕ) × Memᴰ m (c ∷ cs) × ((d : ℕ) → Memᴰ d (c ∷ cs) → rank v d ≤ rank v m)
@@ -215,11 +215,11 @@ module _ (v : View) (g : Good v) where
   -- OF A LIST that is not empty some have none strictly below
   pub some-lowest : (cs : List ℕ) (c : ℕ) → Memᴰ c cs → ((d : ℕ) → Memᴰ d cs → d < v.names) → (m : ℕ) × Memᴰ m (lowest v cs cs)
   some-lowest [] c k inside = absurd (Memᴰ.not-nil k)
-  some-lowest (b ∷ cs) c k inside = (top, lowest-has v (b ∷ cs) (b ∷ cs) top (greatest v b cs).1 (anyBelow-none v (b ∷ cs) top (λ d m. none_below d m (below v d top) refl)))
+  some-lowest (b ∷ cs) c k inside = (top, lowest-has v (b ∷ cs) (b ∷ cs) top (greatest v b cs).1 (any_below-none v (b ∷ cs) top (λ d m. none-below d m (below v d top) refl)))
     where
       top : ℕ
       top = (greatest v b cs).0
 
-      none_below : (d : ℕ) → Memᴰ d (b ∷ cs) → (t : Bool) → below v d top ≡ t → t ≡ false
-      none_below d m true e = absurd (let l = below-rank v g d top (inside d m) (inside top (greatest v b cs).1) e in let r = (greatest v b cs).2 d m in omega arith)
-      none_below d m false e = refl
+      none-below : (d : ℕ) → Memᴰ d (b ∷ cs) → (t : Bool) → below v d top ≡ t → t ≡ false
+      none-below d m true e = absurd (let l = below-rank v g d top (inside d m) (inside top (greatest v b cs).1) e in let r = (greatest v b cs).2 d m in omega arith)
+      none-below d m false e = refl

@@ -2,13 +2,13 @@
 -- declared, as a rule, as a table, and through a view.
 use Rattle.std.specs.Prelude.{◌≡◌, refl, Bool, true, false, cond, not, ◌&&◌, ◌||◌, [], ℕ, eqb}
 use Rattle.sets.specs.Sets.{bit, at, member, insert, members}
-use Rattle.view.specs.View.{View, insertAll, withParents, grow, level, reached, reach, ancestor, castByFacts, cast}
+use Rattle.view.specs.View.{View, insert_all, with_parents, grow, level, reached, reach, ancestor, cast_by_facts, cast}
 
 -- two interfaces always, an interface and a class exactly if the class is not final, two classes never
-pub facts-rule : (sourceInterface sourceFinal targetInterface targetFinal : Bool)
-    → castByFacts sourceInterface sourceFinal targetInterface targetFinal
-    ≡ ((sourceInterface && targetInterface) || ((sourceInterface && not targetFinal) || (targetInterface && not sourceFinal)))
-unfolding castByFacts
+pub facts-rule : (source_interface source_final target_interface target_final : Bool)
+    → cast_by_facts source_interface source_final target_interface target_final
+    ≡ ((source_interface && target_interface) || ((source_interface && not target_final) || (target_interface && not source_final)))
+unfolding cast_by_facts
 facts-rule true sf true tf = refl
 facts-rule true sf false true = refl
 facts-rule true sf false false = refl
@@ -19,26 +19,26 @@ facts-rule false sf false tf = refl
 
 pub facts-table :
     -- (true, true) => true
-    (castByFacts true false true false ≡ true)
-    × (castByFacts true false true true ≡ true)
-    × (castByFacts true true true false ≡ true)
-    × (castByFacts true true true true ≡ true)
+    (cast_by_facts true false true false ≡ true)
+    × (cast_by_facts true false true true ≡ true)
+    × (cast_by_facts true true true false ≡ true)
+    × (cast_by_facts true true true true ≡ true)
     -- (true, false) => !target.is_final
-    × (castByFacts true false false false ≡ true)
-    × (castByFacts true false false true ≡ false)
-    × (castByFacts true true false false ≡ true)
-    × (castByFacts true true false true ≡ false)
+    × (cast_by_facts true false false false ≡ true)
+    × (cast_by_facts true false false true ≡ false)
+    × (cast_by_facts true true false false ≡ true)
+    × (cast_by_facts true true false true ≡ false)
     -- (false, true) => !source.is_final
-    × (castByFacts false false true false ≡ true)
-    × (castByFacts false false true true ≡ true)
-    × (castByFacts false true true false ≡ false)
-    × (castByFacts false true true true ≡ false)
+    × (cast_by_facts false false true false ≡ true)
+    × (cast_by_facts false false true true ≡ true)
+    × (cast_by_facts false true true false ≡ false)
+    × (cast_by_facts false true true true ≡ false)
     -- (false, false) => false
-    × (castByFacts false false false false ≡ false)
-    × (castByFacts false false false true ≡ false)
-    × (castByFacts false true false false ≡ false)
-    × (castByFacts false true false true ≡ false)
-unfolding castByFacts
+    × (cast_by_facts false false false false ≡ false)
+    × (cast_by_facts false false false true ≡ false)
+    × (cast_by_facts false true false false ≡ false)
+    × (cast_by_facts false true false true ≡ false)
+unfolding cast_by_facts
 facts-table = (refl, refl, refl, refl, refl, refl, refl, refl, refl, refl, refl, refl, refl, refl, refl, refl)
 
 -- ---- through a view: which fact is which
@@ -52,14 +52,14 @@ module _ (v : View) (s t : ℕ) (apart : (ancestor v s t || ancestor v t s) ≡ 
 
 -- the source 0 and the target 1, both without parents, as they are declared, and Object 2; the target need not be declared
 abbrev two : Bool → Bool → Bool → Bool → Bool → View
-two sourceInterface sourceFinal targetDeclared targetInterface targetFinal = record {
+two source_interface source_final target_declared target_interface target_final = record {
   names = 3;
   object = 2;
   recorded = λ c. true;
   parents = λ c. [];
-  declared = λ c. eqb c 0 || targetDeclared;
-  interface = λ c. cond (eqb c 0) sourceInterface targetInterface;
-  final = λ c. cond (eqb c 0) sourceFinal targetFinal;
+  declared = λ c. eqb c 0 || target_declared;
+  interface = λ c. cond (eqb c 0) source_interface target_interface;
+  final = λ c. cond (eqb c 0) source_final target_final;
 }
 
 pub cast-examples :
@@ -72,5 +72,5 @@ pub cast-examples :
     -- two interfaces; the same where the target is not declared
     × (cast (two true true true true true) 0 1 ≡ true)
     × (cast (two true true false true true) 0 1 ≡ false)
-unfolding bit at member insert members insertAll withParents grow level reached reach ancestor castByFacts cast
+unfolding bit at member insert members insert_all with_parents grow level reached reach ancestor cast_by_facts cast
 cast-examples = (refl, refl, refl, refl, refl, refl)

@@ -8,23 +8,23 @@ use Rattle.std.proofs.Math.Logic.{inl, inr}
 use Rattle.std.proofs.Math.Option.{some, none}
 use Rattle.std.proofs.Math.Dec.{eqb}
 use borrow.Author.Tests.{eqb-true}
-use Rattle.view.specs.View.{View, reach, steps, far, distance, number_of, ancestor, relationNumber}
+use Rattle.view.specs.View.{View, reach, steps, far, distance, number_of, ancestor, relation_number}
 use Rattle.view.specs.declared.Relation.TheVariants.{Yes, No, Unknown}
 use Rattle.view.specs.Reach.{Good, steps-below}
-use Rattle.view.specs.Ancestors.{ancestor-object, reach-ancestor, distance_none}
+use Rattle.view.specs.Ancestors.{ancestor-object, reach-ancestor, distance-none}
 
 -- usize::MAX / 4, of a usize of 64 bits
 pub far-number : far ≡ (2 ^ 64 - 1) / 4
 far-number = refl
 
 -- all ones
-pub none_number : number_of none ≡ 2 ^ 64 - 1
+pub none-number : number_of none ≡ 2 ^ 64 - 1
 unfolding number_of
-none_number = refl
+none-number = refl
 
 -- the answers of a relation, as the header numbers them
-pub relation-numbers : (relationNumber Yes ≡ 0) × (relationNumber No ≡ 1) × (relationNumber Unknown ≡ 2)
-unfolding relationNumber
+pub relation-numbers : (relation_number Yes ≡ 0) × (relation_number No ≡ 1) × (relation_number Unknown ≡ 2)
+unfolding relation_number
 relation-numbers = (refl, refl, refl)
 
 -- ---- what the number of a distance tells, three ways that exclude each other
@@ -43,7 +43,7 @@ module _ (v : View) (g : Good v) (x : ℕ) (h : x < v.names) (y : ℕ) where
       go : (r : Bool) → reach v x y ≡ r → (o : Bool) → eqb y v.object ≡ o → Kinds (number_of (cond r (some (steps v x y)) (cond o (some far) none)))
       go true e o q = inl (e, let l = steps-below v g x h y e in let f = g.few in omega arith)
       go false e true q = inr (inl (e, eqb-true y v.object q, refl))
-      go false e false q = inr (inr ((distance_none v g x h y).0 (rw (e, q)), e, refl))
+      go false e false q = inr (inr ((distance-none v g x h y).0 (rw (e, q)), e, refl))
 
   -- BELOW 1,024 exactly where it is reached
   pub number-real : (number_of (distance v x y) < 1024) ↔ (reach v x y ≡ true)

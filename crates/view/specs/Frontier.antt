@@ -7,10 +7,10 @@ use Prim.Native.Nat.{ℕ, zero, suc, ◌+◌, ◌≤◌, ◌<◌}
 use Rattle.std.proofs.Math.Decide.{dec_lt, ℕ_discrete}
 use Rattle.order.specs.Truth.{implied-both}
 use Rattle.sets.specs.Sets.{at, member, remove, subtract, keep, members, first}
-use Rattle.sets.specs.Bits.{first_below, first_found}
-use Rattle.sets.specs.Laws.{at_lt, at-past, at-ext, member-ext, at-member, at_none, member-at, at-remove-same, at-remove-other, members_only, members-all, at-subtract, length-subtract, lowest-none}
-use Rattle.view.specs.View.{View, withParents, grow}
-use Rattle.view.specs.Grow.{Formed, member-le, withParents-formed, withParents-keeps, withParents-has, withParents-only, grow-formed, grow-keeps, grow-has, grow-only}
+use Rattle.sets.specs.Bits.{first-below, first-found}
+use Rattle.sets.specs.Laws.{at-lt, at-past, at-ext, member-ext, at-member, at-none, member-at, at-remove-same, at-remove-other, members-only, members-all, at-subtract, length-subtract, lowest-none}
+use Rattle.view.specs.View.{View, with_parents, grow}
+use Rattle.view.specs.Grow.{Formed, member-le, with_parents-formed, with_parents-keeps, with_parents-has, with_parents-only, grow-formed, grow-keeps, grow-has, grow-only}
 
 -- ---- members one by one
 
@@ -40,16 +40,16 @@ module _ (f g : ℕ → ℕ) (c : ℕ) (least : (k : ℕ) → k < c → f k ≡ 
 -- the members are the least, and those of the set without it
 pub members-pop : (s : List ℕ) (c : ℕ) → c ≡ first (at s) 1024 → c < 1024 → members (at s) 0 1024 ≡ c ∷ members (at (remove s c)) 0 1024
 members-pop s c e h =
-    pop (at s) (at (remove s c)) c (λ k l. first_below (at s) 1024 k (omega arith))
-    (λ z. first_found (at s) 1024 (omega arith) (ap (at s) (sym e) ∙ z)) (at-remove-same s c) (λ k n. at-remove-other s c k n) 0 1024 (omega arith) (omega arith)
+    pop (at s) (at (remove s c)) c (λ k l. first-below (at s) 1024 k (omega arith))
+    (λ z. first-found (at s) 1024 (omega arith) (ap (at s) (sym e) ∙ z)) (at-remove-same s c) (λ k n. at-remove-other s c k n) 0 1024 (omega arith) (omega arith)
 
-none_from : (f : ℕ → ℕ) (i n : ℕ) → ((k : ℕ) → k < i + n → f k ≡ 0) → members f i n ≡ []
+none-from : (f : ℕ → ℕ) (i n : ℕ) → ((k : ℕ) → k < i + n → f k ≡ 0) → members f i n ≡ []
 unfolding members
-none_from f i zero h = refl
-none_from f i (suc n) h = ap (λ (d : ℕ). keep d i (members f (suc i) n)) (h i (omega arith)) ∙ none_from f (suc i) n (λ k l. h k (omega arith))
+none-from f i zero h = refl
+none-from f i (suc n) h = ap (λ (d : ℕ). keep d i (members f (suc i) n)) (h i (omega arith)) ∙ none-from f (suc i) n (λ k l. h k (omega arith))
 
 pub members-none : (s : List ℕ) → first (at s) 1024 ≡ 1024 → members (at s) 0 1024 ≡ []
-members-none s e = none_from (at s) 0 1024 (λ k h. first_below (at s) 1024 k (omega arith))
+members-none s e = none-from (at s) 0 1024 (λ k h. first-below (at s) 1024 k (omega arith))
 
 -- ---- what is new
 
@@ -67,44 +67,44 @@ module _ (v : View) where
   Expanded s front = (c p : ℕ) → member s c ≡ true → member front c ≡ false → Memᴰ p (v.parents c) → p < 1024 → member s p ≡ true
 
   -- IT IS ENOUGH TO EXPAND WHAT IS NEW: the parents of the front make a whole level
-  pub frontier : (s front : List ℕ) → Formed s → ((j : ℕ) → at front j ≤ at s j) → Expanded s front → withParents v s (members (at front) 0 1024) ≡ grow v s
+  pub frontier : (s front : List ℕ) → Formed s → ((j : ℕ) → at front j ≤ at s j) → Expanded s front → with_parents v s (members (at front) 0 1024) ≡ grow v s
   frontier s front f part e =
-      member-ext (withParents v s new) (grow v s) (w.0 ∙ sym g.0) w.1 g.1
-      (λ j h. implied-both (member (withParents v s new) j) (member (grow v s) j) (up j (let l = w.0 in omega arith)) (down j (let l = w.0 in omega arith)))
+      member-ext (with_parents v s new) (grow v s) (w.0 ∙ sym g.0) w.1 g.1
+      (λ j h. implied-both (member (with_parents v s new) j) (member (grow v s) j) (up j (let l = w.0 in omega arith)) (down j (let l = w.0 in omega arith)))
     where
       new : List ℕ
       new = members (at front) 0 1024
 
-      w : Formed (withParents v s new)
-      w = withParents-formed v s new f
+      w : Formed (with_parents v s new)
+      w = with_parents-formed v s new f
 
       g : Formed (grow v s)
       g = grow-formed v s f
 
-      up : (j : ℕ) → j < 1024 → member (withParents v s new) j ≡ true → member (grow v s) j ≡ true
+      up : (j : ℕ) → j < 1024 → member (with_parents v s new) j ≡ true → member (grow v s) j ≡ true
       up j h m =
           ⊎_elim (member-le s (grow v s) j (grow-keeps v s j))
           (λ q.
-          let c = member-le front s q.0 (part q.0) (members_only front 1024 q.0 q.1) in
+          let c = member-le front s q.0 (part q.0) (members-only front 1024 q.0 q.1) in
           grow-has v s q.0 j f (member-lt s q.0 f.0 c) h c q.2)
-          (withParents-only v s new j m)
+          (with_parents-only v s new j m)
 
-      old : (c j : ℕ) → j < 1024 → member s c ≡ true → Memᴰ j (v.parents c) → (t : Bool) → member front c ≡ t → member (withParents v s new) j ≡ true
-      old c j h m p true q = withParents-has v s new c j f h (members-all front 1024 c (member-lt s c f.0 m) q) p
-      old c j h m p false q = member-le s (withParents v s new) j (withParents-keeps v s new j) (e c j m q p h)
+      old : (c j : ℕ) → j < 1024 → member s c ≡ true → Memᴰ j (v.parents c) → (t : Bool) → member front c ≡ t → member (with_parents v s new) j ≡ true
+      old c j h m p true q = with_parents-has v s new c j f h (members-all front 1024 c (member-lt s c f.0 m) q) p
+      old c j h m p false q = member-le s (with_parents v s new) j (with_parents-keeps v s new j) (e c j m q p h)
 
-      down : (j : ℕ) → j < 1024 → member (grow v s) j ≡ true → member (withParents v s new) j ≡ true
+      down : (j : ℕ) → j < 1024 → member (grow v s) j ≡ true → member (with_parents v s new) j ≡ true
       down j h m =
-          ⊎_elim (member-le s (withParents v s new) j (withParents-keeps v s new j)) (λ q. old q.0 j h q.1 q.2 (member front q.0) refl)
+          ⊎_elim (member-le s (with_parents v s new) j (with_parents-keeps v s new j)) (λ q. old q.0 j h q.1 q.2 (member front q.0) refl)
           (grow-only v s j m)
 
   -- what was in the set before a level is expanded after it
   pub expanded-next : (s : List ℕ) → Formed s → Expanded (grow v s) (subtract (grow v s) s)
   expanded-next s f c p m n q h =
       let a = at-subtract (grow v s) s c ((grow-formed v s f).0 ∙ sym f.0) in
-      let b = at_none (subtract (grow v s) s) c n in
+      let b = at-none (subtract (grow v s) s) c n in
       let d = at-member (grow v s) c m in
-      let l = at_lt s c in
+      let l = at-lt s c in
       let k = member-at s c (omega arith) in
       grow-has v s c p f (member-lt s c f.0 k) h k q
 
@@ -116,7 +116,7 @@ module _ (v : View) where
   nothing-new s f e =
       at-ext (grow v s) s same (grow-formed v s f).1 f.1
       (λ j h.
-      let n = at_none (subtract (grow v s) s) j (lowest-none (subtract (grow v s) s) (length-subtract (grow v s) s same ∙ (grow-formed v s f).0) e j) in
+      let n = at-none (subtract (grow v s) s) j (lowest-none (subtract (grow v s) s) (length-subtract (grow v s) s same ∙ (grow-formed v s f).0) e j) in
       let a = at-subtract (grow v s) s j same in
       let b = grow-keeps v s j in
       omega arith)
@@ -126,6 +126,6 @@ module _ (v : View) where
 
 -- ---- what is left of a set, one less with each turn
 
-pub left_less : (f : List ℕ) (c : ℕ) (next : List ℕ) → c ≡ first (at f) 1024 → c < 1024 → next ≡ remove f c
+pub left-less : (f : List ℕ) (c : ℕ) (next : List ℕ) → c ≡ first (at f) 1024 → c < 1024 → next ≡ remove f c
     → length (members (at next) 0 1024) < length (members (at f) 0 1024)
-left_less f c next e h q = let m = ap length (members-pop f c e h) in let w = ap (λ (s : List ℕ). length (members (at s) 0 1024)) q in omega arith
+left-less f c next e h q = let m = ap length (members-pop f c e h) in let w = ap (λ (s : List ℕ). length (members (at s) 0 1024)) q in omega arith

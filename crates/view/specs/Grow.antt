@@ -1,4 +1,4 @@
--- What `insertAll`, `withParents` and `grow` make of a set: sixteen words stay sixteen words, no member is lost, and the
+-- What `insert_all`, `with_parents` and `grow` make of a set: sixteen words stay sixteen words, no member is lost, and the
 -- new members are the parents.
 use Rattle.std.specs.Prelude.{◌≡◌, Bool, true, false, ◌⊎◌, length, replicate}
 use Rattle.std.proofs.Math.Path.{refl}
@@ -12,8 +12,8 @@ use native.Mathlib.Omega.{arith}
 use Rattle.std.proofs.lemmas.List.{length-replicate}
 use Rattle.sets.specs.Sets.{Words, at, member, insert, members, tally}
 use Rattle.sets.specs.Bits.{tally-add, tally-none, tally-bound, tally-zero}
-use Rattle.sets.specs.Laws.{words-empty, at_lt, at-member, at_none, member-at, member-set, member-cong, at-insert-same, at-insert-other, length-insert, words-insert, insert-ge, members_only, members-all}
-use Rattle.view.specs.View.{View, insertAll, withParents, grow}
+use Rattle.sets.specs.Laws.{words-empty, at-lt, at-member, at-none, member-at, member-set, member-cong, at-insert-same, at-insert-other, length-insert, words-insert, insert-ge, members-only, members-all}
+use Rattle.view.specs.View.{View, insert_all, with_parents, grow}
 
 -- sixteen words of 64 digits
 abbrev pub Formed : List ℕ → Type 0
@@ -55,10 +55,10 @@ count-first s n h below =
       where
         go : (t : Bool) → member s j ≡ t → at s j ≡ 0
         go true m = absurd (let b = below j m in omega arith)
-        go false m = at_none s j m
+        go false m = at-none s j m
 
 pub count-below : (s : List ℕ) (n : ℕ) → n ≤ 1024 → ((j : ℕ) → member s j ≡ true → j < n) → tally (at s) 1024 ≤ n
-count-below s n h below = let e = count-first s n h below in let most = tally-bound (at s) n (at_lt s) in omega arith
+count-below s n h below = let e = count-first s n h below in let most = tally-bound (at s) n (at-lt s) in omega arith
 
 -- a set with a member has at least one
 pub count-above : (s : List ℕ) (j : ℕ) → j < 1024 → member s j ≡ true → 0 < tally (at s) 1024
@@ -70,31 +70,31 @@ count-above s j h m = go (dec_lt 0 (tally (at s) 1024))
 
 -- ---- a set with the members of a list
 
-pub insertAll-formed : (s ps : List ℕ) → Formed s → Formed (insertAll s ps)
-unfolding insertAll
-insertAll-formed s [] f = f
-insertAll-formed s (p ∷ ps) f = insertAll-formed (insert s p) ps (insert-formed s p f)
+pub insert_all-formed : (s ps : List ℕ) → Formed s → Formed (insert_all s ps)
+unfolding insert_all
+insert_all-formed s [] f = f
+insert_all-formed s (p ∷ ps) f = insert_all-formed (insert s p) ps (insert-formed s p f)
 
-pub insertAll-keeps : (s ps : List ℕ) (j : ℕ) → at s j ≤ at (insertAll s ps) j
-unfolding insertAll
-insertAll-keeps s [] j = omega arith
-insertAll-keeps s (p ∷ ps) j = let a = insert-ge s p j in let b = insertAll-keeps (insert s p) ps j in omega arith
+pub insert_all-keeps : (s ps : List ℕ) (j : ℕ) → at s j ≤ at (insert_all s ps) j
+unfolding insert_all
+insert_all-keeps s [] j = omega arith
+insert_all-keeps s (p ∷ ps) j = let a = insert-ge s p j in let b = insert_all-keeps (insert s p) ps j in omega arith
 
-pub insertAll-has : (s ps : List ℕ) (j : ℕ) → Formed s → j < 1024 → Memᴰ j ps → member (insertAll s ps) j ≡ true
-unfolding insertAll
-insertAll-has s [] j f h m = absurd (Memᴰ.not-nil m)
-insertAll-has s (p ∷ ps) j f h m =
+pub insert_all-has : (s ps : List ℕ) (j : ℕ) → Formed s → j < 1024 → Memᴰ j ps → member (insert_all s ps) j ≡ true
+unfolding insert_all
+insert_all-has s [] j f h m = absurd (Memᴰ.not-nil m)
+insert_all-has s (p ∷ ps) j f h m =
     ⊎_elim
     (λ e.
-    member-le (insert s p) (insertAll (insert s p) ps) j (insertAll-keeps (insert s p) ps j)
+    member-le (insert s p) (insert_all (insert s p) ps) j (insert_all-keeps (insert s p) ps j)
     (subst (λ (k : ℕ). member (insert s k) j ≡ true) e (member-insert-same s j f h)))
-    (λ t. insertAll-has (insert s p) ps j (insert-formed s p f) h t)
+    (λ t. insert_all-has (insert s p) ps j (insert-formed s p f) h t)
     (Memᴰ.cases_cons m)
 
-pub insertAll-only : (s ps : List ℕ) (j : ℕ) → member (insertAll s ps) j ≡ true → (member s j ≡ true) ⊎ Memᴰ j ps
-unfolding insertAll
-insertAll-only s [] j m = inl m
-insertAll-only s (p ∷ ps) j m = go (insertAll-only (insert s p) ps j m)
+pub insert_all-only : (s ps : List ℕ) (j : ℕ) → member (insert_all s ps) j ≡ true → (member s j ≡ true) ⊎ Memᴰ j ps
+unfolding insert_all
+insert_all-only s [] j m = inl m
+insert_all-only s (p ∷ ps) j m = go (insert_all-only (insert s p) ps j m)
   where
     go : (member (insert s p) j ≡ true) ⊎ Memᴰ j ps → (member s j ≡ true) ⊎ Memᴰ j (p ∷ ps)
     go (inl k) = ⊎_elim (λ q. inl q) (λ e. inr (Memᴰ.head e)) (member-insert-only s p j k)
@@ -103,57 +103,57 @@ insertAll-only s (p ∷ ps) j m = go (insertAll-only (insert s p) ps j m)
 -- ---- a set with the parents of each class of a list
 
 module _ (v : View) where
-  pub withParents-formed : (s cs : List ℕ) → Formed s → Formed (withParents v s cs)
-  unfolding withParents
-  withParents-formed s [] f = f
-  withParents-formed s (c ∷ cs) f = withParents-formed (insertAll s (v.parents c)) cs (insertAll-formed s (v.parents c) f)
+  pub with_parents-formed : (s cs : List ℕ) → Formed s → Formed (with_parents v s cs)
+  unfolding with_parents
+  with_parents-formed s [] f = f
+  with_parents-formed s (c ∷ cs) f = with_parents-formed (insert_all s (v.parents c)) cs (insert_all-formed s (v.parents c) f)
 
-  pub withParents-keeps : (s cs : List ℕ) (j : ℕ) → at s j ≤ at (withParents v s cs) j
-  unfolding withParents
-  withParents-keeps s [] j = omega arith
-  withParents-keeps s (c ∷ cs) j =
-      let a = insertAll-keeps s (v.parents c) j in
-      let b = withParents-keeps (insertAll s (v.parents c)) cs j in
+  pub with_parents-keeps : (s cs : List ℕ) (j : ℕ) → at s j ≤ at (with_parents v s cs) j
+  unfolding with_parents
+  with_parents-keeps s [] j = omega arith
+  with_parents-keeps s (c ∷ cs) j =
+      let a = insert_all-keeps s (v.parents c) j in
+      let b = with_parents-keeps (insert_all s (v.parents c)) cs j in
       omega arith
 
-  pub withParents-has : (s cs : List ℕ) (c j : ℕ) → Formed s → j < 1024 → Memᴰ c cs → Memᴰ j (v.parents c) → member (withParents v s cs) j ≡ true
-  unfolding withParents
-  withParents-has s [] c j f h m p = absurd (Memᴰ.not-nil m)
-  withParents-has s (d ∷ cs) c j f h m p =
-      let t : List ℕ = insertAll s (v.parents d) in
+  pub with_parents-has : (s cs : List ℕ) (c j : ℕ) → Formed s → j < 1024 → Memᴰ c cs → Memᴰ j (v.parents c) → member (with_parents v s cs) j ≡ true
+  unfolding with_parents
+  with_parents-has s [] c j f h m p = absurd (Memᴰ.not-nil m)
+  with_parents-has s (d ∷ cs) c j f h m p =
+      let t : List ℕ = insert_all s (v.parents d) in
       ⊎_elim
       (λ e.
-      member-le t (withParents v t cs) j (withParents-keeps t cs j)
-      (insertAll-has s (v.parents d) j f h (subst (λ (k : ℕ). Memᴰ j (v.parents k)) e p)))
-      (λ r. withParents-has t cs c j (insertAll-formed s (v.parents d) f) h r p)
+      member-le t (with_parents v t cs) j (with_parents-keeps t cs j)
+      (insert_all-has s (v.parents d) j f h (subst (λ (k : ℕ). Memᴰ j (v.parents k)) e p)))
+      (λ r. with_parents-has t cs c j (insert_all-formed s (v.parents d) f) h r p)
       (Memᴰ.cases_cons m)
 
-  pub withParents-only : (s cs : List ℕ) (j : ℕ) → member (withParents v s cs) j ≡ true
+  pub with_parents-only : (s cs : List ℕ) (j : ℕ) → member (with_parents v s cs) j ≡ true
       → (member s j ≡ true) ⊎ ((c : ℕ) × Memᴰ c cs × Memᴰ j (v.parents c))
-  unfolding withParents
-  withParents-only s [] j m = inl m
-  withParents-only s (d ∷ cs) j m = go (withParents-only (insertAll s (v.parents d)) cs j m)
+  unfolding with_parents
+  with_parents-only s [] j m = inl m
+  with_parents-only s (d ∷ cs) j m = go (with_parents-only (insert_all s (v.parents d)) cs j m)
     where
-      go : (member (insertAll s (v.parents d)) j ≡ true) ⊎ ((c : ℕ) × Memᴰ c cs × Memᴰ j (v.parents c))
+      go : (member (insert_all s (v.parents d)) j ≡ true) ⊎ ((c : ℕ) × Memᴰ c cs × Memᴰ j (v.parents c))
           → (member s j ≡ true) ⊎ ((c : ℕ) × Memᴰ c (d ∷ cs) × Memᴰ j (v.parents c))
-      go (inl k) = ⊎_elim (λ q. inl q) (λ p. inr (d, Memᴰ.head refl, p)) (insertAll-only s (v.parents d) j k)
+      go (inl k) = ⊎_elim (λ q. inl q) (λ p. inr (d, Memᴰ.head refl, p)) (insert_all-only s (v.parents d) j k)
       go (inr w) = inr (w.0, Memᴰ.tail w.1, w.2)
 
   -- ---- a set with the parents of its members
 
   pub grow-formed : (s : List ℕ) → Formed s → Formed (grow v s)
   unfolding grow
-  grow-formed s f = withParents-formed s (members (at s) 0 1024) f
+  grow-formed s f = with_parents-formed s (members (at s) 0 1024) f
 
   pub grow-keeps : (s : List ℕ) (j : ℕ) → at s j ≤ at (grow v s) j
   unfolding grow
-  grow-keeps s j = withParents-keeps s (members (at s) 0 1024) j
+  grow-keeps s j = with_parents-keeps s (members (at s) 0 1024) j
 
   pub grow-has : (s : List ℕ) (c j : ℕ) → Formed s → c < 1024 → j < 1024 → member s c ≡ true → Memᴰ j (v.parents c) → member (grow v s) j ≡ true
   unfolding grow
-  grow-has s c j f l h m p = withParents-has s (members (at s) 0 1024) c j f h (members-all s 1024 c l m) p
+  grow-has s c j f l h m p = with_parents-has s (members (at s) 0 1024) c j f h (members-all s 1024 c l m) p
 
   pub grow-only : (s : List ℕ) (j : ℕ) → member (grow v s) j ≡ true → (member s j ≡ true) ⊎ ((c : ℕ) × (member s c ≡ true) × Memᴰ j (v.parents c))
   unfolding grow
   grow-only s j m =
-      ⊎_elim (λ q. inl q) (λ w. inr (w.0, members_only s 1024 w.0 w.1, w.2)) (withParents-only s (members (at s) 0 1024) j m)
+      ⊎_elim (λ q. inl q) (λ w. inr (w.0, members-only s 1024 w.0 w.1, w.2)) (with_parents-only s (members (at s) 0 1024) j m)

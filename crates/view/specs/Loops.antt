@@ -50,12 +50,12 @@ unfoldable pub walk : View → ℕ → State
 walk v x = turns v v.names (record { distances = entry x 0 ∷ []; pending = entry x 0 ∷ [] })
 
 -- `entry(..).or_insert(..)` of Object
-abbrev pub orInsert : View → Option ℕ → List Entry → List Entry
-orInsert v (some k) es = es
-orInsert v none es = entry v.object far ∷ es
+abbrev pub or_insert : View → Option ℕ → List Entry → List Entry
+or_insert v (some k) es = es
+or_insert v none es = entry v.object far ∷ es
 
-unfoldable pub computeDistances : View → ℕ → List Entry
-computeDistances v x = orInsert v (lookup (walk v x).distances v.object) (walk v x).distances
+unfoldable pub compute_distances : View → ℕ → List Entry
+compute_distances v x = or_insert v (lookup (walk v x).distances v.object) (walk v x).distances
 
 -- ---- recorded_ancestor
 
@@ -63,8 +63,8 @@ abbrev pub present : Option ℕ → Bool
 present none = false
 present (some n) = true
 
-unfoldable pub recordedAncestor : View → ℕ → ℕ → Bool
-recordedAncestor v value expected = (eqb value expected || eqb expected v.object) || present (lookup (computeDistances v value) expected)
+unfoldable pub recorded_ancestor : View → ℕ → ℕ → Bool
+recorded_ancestor v value expected = (eqb value expected || eqb expected v.object) || present (lookup (compute_distances v value) expected)
 
 -- ---- subtype_relation
 
@@ -85,5 +85,5 @@ search v y (suc n) seen (c ∷ pending) incomplete =
     (search v y n (c ∷ seen) pending true))
 
 -- the whole of `subtype_relation`
-unfoldable pub subtypeRelation : View → ℕ → ℕ → ℕ → Option Relation
-subtypeRelation v value expected n = cond (recordedAncestor v value expected) (some Yes) (search v expected n [] (value ∷ []) false)
+unfoldable pub subtype_relation : View → ℕ → ℕ → ℕ → Option Relation
+subtype_relation v value expected n = cond (recorded_ancestor v value expected) (some Yes) (search v expected n [] (value ∷ []) false)

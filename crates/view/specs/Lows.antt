@@ -57,8 +57,8 @@ sub-only a b c la lb m = go (member a c) (member b c) (sym (member-subtract a b 
     go true false e = (refl, refl)
     go false t e = absurd (false≢true e)
 
-sub_out : (a b : List ℕ) (c : ℕ) → length a ≡ 16 → length b ≡ 16 → member (subtract a b) c ≡ false → (member a c ≡ false) ⊎ ((member a c ≡ true) × (member b c ≡ true))
-sub_out a b c la lb m = go (member a c) (member b c) (sym (member-subtract a b c (la ∙ sym lb)) ∙ m)
+sub-out : (a b : List ℕ) (c : ℕ) → length a ≡ 16 → length b ≡ 16 → member (subtract a b) c ≡ false → (member a c ≡ false) ⊎ ((member a c ≡ true) × (member b c ≡ true))
+sub-out a b c la lb m = go (member a c) (member b c) (sym (member-subtract a b c (la ∙ sym lb)) ∙ m)
   where
     go : (s t : Bool) → (s && not t) ≡ false → (s ≡ false) ⊎ ((s ≡ true) × (t ≡ true))
     go true true e = inr (refl, refl)
@@ -86,8 +86,8 @@ module _ (v : View) (d : ℕ) where
       go true = length-remove s c
       go false = refl
 
-  one_has : (s : List ℕ) (c e : ℕ) → member s e ≡ true → reach v e d ≡ false → member (cond (reach v c d) (remove s c) s) e ≡ true
-  one_has s c e m n = go (reach v c d) refl
+  one-has : (s : List ℕ) (c e : ℕ) → member s e ≡ true → reach v e d ≡ false → member (cond (reach v c d) (remove s c) s) e ≡ true
+  one-has s c e m n = go (reach v c d) refl
     where
       go : (b : Bool) → reach v c d ≡ b → member (cond b (remove s c) s) e ≡ true
       go true q =
@@ -95,8 +95,8 @@ module _ (v : View) (d : ℕ) where
           ∙ ap₂ (λ (a b : Bool). not a && b) (ne_eqb e c (λ k. true≢false (sym q ∙ sym (ap (λ (z : ℕ). reach v z d) k) ∙ n))) m
       go false q = m
 
-  one_only : (s : List ℕ) (c e : ℕ) → member (cond (reach v c d) (remove s c) s) e ≡ true → (member s e ≡ true) × (e ≡ c → reach v e d ≡ false)
-  one_only s c e m = go (reach v c d) refl m
+  one-only : (s : List ℕ) (c e : ℕ) → member (cond (reach v c d) (remove s c) s) e ≡ true → (member s e ≡ true) × (e ≡ c → reach v e d ≡ false)
+  one-only s c e m = go (reach v c d) refl m
     where
       taken : (a b : Bool) → eqb e c ≡ a → (not a && b) ≡ true → (b ≡ true) × (e ≡ c → ⊥)
       taken true b q r = absurd (false≢true r)
@@ -109,14 +109,14 @@ module _ (v : View) (d : ℕ) where
   strip-has : (s cs : List ℕ) (e : ℕ) → member s e ≡ true → reach v e d ≡ false → member (strip v d s cs) e ≡ true
   unfolding strip
   strip-has s [] e m n = m
-  strip-has s (c ∷ cs) e m n = strip-has (cond (reach v c d) (remove s c) s) cs e (one_has s c e m n) n
+  strip-has s (c ∷ cs) e m n = strip-has (cond (reach v c d) (remove s c) s) cs e (one-has s c e m n) n
 
   strip-only : (s cs : List ℕ) (e : ℕ) → member (strip v d s cs) e ≡ true → (member s e ≡ true) × (Memᴰ e cs → reach v e d ≡ false)
   unfolding strip
   strip-only s [] e m = (m, λ k. absurd (Memᴰ.not-nil k))
   strip-only s (c ∷ cs) e m =
       let w = strip-only (cond (reach v c d) (remove s c) s) cs e m in
-      let o = one_only s c e w.0 in
+      let o = one-only s c e w.0 in
       (o.0, λ k. ⊎_elim o.1 w.1 (Memᴰ.cases_cons k))
 
 module _ (v : View) (g : Good v) (all : List ℕ) (Below-names : (c : ℕ) → member all c ≡ true → c < v.names) where
@@ -160,8 +160,8 @@ module _ (v : View) (g : Good v) (all : List ℕ) (Below-names : (c : ℕ) → m
       size-both : length both ≡ 16
       size-both = length-intersect (reached v d) alive (size-reached ∙ sym st.alive-size) ∙ size-reached
 
-      size_above : length above ≡ 16
-      size_above = length-strip v d both (members (at both) 0 1024) ∙ size-both
+      size-above : length above ≡ 16
+      size-above = length-strip v d both (members (at both) 0 1024) ∙ size-both
 
       above-has : (e : ℕ) → Strict v d e → member alive e ≡ true → member above e ≡ true
       unfolding reach
@@ -178,8 +178,8 @@ module _ (v : View) (g : Good v) (all : List ℕ) (Below-names : (c : ℕ) → m
           )
 
       -- what is strictly above a class that d reaches is strictly above d
-      strict_on : (c e : ℕ) → reach v d c ≡ true → member all e ≡ true → Strict v c e → Strict v d e
-      strict_on c e r m s = (reach-trans v g d c e (Below-names d d-all) r s.0, go (reach v e d) refl)
+      strict-on : (c e : ℕ) → reach v d c ≡ true → member all e ≡ true → Strict v c e → Strict v d e
+      strict-on c e r m s = (reach-trans v g d c e (Below-names d d-all) r s.0, go (reach v e d) refl)
         where
           go : (b : Bool) → reach v e d ≡ b → b ≡ false
           go true q = absurd (true≢false (sym (reach-trans v g e d c (Below-names e m) q r) ∙ s.1))
@@ -188,14 +188,14 @@ module _ (v : View) (g : Good v) (all : List ℕ) (Below-names : (c : ℕ) → m
       lowing-next : Lowing v all (subtract alive above) (subtract todo (reached v d))
       unfolding reach
       lowing-next = record {
-        alive-size = length-subtract alive above (st.alive-size ∙ sym size_above) ∙ st.alive-size;
+        alive-size = length-subtract alive above (st.alive-size ∙ sym size-above) ∙ st.alive-size;
         todo-size = length-subtract todo (reached v d) (st.todo-size ∙ sym size-reached) ∙ st.todo-size;
-        alive-in = λ c m. st.alive-in c (sub-only alive above c st.alive-size size_above m).0;
+        alive-in = λ c m. st.alive-in c (sub-only alive above c st.alive-size size-above m).0;
         todo-in = λ c m. st.todo-in c (sub-only todo (reached v d) c st.todo-size size-reached m).0;
-        out = λ c m n. ⊎_elim (st.out c m) (λ w. (d, d-all, above-only c w.1)) (sub_out alive above c st.alive-size size_above n);
+        out = λ c m n. ⊎_elim (st.out c m) (λ w. (d, d-all, above-only c w.1)) (sub-out alive above c st.alive-size size-above n);
         done = λ c e m n k s.
-            sub-none alive above e st.alive-size size_above
-            (⊎_elim (λ q. inl (st.done c e m q k s)) (λ w. gone e (strict_on c e w.1 k s) (member alive e) refl) (sub_out todo (reached v d) c st.todo-size size-reached n));
+            sub-none alive above e st.alive-size size-above
+            (⊎_elim (λ q. inl (st.done c e m q k s)) (λ w. gone e (strict-on c e w.1 k s) (member alive e) refl) (sub-out todo (reached v d) c st.todo-size size-reached n));
       }
         where
           gone : (e : ℕ) → Strict v d e → (b : Bool) → member alive e ≡ b → (member alive e ≡ false) ⊎ (member above e ≡ true)
@@ -277,14 +277,14 @@ module _ (v : View) (g : Good v) (all low : List ℕ) (l : length all ≡ 16) (B
 
   -- a class other than Object
   other : (c : ℕ) → (c ≡ v.object → ⊥) → (member low c ≡ true) ↔ ((member all c ≡ true) × ((d : ℕ) → member all d ≡ true → below v d c ≡ false))
-  other c n = (λ m. (in_all m, λ d k. free m d k (ℕ_discrete d v.object)), λ w. lows.has c (remove-in all v.object c n ∙ w.0) (λ d k s. none w d k s))
+  other c n = (λ m. (in-all m, λ d k. free m d k (ℕ_discrete d v.object)), λ w. lows.has c (remove-in all v.object c n ∙ w.0) (λ d k s. none w d k s))
     where
-      in_all : member low c ≡ true → member all c ≡ true
-      in_all m = (remove-only all v.object c (lows.inside c m)).1
+      in-all : member low c ≡ true → member all c ≡ true
+      in-all m = (remove-only all v.object c (lows.inside c m)).1
 
       free : member low c ≡ true → (d : ℕ) → member all d ≡ true → Dec (d ≡ v.object) → below v d c ≡ false
       free m d k (yes e) = ap (λ (x : ℕ). below v x c) e ∙ object-not-below v c
-      free m d k (no e) = not-strict d c k (in_all m) e n (lows.free c m d (remove-in all v.object d e ∙ k))
+      free m d k (no e) = not-strict d c k (in-all m) e n (lows.free c m d (remove-in all v.object d e ∙ k))
 
       none : (member all c ≡ true) × ((d : ℕ) → member all d ≡ true → below v d c ≡ false) → (d : ℕ) → member (remove all v.object) d ≡ true → Strict v d c → ⊥
       none w d k s =
@@ -315,7 +315,7 @@ module _ (v : View) (g : Good v) (all low : List ℕ) (l : length all ≡ 16) (B
           object-reach d n
           ∙ ap not
           (⊎_elim (λ q. absurd (true≢false (sym (remove-in all v.object d n ∙ k) ∙ q))) (λ w. w.1)
-          (sub_out (remove all v.object) (reached v v.object) d (length-remove all v.object ∙ l) (reached-formed v g v.object g.object-in).0
+          (sub-out (remove all v.object) (reached v v.object) d (length-remove all v.object ∙ l) (reached-formed v g v.object g.object-in).0
           (lowest-none unreached (length-subtract (remove all v.object) (reached v v.object) sizes ∙ length-remove all v.object ∙ l) e d)))
 
       go : (c : ℕ) → Dec (c ≡ v.object) → (member (insert low v.object) c ≡ true) ↔ ((member all c ≡ true) × ((d : ℕ) → member all d ≡ true → below v d c ≡ false))

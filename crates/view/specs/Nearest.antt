@@ -9,7 +9,7 @@ use mathlib.Core.List.{List, [], ◌∷◌, Memᴰ}
 use Rattle.std.proofs.Math.Option.{Option, some, none}
 use Rattle.std.proofs.Math.Nat.{max_comm, add_comm}
 use Rattle.std.proofs.Math.Decide.{dec_lt, ℕ_discrete}
-use Rattle.view.specs.View.{View, distance, distanceOr, nearer, nearest}
+use Rattle.view.specs.View.{View, distance, distance_or, nearer, nearest}
 
 -- ---- two numbers, then three, compared one after the other
 
@@ -72,10 +72,10 @@ before-total a s c b t d n = go (dec_lt a b) (dec_lt b a) (dec_lt s t) (dec_lt t
 module _ (v : View) (left right : ℕ) where
   -- the greater and the sum of a candidate's two distances
   abbrev pub greater : ℕ → ℕ
-  greater c = max (distanceOr (distance v left c)) (distanceOr (distance v right c))
+  greater c = max (distance_or (distance v left c)) (distance_or (distance v right c))
 
   abbrev pub sum : ℕ → ℕ
-  sum c = distanceOr (distance v left c) + distanceOr (distance v right c)
+  sum c = distance_or (distance v left c) + distance_or (distance v right c)
 
   -- NEARER: by greater distance, then sum, then number
   pub nearer-exactly : (c d : ℕ) → (nearer v left right c d ≡ true) ↔ Before (greater c) (sum c) c (greater d) (sum d) d
@@ -119,10 +119,10 @@ module _ (v : View) (left right : ℕ) where
   nearest-some (c ∷ cs) d k = nearest-cons c cs
 
   -- it is one of the list
-  pub nearest_in : (cs : List ℕ) (m : ℕ) → nearest v left right cs ≡ some m → Memᴰ m cs
+  pub nearest-in : (cs : List ℕ) (m : ℕ) → nearest v left right cs ≡ some m → Memᴰ m cs
   unfolding nearest
-  nearest_in [] m h = absurd (let z : ◌≡◌ {A = ℕ} 0 1 = cc in omega arith)
-  nearest_in (c ∷ cs) m h = go (nearest v left right cs) refl (nearest_in cs)
+  nearest-in [] m h = absurd (let z : ◌≡◌ {A = ℕ} 0 1 = cc in omega arith)
+  nearest-in (c ∷ cs) m h = go (nearest v left right cs) refl (nearest-in cs)
     where
       go : (o : Option ℕ) → nearest v left right cs ≡ o → ((e : ℕ) → nearest v left right cs ≡ some e → Memᴰ e cs) → Memᴰ m (c ∷ cs)
       go none e ih = Memᴰ.head (let q = nearest-first c cs e in let k : m ≡ c = cc in k)
@@ -164,7 +164,7 @@ module _ (v : View) (left right : ℕ) where
   pub nearer-swap : (c d : ℕ) → nearer v left right c d ≡ nearer v right left c d
   unfolding nearer
   nearer-swap c d =
-      rw (max_comm (distanceOr (distance v left c)) (distanceOr (distance v right c)), max_comm (distanceOr (distance v left d)) (distanceOr (distance v right d)), add_comm (distanceOr (distance v left c)) (distanceOr (distance v right c)), add_comm (distanceOr (distance v left d)) (distanceOr (distance v right d)))
+      rw (max_comm (distance_or (distance v left c)) (distance_or (distance v right c)), max_comm (distance_or (distance v left d)) (distance_or (distance v right d)), add_comm (distance_or (distance v left c)) (distance_or (distance v right c)), add_comm (distance_or (distance v left d)) (distance_or (distance v right d)))
 
   pub nearest-swap : (cs : List ℕ) → nearest v left right cs ≡ nearest v right left cs
   unfolding nearest

@@ -10,8 +10,8 @@ use Rattle.sets.specs.Laws.{member-intersect, length-intersect}
 use Rattle.view.specs.View.{number_of, View, ancestor, ancestors, nearer, nearest, lowest, candidates, supertype}
 use Rattle.view.specs.Reach.{Good}
 use Rattle.view.specs.Ancestors.{ancestor-below, ancestor-object, ancestors-formed, ancestors-member}
-use Rattle.view.specs.Below.{anyBelow-false, anyBelow-none, lowest-has, lowest-only, some-lowest}
-use Rattle.view.specs.Nearest.{nearer-exactly, nearer-trans, nearest-some, nearest_in, nearest-least}
+use Rattle.view.specs.Below.{any_below-false, any_below-none, lowest-has, lowest-only, some-lowest}
+use Rattle.view.specs.Nearest.{nearer-exactly, nearer-trans, nearest-some, nearest-in, nearest-least}
 use Rattle.view.specs.Supertype.{Common, candidates-exactly, candidates-object, supertype-right, supertype-left, supertype-other}
 use Rattle.view.specs.Lows.{LowestOf}
 
@@ -27,18 +27,18 @@ nearer-self v left right c n = ⊎_elim (λ l. omega arith) (λ w. ⊎_elim (λ 
 -- ---- the supertype
 
 module _ (v : View) (g : Good v) (left right : ℕ) (hl : left < v.names) (hr : right < v.names) where
-  pub found_right : (a : List ℕ) → a ≡ ancestors v left → member a right ≡ true → right ≡ number_of (supertype v left right)
+  pub found-right : (a : List ℕ) → a ≡ ancestors v left → member a right ≡ true → right ≡ number_of (supertype v left right)
   unfolding number_of
-  found_right a e m = sym (ap number_of (supertype-right v left right (sym (ancestors-member v g left hl right) ∙ sym (ap (λ (w : List ℕ). member w right) e) ∙ m)))
+  found-right a e m = sym (ap number_of (supertype-right v left right (sym (ancestors-member v g left hl right) ∙ sym (ap (λ (w : List ℕ). member w right) e) ∙ m)))
 
   module _ (a b : List ℕ) (ea : a ≡ ancestors v left) (eb : b ≡ ancestors v right) (n : member a right ≡ false) where
-    not_right : ancestor v left right ≡ false
-    not_right = sym (ancestors-member v g left hl right) ∙ sym (ap (λ (w : List ℕ). member w right) ea) ∙ n
+    not-right : ancestor v left right ≡ false
+    not-right = sym (ancestors-member v g left hl right) ∙ sym (ap (λ (w : List ℕ). member w right) ea) ∙ n
 
-    pub found_left : member b left ≡ true → left ≡ number_of (supertype v left right)
+    pub found-left : member b left ≡ true → left ≡ number_of (supertype v left right)
     unfolding number_of
-    found_left m =
-        sym (ap number_of (supertype-left v left right not_right (sym (ancestors-member v g right hr left) ∙ sym (ap (λ (w : List ℕ). member w left) eb) ∙ m)))
+    found-left m =
+        sym (ap number_of (supertype-left v left right not-right (sym (ancestors-member v g right hr left) ∙ sym (ap (λ (w : List ℕ). member w left) eb) ∙ m)))
 
     module _ (all : List ℕ) (e : all ≡ intersect a b) where
       all-member : (c : ℕ) → member all c ≡ (ancestor v left c && ancestor v right c)
@@ -72,10 +72,10 @@ module _ (v : View) (g : Good v) (left right : ℕ) (hl : left < v.names) (hr : 
       -- THE NEAREST OF THE LOWEST IS THE SUPERTYPE, where neither is an ancestor of the other
       pub found-nearest : (low : List ℕ) → LowestOf v all low → (m : ℕ) → NearestOf v left right low m → member b left ≡ false → m ≡ number_of (supertype v left right)
       unfolding number_of
-      found-nearest low is-low m near k = same ∙ sym (ap number_of (supertype-other v left right not_right not_left ∙ found.1))
+      found-nearest low is-low m near k = same ∙ sym (ap number_of (supertype-other v left right not-right not-left ∙ found.1))
         where
-          not_left : ancestor v right left ≡ false
-          not_left = sym (ancestors-member v g right hr left) ∙ sym (ap (λ (w : List ℕ). member w left) eb) ∙ k
+          not-left : ancestor v right left ≡ false
+          not-left = sym (ancestors-member v g right hr left) ∙ sym (ap (λ (w : List ℕ). member w left) eb) ∙ k
 
           cands : List ℕ
           cands = candidates v left right
@@ -89,12 +89,12 @@ module _ (v : View) (g : Good v) (left right : ℕ) (hl : left < v.names) (hr : 
           low-lowest : (c : ℕ) → member low c ≡ true → Memᴰ c (lowest v cands cands)
           low-lowest c u =
               let w = (is-low.exactly c).0 u in
-              lowest-has v cands cands c (all-cands c w.0) (anyBelow-none v cands c (λ d z. w.1 d (cands-all d z)))
+              lowest-has v cands cands c (all-cands c w.0) (any_below-none v cands c (λ d z. w.1 d (cands-all d z)))
 
           lowest-low : (c : ℕ) → Memᴰ c (lowest v cands cands) → member low c ≡ true
           lowest-low c u =
               let w = lowest-only v cands cands c u in
-              (is-low.exactly c).1 (cands-all c w.0, λ d z. anyBelow-false v cands c w.1 d (all-cands d z))
+              (is-low.exactly c).1 (cands-all c w.0, λ d z. any_below-false v cands c w.1 d (all-cands d z))
 
           found : (x : ℕ) × (nearest v left right (lowest v cands cands) ≡ some x)
           found =
@@ -102,7 +102,7 @@ module _ (v : View) (g : Good v) (left right : ℕ) (hl : left < v.names) (hr : 
               nearest-some v left right (lowest v cands cands) x.0 x.1
 
           x-low : member low found.0 ≡ true
-          x-low = lowest-low found.0 (nearest_in v left right (lowest v cands cands) found.0 found.1)
+          x-low = lowest-low found.0 (nearest-in v left right (lowest v cands cands) found.0 found.1)
 
           same : m ≡ found.0
           same =

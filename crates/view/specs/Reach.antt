@@ -11,8 +11,8 @@ use Prim.Native.Nat.{ℕ, zero, suc, ◌+◌, ◌-◌, ◌≤◌, ◌<◌}
 use Rattle.std.proofs.Math.Decide.{dec_lt}
 use native.Mathlib.Omega.{arith}
 use Rattle.sets.specs.Sets.{at, member, tally}
-use Rattle.sets.specs.Bits.{tally-le, first_below, first_found}
-use Rattle.sets.specs.Laws.{at_lt, at-member, at_none, member-empty, member-set, member-none, count-tally, count_same}
+use Rattle.sets.specs.Bits.{tally-le, first-below, first-found}
+use Rattle.sets.specs.Laws.{at-lt, at-member, at-none, member-empty, member-set, member-none, count-tally, count-same}
 use Rattle.view.specs.View.{View, grow, level, reached, reach, steps}
 use Rattle.view.specs.Grow.{Formed, empty-formed, insert-formed, count-below, count-above, member-le, member-insert-same, member-insert-only, grow-formed, grow-keeps, grow-has, grow-only}
 
@@ -56,9 +56,9 @@ module _ (v : View) where
 
   -- ---- paths
 
-  pub path_join : {x y z m n : ℕ} → Path v x y m → Path v y z n → Path v x z (m + n)
-  path_join {m = m} a here = rw (add-zero m) a
-  path_join {m = m} a (there {n = n} b p) = rw (add-suc m n) (there (path_join a b) p)
+  pub path-join : {x y z m n : ℕ} → Path v x y m → Path v y z n → Path v x z (m + n)
+  path-join {m = m} a here = rw (add-zero m) a
+  path-join {m = m} a (there {n = n} b p) = rw (add-suc m n) (there (path-join a b) p)
 
   -- what is in a level has a path no longer than the level
   pub level-path : (n x y : ℕ) → member (level v n x) y ≡ true → (k : ℕ) × (k ≤ n) × Path v x y k
@@ -104,7 +104,7 @@ module _ (v : View) (g : Good v) where
         let a = level-formed v n x in
         let b = level-formed v (suc n) x in
         sym
-        (count_same (level v n x) (level v (suc n) x) a.0 b.0 a.1 b.1 (level-keeps v n x)
+        (count-same (level v n x) (level v (suc n) x) a.0 b.0 a.1 b.1 (level-keeps v n x)
         (count-tally (level v n x) 1024 ∙ e ∙ sym (count-tally (level v (suc n) x) 1024)))
 
     -- each level that changes something adds a member
@@ -194,7 +194,7 @@ module _ (v : View) (g : Good v) where
 
     steps-before : (y n : ℕ) → n < steps v x y → member (level v n x) y ≡ false
     unfolding steps
-    steps-before y n l = member-none (level v n x) y (first_below (λ n. at (level v n x) y) (suc v.names) n l)
+    steps-before y n l = member-none (level v n x) y (first-below (λ n. at (level v n x) y) (suc v.names) n l)
 
     pub steps-least : {y n : ℕ} → Path v x y n → steps v x y ≤ n
     steps-least {y} {n} a = go (dec_lt n (steps v x y))
@@ -208,7 +208,7 @@ module _ (v : View) (g : Good v) where
 
     steps-member : (y : ℕ) → reach v x y ≡ true → member (level v (steps v x y) x) y ≡ true
     unfolding steps
-    steps-member y m = let l = steps-below y m in member-set (level v (steps v x y) x) y (first_found (λ n. at (level v n x) y) (suc v.names) (omega arith))
+    steps-member y m = let l = steps-below y m in member-set (level v (steps v x y) x) y (first-found (λ n. at (level v n x) y) (suc v.names) (omega arith))
 
     pub steps-path : (y : ℕ) → reach v x y ≡ true → Path v x y (steps v x y)
     steps-path y m =
@@ -229,7 +229,7 @@ module _ (v : View) (g : Good v) where
   -- ---- from one class to the next
 
   pub reach-trans : (x y z : ℕ) → x < v.names → reach v x y ≡ true → reach v y z ≡ true → reach v x z ≡ true
-  reach-trans x y z h a b = path-reach x h (path_join v (reach-path x h y a).2 (reach-path y (reach-below x h y a) z b).2)
+  reach-trans x y z h a b = path-reach x h (path-join v (reach-path x h y a).2 (reach-path y (reach-below x h y a) z b).2)
 
   -- what a reached class reaches is reached
   pub reached-subset : (x y : ℕ) → x < v.names → reach v x y ≡ true → (z : ℕ) → at (reached v y) z ≤ at (reached v x) z
@@ -237,5 +237,5 @@ module _ (v : View) (g : Good v) where
   reached-subset x y h a z = go (member (reached v y) z) refl
     where
       go : (t : Bool) → member (reached v y) z ≡ t → at (reached v y) z ≤ at (reached v x) z
-      go true m = let p = at-member (reached v x) z (reach-trans x y z h a m) in let q = at_lt (reached v y) z in omega arith
-      go false m = let p = at_none (reached v y) z m in omega arith
+      go true m = let p = at-member (reached v x) z (reach-trans x y z h a m) in let q = at-lt (reached v y) z in omega arith
+      go false m = let p = at-none (reached v y) z m in omega arith

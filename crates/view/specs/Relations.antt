@@ -8,10 +8,10 @@ use mathlib.Core.List.Memᴰ
 use mathlib.Core.List.{List, [], ◌∷◌, Memᴰ}
 use Rattle.std.proofs.Math.Dec.{eqb}
 use Rattle.sets.specs.Sets.{at, members}
-use Rattle.sets.specs.Laws.{members_only, members-all}
+use Rattle.sets.specs.Laws.{members-only, members-all}
 use Rattle.view.specs.declared.Relation.{Relation}
 use Rattle.view.specs.declared.Relation.TheVariants.{Yes, No, Unknown}
-use Rattle.view.specs.View.{View, reached, reach, ancestor, allRecorded, complete, relation, relationNumber, castByFacts, cast}
+use Rattle.view.specs.View.{View, reached, reach, ancestor, all_recorded, complete, relation, relation_number, cast_by_facts, cast}
 use Rattle.view.specs.Reach.{Good, reach-refl, reach-below, reach-parent, reach-alone}
 use Rattle.view.specs.Ancestors.{ancestor-object, reach-ancestor, ancestor-or}
 
@@ -33,38 +33,38 @@ unknown-when false true e = absurd (let z : ◌≡◌ {A = ℕ} 0 1 = cc in omeg
 unknown-when false false e = (refl, refl)
 
 -- the numbers tell the answers apart
-pub relationNumber-injective : (a b : Relation) → relationNumber a ≡ relationNumber b → a ≡ b
-unfolding relationNumber
-relationNumber-injective Yes Yes e = refl
-relationNumber-injective Yes No e = absurd (omega arith)
-relationNumber-injective Yes Unknown e = absurd (omega arith)
-relationNumber-injective No Yes e = absurd (omega arith)
-relationNumber-injective No No e = refl
-relationNumber-injective No Unknown e = absurd (omega arith)
-relationNumber-injective Unknown Yes e = absurd (omega arith)
-relationNumber-injective Unknown No e = absurd (omega arith)
-relationNumber-injective Unknown Unknown e = refl
+pub relation_number-injective : (a b : Relation) → relation_number a ≡ relation_number b → a ≡ b
+unfolding relation_number
+relation_number-injective Yes Yes e = refl
+relation_number-injective Yes No e = absurd (omega arith)
+relation_number-injective Yes Unknown e = absurd (omega arith)
+relation_number-injective No Yes e = absurd (omega arith)
+relation_number-injective No No e = refl
+relation_number-injective No Unknown e = absurd (omega arith)
+relation_number-injective Unknown Yes e = absurd (omega arith)
+relation_number-injective Unknown No e = absurd (omega arith)
+relation_number-injective Unknown Unknown e = refl
 
 module _ (v : View) where
   -- ---- whether all of a list have a record
 
-  all-recorded : (cs : List ℕ) → allRecorded v cs ≡ true → (c : ℕ) → Memᴰ c cs → v.recorded c ≡ true
-  unfolding allRecorded
+  all-recorded : (cs : List ℕ) → all_recorded v cs ≡ true → (c : ℕ) → Memᴰ c cs → v.recorded c ≡ true
+  unfolding all_recorded
   all-recorded [] e c m = absurd (Memᴰ.not-nil m)
   all-recorded (d ∷ cs) e c m = go (v.recorded d) refl e (all-recorded cs) (Memᴰ.cases_cons m)
     where
-      go : (t : Bool) → v.recorded d ≡ t → (t && allRecorded v cs) ≡ true → (allRecorded v cs ≡ true → (c : ℕ) → Memᴰ c cs → v.recorded c ≡ true)
+      go : (t : Bool) → v.recorded d ≡ t → (t && all_recorded v cs) ≡ true → (all_recorded v cs ≡ true → (c : ℕ) → Memᴰ c cs → v.recorded c ≡ true)
           → (c ≡ d) ⊎ Memᴰ c cs → v.recorded c ≡ true
       go true q f ih (inl k) = ap v.recorded k ∙ q
       go true q f ih (inr r) = ih f c r
       go false q f ih w = absurd (false≢true f)
 
-  one-unrecorded : (cs : List ℕ) → allRecorded v cs ≡ false → (c : ℕ) × Memᴰ c cs × (v.recorded c ≡ false)
-  unfolding allRecorded
+  one-unrecorded : (cs : List ℕ) → all_recorded v cs ≡ false → (c : ℕ) × Memᴰ c cs × (v.recorded c ≡ false)
+  unfolding all_recorded
   one-unrecorded [] e = absurd (true≢false e)
   one-unrecorded (d ∷ cs) e = go (v.recorded d) refl e (one-unrecorded cs)
     where
-      go : (t : Bool) → v.recorded d ≡ t → (t && allRecorded v cs) ≡ false → (allRecorded v cs ≡ false → (c : ℕ) × Memᴰ c cs × (v.recorded c ≡ false))
+      go : (t : Bool) → v.recorded d ≡ t → (t && all_recorded v cs) ≡ false → (all_recorded v cs ≡ false → (c : ℕ) × Memᴰ c cs × (v.recorded c ≡ false))
           → (c : ℕ) × Memᴰ c (d ∷ cs) × (v.recorded c ≡ false)
       go true q f ih = let w = ih f in (w.0, Memᴰ.tail w.1, w.2)
       go false q f ih = (d, Memᴰ.head refl, q)
@@ -92,11 +92,11 @@ module _ (v : View) where
 
   -- source and target may be exchanged
   pub cast-swap : (s t : ℕ) → cast v s t ≡ cast v t s
-  unfolding cast castByFacts
+  unfolding cast cast_by_facts
   cast-swap s t = go (ancestor v s t) (ancestor v t s) (v.declared s) (v.declared t) (v.interface s) (v.interface t)
     where
       go : (a b d e i j : Bool)
-          → ((a || b) || ((d && e) && castByFacts i (v.final s) j (v.final t))) ≡ ((b || a) || ((e && d) && castByFacts j (v.final t) i (v.final s)))
+          → ((a || b) || ((d && e) && cast_by_facts i (v.final s) j (v.final t))) ≡ ((b || a) || ((e && d) && cast_by_facts j (v.final t) i (v.final s)))
       go true true d e i j = refl
       go true false d e i j = refl
       go false true d e i j = refl
@@ -122,12 +122,12 @@ module _ (v : View) (g : Good v) (x : ℕ) (h : x < v.names) where
       back true e all = refl
       back false e all =
           let w = one-unrecorded v (members (at (reached v x)) 0 1024) e in
-          absurd (true≢false (sym (all w.0 (members_only (reached v x) 1024 w.0 w.1)) ∙ w.2))
+          absurd (true≢false (sym (all w.0 (members-only (reached v x) 1024 w.0 w.1)) ∙ w.2))
 
   pub incomplete-exactly : (complete v x ≡ false) ↔ ((c : ℕ) × (reach v x c ≡ true) × (v.recorded c ≡ false))
   unfolding complete reach
   incomplete-exactly = (
-    λ e. let w = one-unrecorded v (members (at (reached v x)) 0 1024) e in (w.0, members_only (reached v x) 1024 w.0 w.1, w.2),
+    λ e. let w = one-unrecorded v (members (at (reached v x)) 0 1024) e in (w.0, members-only (reached v x) 1024 w.0 w.1, w.2),
     λ w. back (complete v x) refl w,
   )
     where

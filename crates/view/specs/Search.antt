@@ -17,7 +17,7 @@ use Rattle.view.specs.declared.Relation.TheVariants.{Yes, No, Unknown}
 use Rattle.view.specs.View.{View, reach, ancestor, complete, relation}
 use Rattle.view.specs.Reach.{Good, Path, here, there, path-reach, reach-path, reach-refl, reach-parent, reach-induction}
 use Rattle.view.specs.Ancestors.{ancestor-self, reach-ancestor}
-use Rattle.view.specs.Loops.{contains, search, subtypeRelation}
+use Rattle.view.specs.Loops.{contains, search, subtype_relation}
 use Rattle.view.specs.Walk.{computed-ancestor}
 use Rattle.view.specs.Relations.{complete-exactly, incomplete-exactly}
 
@@ -56,16 +56,16 @@ module _ (v : View) (g : Good v) (bare : (c : ℕ) → v.recorded c ≡ false �
   answer = cond (reach v x y) Yes (cond (complete v x) No Unknown)
 
   -- what is reached and is not x is a parent of something reached
-  last_step : reach v x y ≡ true → (c : ℕ) × (reach v x c ≡ true) × Memᴰ y (v.parents c)
-  last_step m = go (reach-path v g x hx y m).2 apart
+  last-step : reach v x y ≡ true → (c : ℕ) × (reach v x c ≡ true) × Memᴰ y (v.parents c)
+  last-step m = go (reach-path v g x hx y m).2 apart
     where
       go : {z n : ℕ} → Path v x z n → (x ≡ z → ⊥) → (c : ℕ) × (reach v x c ≡ true) × Memᴰ z (v.parents c)
       go here n = absurd (n refl)
       go (there {y = c} a q) n = (c, path-reach v g x hx a, q)
 
   -- with nothing pending all that is reached is visited
-  all_seen : {seen : List ℕ} {incomplete : Bool} → Between v x y seen [] incomplete → (c : ℕ) → reach v x c ≡ true → Memᴰ c seen
-  all_seen {seen} b =
+  all-seen : {seen : List ℕ} {incomplete : Bool} → Between v x y seen [] incomplete → (c : ℕ) → reach v x c ≡ true → Memᴰ c seen
+  all-seen {seen} b =
       reach-induction v g x hx (λ c. Memᴰ c seen) (⊎_elim (λ m. m) (λ m. absurd (Memᴰ.not-nil m)) b.begun)
       (λ c p m k q. ⊎_elim (λ r. r) (λ r. absurd (Memᴰ.not-nil r)) (b.closed c p k q).0)
 
@@ -74,14 +74,14 @@ module _ (v : View) (g : Good v) (bare : (c : ℕ) → v.recorded c ≡ false �
   ended seen incomplete b = go incomplete refl b ∙ ap (λ (t : Bool). cond t Yes (cond (complete v x) No Unknown)) (sym (away (reach v x y) refl))
     where
       away : (t : Bool) → reach v x y ≡ t → t ≡ false
-      away true m = absurd (let w = last_step m in (b.closed w.0 y (all_seen b w.0 w.1) w.2).1 refl)
+      away true m = absurd (let w = last-step m in (b.closed w.0 y (all-seen b w.0 w.1) w.2).1 refl)
       away false m = refl
 
       go : (t : Bool) → incomplete ≡ t → Between v x y seen [] incomplete → cond t Unknown No ≡ cond (complete v x) No Unknown
       go true e k =
           let w = k.lacking e in
           sym (ap (λ (t : Bool). cond t No Unknown) ((incomplete-exactly v g x hx).1 (w.0, k.seen-reached w.0 w.1, w.2)))
-      go false e k = sym (ap (λ (t : Bool). cond t No Unknown) ((complete-exactly v g x hx).1 (λ c m. k.lacking-none e c (all_seen k c m))))
+      go false e k = sym (ap (λ (t : Bool). cond t No Unknown) ((complete-exactly v g x hx).1 (λ c m. k.lacking-none e c (all-seen k c m))))
 
   -- ---- each way that a turn goes keeps what holds
 
@@ -185,12 +185,12 @@ module _ (v : View) (g : Good v) (y : ℕ) where
   InTable pending = (c : ℕ) → Memᴰ c pending → c < v.names
 
   -- with m names or more not visited, if it ends with fewer
-  ends_next : (m : ℕ) → ((seen pending : List ℕ) (incomplete : Bool) → InTable pending → tally (unseen seen) v.names < m → Ends seen pending incomplete)
+  ends-next : (m : ℕ) → ((seen pending : List ℕ) (incomplete : Bool) → InTable pending → tally (unseen seen) v.names < m → Ends seen pending incomplete)
       → (seen pending : List ℕ) (incomplete : Bool) → InTable pending → tally (unseen seen) v.names < suc m → Ends seen pending incomplete
   unfolding Ends InTable search
-  ends_next m ih seen [] incomplete inside l = (0, cond incomplete Unknown No, refl)
-  ends_next m ih seen (c ∷ pending) incomplete inside l =
-      go (contains seen c) refl (v.recorded c) refl (contains (v.parents c) y) refl (ends_next m ih seen pending incomplete (λ d k. inside d (Memᴰ.tail k)) l)
+  ends-next m ih seen [] incomplete inside l = (0, cond incomplete Unknown No, refl)
+  ends-next m ih seen (c ∷ pending) incomplete inside l =
+      go (contains seen c) refl (v.recorded c) refl (contains (v.parents c) y) refl (ends-next m ih seen pending incomplete (λ d k. inside d (Memᴰ.tail k)) l)
     where
       hc : c < v.names
       hc = inside c (Memᴰ.head refl)
@@ -210,9 +210,9 @@ module _ (v : View) (g : Good v) (y : ℕ) where
           let e = ih (c ∷ seen) pending true (λ d z. inside d (Memᴰ.tail z)) (omega arith) in
           (suc e.0, e.1, rw (p, q) e.2)
 
-  ends_with : (m : ℕ) (seen pending : List ℕ) (incomplete : Bool) → InTable pending → tally (unseen seen) v.names < m → Ends seen pending incomplete
-  ends_with zero seen pending incomplete inside l = absurd (omega arith)
-  ends_with (suc m) seen pending incomplete inside l = ends_next m (ends_with m) seen pending incomplete inside l
+  ends-with : (m : ℕ) (seen pending : List ℕ) (incomplete : Bool) → InTable pending → tally (unseen seen) v.names < m → Ends seen pending incomplete
+  ends-with zero seen pending incomplete inside l = absurd (omega arith)
+  ends-with (suc m) seen pending incomplete inside l = ends-next m (ends-with m) seen pending incomplete inside l
 
 -- ---- THE WHOLE QUESTION: some number of turns is enough, and what comes out is `relation`
 
@@ -232,8 +232,8 @@ module _ (v : View) (g : Good v) (bare : (c : ℕ) → v.recorded c ≡ false �
       })
       e
 
-  pub computed-relation : (n : ℕ) (r : Relation) → subtypeRelation v x y n ≡ some r → r ≡ relation v x y
-  unfolding subtypeRelation relation
+  pub computed-relation : (n : ℕ) (r : Relation) → subtype_relation v x y n ≡ some r → r ≡ relation v x y
+  unfolding subtype_relation relation
   computed-relation n r e = go (ancestor v x y) refl (ap (λ (t : Bool). cond t (some Yes) (search v y n [] (x ∷ []) false)) (sym (computed-ancestor v g x hx y)) ∙ e)
     where
       go : (t : Bool) → ancestor v x y ≡ t → cond t (some Yes) (search v y n [] (x ∷ []) false) ≡ some r → r ≡ cond t Yes (cond (complete v x) No Unknown)
@@ -246,19 +246,19 @@ module _ (v : View) (g : Good v) (bare : (c : ℕ) → v.recorded c ≡ false �
           away true m = absurd (true≢false (sym (reach-ancestor v x y m) ∙ a))
           away false m = refl
 
-  pub computed-relation-ends : (n : ℕ) × (subtypeRelation v x y n ≡ some (relation v x y))
-  unfolding subtypeRelation Ends InTable
+  pub computed-relation-ends : (n : ℕ) × (subtype_relation v x y n ≡ some (relation v x y))
+  unfolding subtype_relation Ends InTable
   computed-relation-ends = go (ancestor v x y) refl
     where
       w : (n : ℕ) × (r : Relation) × (search v y n [] (x ∷ []) false ≡ some r)
       w =
-          ends_with v g y (suc (tally (unseen []) v.names)) [] (x ∷ []) false
+          ends-with v g y (suc (tally (unseen []) v.names)) [] (x ∷ []) false
           (λ c m. ⊎_elim (λ q. subst (λ (z : ℕ). z < v.names) (sym q) hx) (λ k. absurd (Memᴰ.not-nil k)) (Memᴰ.cases_cons m))
           (omega arith)
 
-      told : (n : ℕ) (r : Relation) → subtypeRelation v x y n ≡ some r → (n : ℕ) × (subtypeRelation v x y n ≡ some (relation v x y))
+      told : (n : ℕ) (r : Relation) → subtype_relation v x y n ≡ some r → (n : ℕ) × (subtype_relation v x y n ≡ some (relation v x y))
       told n r e = (n, e ∙ ap some (computed-relation n r e))
 
-      go : (t : Bool) → ancestor v x y ≡ t → (n : ℕ) × (subtypeRelation v x y n ≡ some (relation v x y))
+      go : (t : Bool) → ancestor v x y ≡ t → (n : ℕ) × (subtype_relation v x y n ≡ some (relation v x y))
       go true a = told 0 Yes (ap (λ (t : Bool). cond t (some Yes) (search v y 0 [] (x ∷ []) false)) (computed-ancestor v g x hx y ∙ a))
       go false a = told w.0 w.1 (ap (λ (t : Bool). cond t (some Yes) (search v y w.0 [] (x ∷ []) false)) (computed-ancestor v g x hx y ∙ a) ∙ w.2)

@@ -11,12 +11,12 @@ use Rattle.std.proofs.Math.Option.{some}
 use Prim.Native.Nat.{ℕ, zero, suc, ◌+◌, ◌-◌, ◌≤◌, ◌<◌}
 use native.Mathlib.Omega.{arith}
 use Rattle.sets.specs.Sets.{at, member, intersect, keep, members}
-use Rattle.sets.specs.Laws.{at_lt, at_none, member-intersect}
+use Rattle.sets.specs.Laws.{at-lt, at-none, member-intersect}
 use Rattle.view.specs.View.{View, ancestor, ancestors, common, below, lowest, nearer, nearest, numbers, candidates, supertype}
 use Rattle.view.specs.Reach.{Good, Path}
 use Rattle.view.specs.Ancestors.{ancestor-self, ancestor-object, ancestor-below, ancestor-antisymmetric, ancestors-formed, ancestors-member}
-use Rattle.view.specs.Below.{below-not, anyBelow-false, anyBelow-none, lowest-has, lowest-only, some-lowest}
-use Rattle.view.specs.Nearest.{nearest-some, nearest_in, nearest-least, nearest-swap}
+use Rattle.view.specs.Below.{below-not, any_below-false, any_below-none, lowest-has, lowest-only, some-lowest}
+use Rattle.view.specs.Nearest.{nearest-some, nearest-in, nearest-least, nearest-swap}
 
 -- an ancestor of both
 abbrev pub Common : View → ℕ → ℕ → ℕ → Type 0
@@ -147,7 +147,7 @@ module _ (v : View) (g : Good v) (left right : ℕ) (hl : left < v.names) (hr : 
   pub candidates-set : candidates v left right ≡ members (at (intersect (ancestors v left) (ancestors v right))) 0 1024
   unfolding candidates member
   candidates-set =
-      common-members v left right f same (at_lt both) 0 v.names
+      common-members v left right f same (at-lt both) 0 v.names
       ∙ sym (members-few f 0 v.names (1024 - v.names) (λ j l. past j (omega arith)))
       ∙ ap (members f 0) (let few = g.few in let e : v.names + (1024 - v.names) ≡ 1024 = omega arith in e)
     where
@@ -168,10 +168,10 @@ module _ (v : View) (g : Good v) (left right : ℕ) (hl : left < v.names) (hr : 
         where
           go : (t : Bool) → member both j ≡ t → at both j ≡ 0
           go true m = absurd (let b = ancestor-below v g left j hl ((and-eq-true_iff (ancestor v left j) (ancestor v right j)).0 (same j ∙ m)).0 in omega arith)
-          go false m = at_none both j m
+          go false m = at-none both j m
 
-  below_both : (c d : ℕ) → Memᴰ c (lowest v (candidates v left right) (candidates v left right)) → Memᴰ d (candidates v left right) → below v d c ≡ false
-  below_both c d m k = anyBelow-false v (candidates v left right) c (lowest-only v (candidates v left right) (candidates v left right) c m).1 d k
+  below-both : (c d : ℕ) → Memᴰ c (lowest v (candidates v left right) (candidates v left right)) → Memᴰ d (candidates v left right) → below v d c ≡ false
+  below-both c d m k = any_below-false v (candidates v left right) c (lowest-only v (candidates v left right) (candidates v left right) c m).1 d k
 
   -- NEVER NONE
   pub supertype-some : (c : ℕ) × (supertype v left right ≡ some c)
@@ -203,8 +203,8 @@ module _ (v : View) (g : Good v) (left right : ℕ) (hl : left < v.names) (hr : 
           subst (λ (z : ℕ). Common v left right z × Lowest v left right z) e
           ((ancestor-self v left, b), λ d w. below-not v d left w.0)
       go false a false b =
-          let m = nearest_in v left right (lowest v (candidates v left right) (candidates v left right)) c (sym (supertype-other v left right a b) ∙ h) in
-          ((candidates-exactly c).0 (lowest-only v (candidates v left right) (candidates v left right) c m).0, λ d w. below_both c d m ((candidates-exactly d).1 w))
+          let m = nearest-in v left right (lowest v (candidates v left right) (candidates v left right)) c (sym (supertype-other v left right a b) ∙ h) in
+          ((candidates-exactly c).0 (lowest-only v (candidates v left right) (candidates v left right) c m).0, λ d w. below-both c d m ((candidates-exactly d).1 w))
 
   -- AND THE NEAREST of the common ancestors with none strictly below, where neither of the two is an ancestor of the other
   pub supertype-nearest : ancestor v left right ≡ false → ancestor v right left ≡ false → (c : ℕ) → supertype v left right ≡ some c
@@ -212,7 +212,7 @@ module _ (v : View) (g : Good v) (left right : ℕ) (hl : left < v.names) (hr : 
   supertype-nearest a b c h d w free =
       nearest-least v left right (lowest v (candidates v left right) (candidates v left right)) c (sym (supertype-other v left right a b) ∙ h) d
       (lowest-has v (candidates v left right) (candidates v left right) d ((candidates-exactly d).1 w)
-      (anyBelow-none v (candidates v left right) d (λ e k. free e ((candidates-exactly e).0 k))))
+      (any_below-none v (candidates v left right) d (λ e k. free e ((candidates-exactly e).0 k))))
 
   -- IN A TABLE WITHOUT CYCLES and without parents of Object the order of the two never matters
   pub supertype-symmetric : ((c n : ℕ) → Path v c c (suc n) → ⊥) → v.parents v.object ≡ [] → supertype v left right ≡ supertype v right left

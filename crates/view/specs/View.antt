@@ -18,18 +18,18 @@ pub record View : Type 0 where
 -- ---- compute_distances: breadth first from the start at 0, level by level
 
 -- a set with the members of a list
-unfoldable pub insertAll : List ℕ → List ℕ → List ℕ
-insertAll s [] = s
-insertAll s (p ∷ ps) = insertAll (insert s p) ps
+unfoldable pub insert_all : List ℕ → List ℕ → List ℕ
+insert_all s [] = s
+insert_all s (p ∷ ps) = insert_all (insert s p) ps
 
 -- a set with the parents of each class of a list
-unfoldable pub withParents : View → List ℕ → List ℕ → List ℕ
-withParents v s [] = s
-withParents v s (c ∷ cs) = withParents v (insertAll s (v.parents c)) cs
+unfoldable pub with_parents : View → List ℕ → List ℕ → List ℕ
+with_parents v s [] = s
+with_parents v s (c ∷ cs) = with_parents v (insert_all s (v.parents c)) cs
 
 -- a set with the parents of its members
 unfoldable pub grow : View → List ℕ → List ℕ
-grow v s = withParents v s (members (at s) 0 1024)
+grow v s = with_parents v s (members (at s) 0 1024)
 
 -- what is reached from a class in at most n steps to a parent
 unfoldable pub level : View → ℕ → ℕ → List ℕ
@@ -67,34 +67,34 @@ ancestor v value expected = eqb value expected || (eqb expected v.object || reac
 -- ---- subtype_relation
 
 -- whether each of a list of classes has a record
-unfoldable pub allRecorded : View → List ℕ → Bool
-allRecorded v [] = true
-allRecorded v (c ∷ cs) = v.recorded c && allRecorded v cs
+unfoldable pub all_recorded : View → List ℕ → Bool
+all_recorded v [] = true
+all_recorded v (c ∷ cs) = v.recorded c && all_recorded v cs
 
 unfoldable pub complete : View → ℕ → Bool
-complete v x = allRecorded v (members (at (reached v x)) 0 1024)
+complete v x = all_recorded v (members (at (reached v x)) 0 1024)
 
 unfoldable pub relation : View → ℕ → ℕ → Relation
 relation v value expected = cond (ancestor v value expected) Yes (cond (complete v value) No Unknown)
 
-unfoldable pub relationNumber : Relation → ℕ
-relationNumber Yes = 0
-relationNumber No = 1
-relationNumber Unknown = 2
+unfoldable pub relation_number : Relation → ℕ
+relation_number Yes = 0
+relation_number No = 1
+relation_number Unknown = 2
 
 -- ---- is_cast_convertible
 
 -- by the declared facts: interface and final of the source, then of the target
-unfoldable pub castByFacts : Bool → Bool → Bool → Bool → Bool
-castByFacts true sourceFinal true targetFinal = true
-castByFacts true sourceFinal false targetFinal = not targetFinal
-castByFacts false sourceFinal true targetFinal = not sourceFinal
-castByFacts false sourceFinal false targetFinal = false
+unfoldable pub cast_by_facts : Bool → Bool → Bool → Bool → Bool
+cast_by_facts true source_final true target_final = true
+cast_by_facts true source_final false target_final = not target_final
+cast_by_facts false source_final true target_final = not source_final
+cast_by_facts false source_final false target_final = false
 
 unfoldable pub cast : View → ℕ → ℕ → Bool
 cast v source target =
     (ancestor v source target || ancestor v target source)
-    || ((v.declared source && v.declared target) && castByFacts (v.interface source) (v.final source) (v.interface target) (v.final target))
+    || ((v.declared source && v.declared target) && cast_by_facts (v.interface source) (v.final source) (v.interface target) (v.final target))
 
 -- ---- least_common_supertype
 
@@ -111,23 +111,23 @@ common v left right (c ∷ cs) = cond (ancestor v left c && ancestor v right c) 
 unfoldable pub below : View → ℕ → ℕ → Bool
 below v d c = not (eqb d c) && (ancestor v d c && not (ancestor v c d))
 
-unfoldable pub anyBelow : View → List ℕ → ℕ → Bool
-anyBelow v [] c = false
-anyBelow v (d ∷ ds) c = below v d c || anyBelow v ds c
+unfoldable pub any_below : View → List ℕ → ℕ → Bool
+any_below v [] c = false
+any_below v (d ∷ ds) c = below v d c || any_below v ds c
 
 -- the candidates of a list with none of `all` strictly below
 unfoldable pub lowest : View → List ℕ → List ℕ → List ℕ
 lowest v all [] = []
-lowest v all (c ∷ cs) = cond (anyBelow v all c) (lowest v all cs) (c ∷ lowest v all cs)
+lowest v all (c ∷ cs) = cond (any_below v all c) (lowest v all cs) (c ∷ lowest v all cs)
 
 -- a candidate's distance; of an ancestor it is there
-abbrev pub distanceOr : Option ℕ → ℕ
-distanceOr none = far
-distanceOr (some n) = n
+abbrev pub distance_or : Option ℕ → ℕ
+distance_or none = far
+distance_or (some n) = n
 
 -- whether c comes before d: greater distance, sum of the distances, number
 unfoldable pub nearer : View → ℕ → ℕ → ℕ → ℕ → Bool
-nearer v left right c d = by (distanceOr (distance v left c)) (distanceOr (distance v right c)) (distanceOr (distance v left d)) (distanceOr (distance v right d))
+nearer v left right c d = by (distance_or (distance v left c)) (distance_or (distance v right c)) (distance_or (distance v left d)) (distance_or (distance v right d))
   where
     by : ℕ → ℕ → ℕ → ℕ → Bool
     by lc rc ld rd =

@@ -13,12 +13,12 @@ use native.Mathlib.Omega.{arith}
 use Rattle.std.proofs.Math.Dec.{eqb}
 use Rattle.sets.specs.Sets.{at, members, tally}
 use Rattle.sets.specs.Bits.{tally-ext, tally-more, tally-bound, tally-none}
-use Rattle.sets.specs.Laws.{at_none, count-tally}
+use Rattle.sets.specs.Laws.{at-none, count-tally}
 use Rattle.view.specs.View.{View, reach, steps, far, distance, ancestor, ancestors}
-use Rattle.view.specs.Loops.{Entry, entry, State, lookup, enter, visit, turns, walk, orInsert, computeDistances, present, recordedAncestor}
+use Rattle.view.specs.Loops.{Entry, entry, State, lookup, enter, visit, turns, walk, or_insert, compute_distances, present, recorded_ancestor}
 use Rattle.view.specs.Grow.{count-first}
 use Rattle.view.specs.Reach.{Good, Path, here, there, path-below, path-reach, reach-path, steps-exactly}
-use Rattle.view.specs.Ancestors.{ancestor-below, ancestors-member, ancestors-at, distance_none}
+use Rattle.view.specs.Ancestors.{ancestor-below, ancestors-member, ancestors-at, distance-none}
 
 -- ---- the map
 
@@ -251,9 +251,9 @@ module _ (v : View) (g : Good v) (x : ℕ) (hx : x < v.names) where
       })
       (omega arith)
 
-  pub walk_ends : (walk v x).pending ≡ []
+  pub walk-ends : (walk v x).pending ≡ []
   unfolding Ended
-  walk_ends = walk-ended.0
+  walk-ends = walk-ended.0
 
   -- ---- THE MAP has what is reached, at the least number of steps
 
@@ -264,7 +264,7 @@ module _ (v : View) (g : Good v) (x : ℕ) (hx : x < v.names) where
     where
       go : (n : ℕ) × (lookup (walk v x).distances y ≡ some n) → (n : ℕ) × (lookup (walk v x).distances p ≡ some n)
       go s =
-          ⊎_elim (λ m. absurd (Memᴰ.not-nil (subst (Memᴰ (entry y s.0)) walk_ends m)))
+          ⊎_elim (λ m. absurd (Memᴰ.not-nil (subst (Memᴰ (entry y s.0)) walk-ends m)))
           (λ f. ⊎_elim (λ r. r) (λ z. absurd (Memᴰ.not-nil z.1)) (f p q))
           (walk-ended.1.2.done y s.0 s.1)
 
@@ -284,8 +284,8 @@ module _ (v : View) (g : Good v) (x : ℕ) (hx : x < v.names) where
       go false m = absent m (lookup (walk v x).distances y) refl
 
   -- THE RESULT: with Object's entry these are the distances
-  pub computed-distances : (y : ℕ) → lookup (computeDistances v x) y ≡ distance v x y
-  unfolding computeDistances distance
+  pub computed-distances : (y : ℕ) → lookup (compute_distances v x) y ≡ distance v x y
+  unfolding compute_distances distance
   computed-distances y = go (lookup (walk v x).distances v.object) refl (ℕ_discrete y v.object)
     where
       es : List Entry
@@ -303,7 +303,7 @@ module _ (v : View) (g : Good v) (x : ℕ) (hx : x < v.names) where
       far-off true e q = absurd (let z : ◌≡◌ {A = ℕ} 0 1 = cc in omega arith)
       far-off false e q = sym (ap (λ (t : Bool). cond t (some far) none) q)
 
-      go : (o : Option ℕ) → lookup es v.object ≡ o → Dec (y ≡ v.object) → lookup (orInsert v o es) y ≡ cond (reach v x y) (some (steps v x y)) (cond (eqb y v.object) (some far) none)
+      go : (o : Option ℕ) → lookup es v.object ≡ o → Dec (y ≡ v.object) → lookup (or_insert v o es) y ≡ cond (reach v x y) (some (steps v x y)) (cond (eqb y v.object) (some far) none)
       go (some k) e (yes q) = walk-distances y ∙ found k (reach v x y) (sym (walk-distances y) ∙ ap (lookup es) q ∙ e)
       go (some k) e (no n) = walk-distances y ∙ plain (reach v x y) (ne_eqb y v.object n)
       go none e (yes q) =
@@ -312,14 +312,14 @@ module _ (v : View) (g : Good v) (x : ℕ) (hx : x < v.names) where
       go none e (no n) = lookup-other v.object far y es (λ q. n (sym q)) ∙ walk-distances y ∙ plain (reach v x y) (ne_eqb y v.object n)
 
   -- `ancestor_names` has as many as the set of ancestors: the map has each key once
-  computed-counted : length (computeDistances v x) ≡ tally (λ y. mark (lookup (computeDistances v x) y)) v.names
-  unfolding computeDistances Ended
+  computed-counted : length (compute_distances v x) ≡ tally (λ y. mark (lookup (compute_distances v x) y)) v.names
+  unfolding compute_distances Ended
   computed-counted = go (lookup es v.object) refl
     where
       es : List Entry
       es = (walk v x).distances
 
-      go : (o : Option ℕ) → lookup es v.object ≡ o → length (orInsert v o es) ≡ tally (λ y. mark (lookup (orInsert v o es) y)) v.names
+      go : (o : Option ℕ) → lookup es v.object ≡ o → length (or_insert v o es) ≡ tally (λ y. mark (lookup (or_insert v o es) y)) v.names
       go (some k) e = walk-ended.1.2.counted
       go none e =
           ap suc walk-ended.1.2.counted
@@ -332,21 +332,21 @@ module _ (v : View) (g : Good v) (x : ℕ) (hx : x < v.names) where
   marked y = go (ancestor v x y) refl (distance v x y) refl
     where
       go : (t : Bool) → ancestor v x y ≡ t → (o : Option ℕ) → distance v x y ≡ o → mark o ≡ at (ancestors v x) y
-      go true a none e = absurd (true≢false (sym a ∙ (distance_none v g x hx y).0 e))
+      go true a none e = absurd (true≢false (sym a ∙ (distance-none v g x hx y).0 e))
       go true a (some n) e = sym ((ancestors-at v g x hx y).1 a)
-      go false a none e = sym (at_none (ancestors v x) y (ancestors-member v g x hx y ∙ a))
-      go false a (some n) e = absurd (let q = (distance_none v g x hx y).1 a in let z : ◌≡◌ {A = ℕ} 0 1 = cc in omega arith)
+      go false a none e = sym (at-none (ancestors v x) y (ancestors-member v g x hx y ∙ a))
+      go false a (some n) e = absurd (let q = (distance-none v g x hx y).1 a in let z : ◌≡◌ {A = ℕ} 0 1 = cc in omega arith)
 
-  pub computed-count : length (computeDistances v x) ≡ length (members (at (ancestors v x)) 0 1024)
+  pub computed-count : length (compute_distances v x) ≡ length (members (at (ancestors v x)) 0 1024)
   computed-count =
       computed-counted
-      ∙ tally-ext (λ y. mark (lookup (computeDistances v x) y)) (at (ancestors v x)) v.names (λ y l. ap mark (computed-distances y) ∙ marked y)
+      ∙ tally-ext (λ y. mark (lookup (compute_distances v x) y)) (at (ancestors v x)) v.names (λ y l. ap mark (computed-distances y) ∙ marked y)
       ∙ sym (count-first (ancestors v x) v.names g.few (λ y m. ancestor-below v g x y hx (sym (ancestors-member v g x hx y) ∙ m)))
       ∙ sym (count-tally (ancestors v x) 1024)
 
   -- and the test for an ancestor, over them, is `ancestor`
-  pub computed-ancestor : (y : ℕ) → recordedAncestor v x y ≡ ancestor v x y
-  unfolding recordedAncestor ancestor distance
+  pub computed-ancestor : (y : ℕ) → recorded_ancestor v x y ≡ ancestor v x y
+  unfolding recorded_ancestor ancestor distance
   computed-ancestor y = ap (λ (o : Option ℕ). (eqb x y || eqb y v.object) || present o) (computed-distances y) ∙ go (eqb x y) (eqb y v.object) (reach v x y)
     where
       go : (s t r : Bool) → ((s || t) || present (cond r (some (steps v x y)) (cond t (some far) none))) ≡ (s || (t || r))

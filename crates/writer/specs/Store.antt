@@ -20,12 +20,12 @@ pub put-length : {bytes out out' : List ℕ} {at end : ℕ} → Put bytes out ou
 put-length {bytes} {out} {at} p = ap length p.stored ∙ length-sets out at bytes
 
 -- by the number of bytes
-pub put_of : {bytes out out' : List ℕ} {at n : ℕ} → length bytes ≡ n → out' ≡ sets out at bytes → Put bytes out out' at (at + n)
-put_of {at} e s = record { next = ap (λ (k : ℕ). at + k) (sym e); stored = s }
+pub put-of : {bytes out out' : List ℕ} {at n : ℕ} → length bytes ≡ n → out' ≡ sets out at bytes → Put bytes out out' at (at + n)
+put-of {at} e s = record { next = ap (λ (k : ℕ). at + k) (sym e); stored = s }
 
 -- the same bytes, put otherwise
-pub put_as : {xs ys out out' : List ℕ} {at end : ℕ} → ys ≡ xs → Put xs out out' at end → Put ys out out' at end
-put_as e p = record { next = rw e p.next; stored = rw e p.stored }
+pub put-as : {xs ys out out' : List ℕ} {at end : ℕ} → ys ≡ xs → Put xs out out' at end → Put ys out out' at end
+put-as e p = record { next = rw e p.next; stored = rw e p.stored }
 
 -- one list after another: what is left to store
 pub put-before : {xs out out' : List ℕ} {at end : ℕ} → Put xs out out' at end → (ys : List ℕ) → sets out at (xs ++ ys) ≡ sets out' end ys
@@ -42,8 +42,8 @@ pub put_byte : (b : ℕ) (out : List ℕ) (at : ℕ) → Put (b ∷ []) out (set
 put_byte b out at = record { next = refl; stored = refl }
 
 -- from the first byte on
-pub put_whole : {bytes out out' : List ℕ} {end : ℕ} → Put bytes out out' 0 end → length bytes ≤ length out → out' ≡ bytes ++ drop (length bytes) out
-put_whole {bytes} {out} p h =
+pub put-whole : {bytes out out' : List ℕ} {end : ℕ} → Put bytes out out' 0 end → length bytes ≤ length out → out' ≡ bytes ++ drop (length bytes) out
+put-whole {bytes} {out} p h =
     p.stored ∙ sets-eq bytes out 0 (let e : 0 + length bytes ≤ length out = omega arith in e) ∙ rw zero-add
 
 -- what is left to store after i of them: all, all but one more, none

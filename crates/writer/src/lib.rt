@@ -2,11 +2,11 @@
 ghost use Rattle.std.specs.Prelude.{◌≡◌, true, ◌+◌, ◌≤◌, length, take, drop, replicate};
 ghost use Rattle.std.proofs.lemmas.List.Edits.{sets};
 ghost use Rattle.text.specs.Text.{byte};
-ghost use Rattle.ty.specs.Words.{legalBase, legalWord, allLegal};
+ghost use Rattle.ty.specs.Words.{legal_base, legal_word, all_legal};
 ghost use Rattle.names.specs.Table.{Checked};
-ghost use Rattle.writer.specs.Print.{letterByte, printWord, printWords, printMethodWords, Wrote, checkedTypeRefusal, typeRefusal, MethodWrote, CheckedMethodWrote};
+ghost use Rattle.writer.specs.Print.{letter_byte, print_word, print_words, print_method_words, Wrote, checked_type_refusal, type_refusal, MethodWrote, CheckedMethodWrote};
 ghost use Rattle.writer.specs.Store.{Put};
-ghost use Rattle.writer.specs.Steps.{Short, classBytes, printBase, word_size, wordsSize, methodSize};
+ghost use Rattle.writer.specs.Steps.{Short, class_bytes, print_base, word_size, words_size, method_size};
 
 use names::check_names;
 use ty::{DIMENSION, NO_TYPE, TAG, are_legal, is_legal};
@@ -29,7 +29,7 @@ pub struct Written {
 // ---- lengths
 
 fn type_length(name_len: &[u64], word: u64) -> u64
-    requires { Short name_len.now × (legalWord (length name_len.now) word ≡ true) }
+    requires { Short name_len.now × (legal_word (length name_len.now) word ≡ true) }
     ensures { (result ≡ word_size name_len.now word) × (result ≤ 512) }
 {
     let dims = word / DIMENSION;
@@ -42,8 +42,8 @@ fn type_length(name_len: &[u64], word: u64) -> u64
 }
 
 fn types_length(name_len: &[u64], words: &[u64]) -> u64
-    requires { Short name_len.now × (allLegal (length name_len.now) words.now ≡ true) × (length words.now ≤ 255) }
-    ensures { (result ≡ wordsSize name_len.now words.now) × (result ≤ 130560) }
+    requires { Short name_len.now × (all_legal (length name_len.now) words.now ≡ true) × (length words.now ≤ 255) }
+    ensures { (result ≡ words_size name_len.now words.now) × (result ≤ 130560) }
 {
     let mut n: u64 = 0;
     let mut i: usize = 0;
@@ -56,8 +56,8 @@ fn types_length(name_len: &[u64], words: &[u64]) -> u64
 
 // With the brackets around the parameters.
 fn method_length(name_len: &[u64], params: &[u64], res: u64) -> u64
-    requires { Short name_len.now × (allLegal (length name_len.now) params.now ≡ true) × (length params.now ≤ 255) × (legalWord (length name_len.now) res ≡ true) }
-    ensures { result ≡ methodSize name_len.now params.now res }
+    requires { Short name_len.now × (all_legal (length name_len.now) params.now ≡ true) × (length params.now ≤ 255) × (legal_word (length name_len.now) res ≡ true) }
+    ensures { result ≡ method_size name_len.now params.now res }
 {
     types_length(name_len, params) + type_length(name_len, res) + 2
 }
@@ -68,7 +68,7 @@ const LETTERS: [u8; 11] = *b"VZBSCIJFDL[";
 
 fn letter(category: u64) -> u8
     requires { category ≤ 10 }
-    ensures { result ≡ letterByte category }
+    ensures { result ≡ letter_byte category }
 {
     LETTERS[category as usize]
 }
@@ -99,7 +99,7 @@ fn put_bytes(bytes: &[u8], from: usize, n: usize, out: &mut [u8], at: usize)
 // A class by its name; what comes back here and below is the offset after it.
 fn put_class(bytes: &[u8], from: usize, n: usize, out: &mut [u8], at: usize) -> usize
     requires { (from + n ≤ length bytes.now) × (at + (n + 2) ≤ length out.old) }
-    ensures { Put (classBytes (take n (drop from bytes.now))) out.old out.new at result }
+    ensures { Put (class_bytes (take n (drop from bytes.now))) out.old out.new at result }
 {
     out[at] = b'L';
     put_bytes(bytes, from, n, out, at + 1);
@@ -118,8 +118,8 @@ fn put_base(
     out: &mut [u8],
     at: usize,
 ) -> usize
-    requires { Checked names.now name_at.now name_len.now × (legalBase (length name_at.now) tag load ≡ true) × (at + length (printBase names.now name_at.now name_len.now tag load) ≤ length out.old) }
-    ensures { Put (printBase names.now name_at.now name_len.now tag load) out.old out.new at result }
+    requires { Checked names.now name_at.now name_len.now × (legal_base (length name_at.now) tag load ≡ true) × (at + length (print_base names.now name_at.now name_len.now tag load) ≤ length out.old) }
+    ensures { Put (print_base names.now name_at.now name_len.now tag load) out.old out.new at result }
 {
     if tag == 0 {
         out[at] = letter(load);
@@ -144,8 +144,8 @@ fn put_type(
     out: &mut [u8],
     at: usize,
 ) -> usize
-    requires { Checked names.now name_at.now name_len.now × (legalWord (length name_at.now) word ≡ true) × (at + length (printWord names.now name_at.now name_len.now word) ≤ length out.old) }
-    ensures { Put (printWord names.now name_at.now name_len.now word) out.old out.new at result }
+    requires { Checked names.now name_at.now name_len.now × (legal_word (length name_at.now) word ≡ true) × (at + length (print_word names.now name_at.now name_len.now word) ≤ length out.old) }
+    ensures { Put (print_word names.now name_at.now name_len.now word) out.old out.new at result }
 {
     let dims = (word / DIMENSION) as usize;
     let tag = word / TAG % 256;
@@ -163,8 +163,8 @@ fn put_types(
     out: &mut [u8],
     at: usize,
 ) -> usize
-    requires { Checked names.now name_at.now name_len.now × (allLegal (length name_at.now) words.now ≡ true) × (at + length (printWords names.now name_at.now name_len.now words.now) ≤ length out.old) }
-    ensures { Put (printWords names.now name_at.now name_len.now words.now) out.old out.new at result }
+    requires { Checked names.now name_at.now name_len.now × (all_legal (length name_at.now) words.now ≡ true) × (at + length (print_words names.now name_at.now name_len.now words.now) ≤ length out.old) }
+    ensures { Put (print_words names.now name_at.now name_len.now words.now) out.old out.new at result }
 {
     let mut next = at;
     let mut i: usize = 0;
@@ -184,8 +184,8 @@ fn put_method(
     res: u64,
     out: &mut [u8],
 ) -> usize
-    requires { Checked names.now name_at.now name_len.now × (allLegal (length name_at.now) params.now ≡ true) × (legalWord (length name_at.now) res ≡ true) × (length (printMethodWords names.now name_at.now name_len.now params.now res) ≤ length out.old) }
-    ensures { Put (printMethodWords names.now name_at.now name_len.now params.now res) out.old out.new 0 result }
+    requires { Checked names.now name_at.now name_len.now × (all_legal (length name_at.now) params.now ≡ true) × (legal_word (length name_at.now) res ≡ true) × (length (print_method_words names.now name_at.now name_len.now params.now res) ≤ length out.old) }
+    ensures { Put (print_method_words names.now name_at.now name_len.now params.now res) out.old out.new 0 result }
 {
     out[0] = b'(';
     let close = put_types(names, name_at, name_len, params, out, 1);
@@ -212,7 +212,7 @@ fn write_checked_type(
     out: &mut [u8],
 ) -> Written
     requires { Checked names.now name_at.now name_len.now }
-    ensures { Wrote (checkedTypeRefusal names.now name_at.now name_len.now word (length out.old)) (printWord names.now name_at.now name_len.now word) out.old out.new result }
+    ensures { Wrote (checked_type_refusal names.now name_at.now name_len.now word (length out.old)) (print_word names.now name_at.now name_len.now word) out.old out.new result }
 {
     if !is_legal(word, name_at.len() as u64) {
         return refused(NO_TYPE);
@@ -268,7 +268,7 @@ pub fn write_type(
     word: u64,
     out: &mut [u8],
 ) -> Written
-    ensures { Wrote (typeRefusal names.now name_at.now name_len.now word (length out.old)) (printWord names.now name_at.now name_len.now word) out.old out.new result }
+    ensures { Wrote (type_refusal names.now name_at.now name_len.now word (length out.old)) (print_word names.now name_at.now name_len.now word) out.old out.new result }
 {
     let refusal = check_names(names, name_at, name_len);
     if refusal != 0 {

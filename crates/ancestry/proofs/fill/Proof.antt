@@ -7,16 +7,16 @@ use lib.ListN.{length, length-replicate}
 use Rattle.sets.specs.Sets.{at, members, first}
 use Rattle.sets.specs.Bits.{first-le}
 use Rattle.sets.proofs.Good.{array-length}
-use Rattle.view.specs.Frontier.{left_less}
+use Rattle.view.specs.Frontier.{left-less}
 use Rattle.tables.specs.Table.{view_of, view-good}
-use Rattle.ancestry.specs.Rows.{rowsRoom}
-use Rattle.ancestry.specs.Closure.{Closing, closing-start, closing-next, closing_end}
+use Rattle.ancestry.specs.Rows.{rows_room}
+use Rattle.ancestry.specs.Closure.{Closing, closing-start, closing-next, closing-end}
 use Rattle.ancestry.proofs.fill.Statement.{statement}
 use Rattle.ancestry.proofs.fill.Tie as tie
 
 abbrev invariant-loop : tie.invariant-loop
 invariant-loop pairs marks t rows₀ left₀ k₀ rows left k =
-    (k ≡ first (at left.words) 1024) × (t.names ≤ 1024) × (length rows ≡ rowsRoom) × (length left₀.words ≡ 16) × Closing (view_of pairs marks t) left₀.words left.words rows
+    (k ≡ first (at left.words) 1024) × (t.names ≤ 1024) × (length rows ≡ rows_room) × (length left₀.words ≡ 16) × Closing (view_of pairs marks t) left₀.words left.words rows
 
 abbrev decreases-loop : tie.decreases-loop
 decreases-loop pairs marks t rows₀ left₀ k₀ rows left k = length (members (at left.words) 0 1024)
@@ -49,7 +49,7 @@ lowest-requires-2 c κs = search rules
 loop-less : tie.Need-loop-smaller invariant-loop decreases-loop
 loop-less c =
     let l = c.before.before.before.before.before.before.before.loop in
-    left_less l.left.words l.k c.before.without.result.words l.invariant.0 (omega arith) c.before.without.ensures
+    left-less l.left.words l.k c.before.without.result.words l.invariant.0 (omega arith) c.before.without.ensures
 
 loop-again : tie.Need-loop-preserved invariant-loop decreases-loop
 loop-again c =
@@ -61,8 +61,8 @@ loop-again c =
     c.before.before.before.before.through.new.0 c.before.without.result.words c.before.before.before.before.through.ensures c.before.without.ensures in
     (c.lowest2.ensures, p.0, q.size, l.invariant.3, q)
 
-same_length : tie.Need-same-length invariant-loop decreases-loop
-same_length c = c.before.loop.invariant.2 ∙ sym (ap length c.before.before.before.before.before.before.before.before.before.before.requires.4 ∙ length-replicate {A = ℕ} rowsRoom 0)
+same-length : tie.Need-same-length invariant-loop decreases-loop
+same-length c = c.before.loop.invariant.2 ∙ sym (ap length c.before.before.before.before.before.before.before.before.before.before.requires.4 ∙ length-replicate {A = ℕ} rows_room 0)
 
 returns : tie.Need-returns invariant-loop decreases-loop
 returns c =
@@ -71,10 +71,10 @@ returns c =
     let l = c.before.loop in
     let e = l.invariant.0 in
     let h = first-le (at l.left.words) 1024 in
-    closing_end (view_of a.pairs.now a.marks.now a.t) (view-good a.pairs.now a.marks.now a.t p.0 p.1) a.s.words l.invariant.3 p.2 p.3 l.left.words l.rows l.invariant.4 (let q : first (at l.left.words) 1024 ≡ 1024 = omega arith in q)
+    closing-end (view_of a.pairs.now a.marks.now a.t) (view-good a.pairs.now a.marks.now a.t p.0 p.1) a.s.words l.invariant.3 p.2 p.3 l.left.words l.rows l.invariant.4 (let q : first (at l.left.words) 1024 ≡ 1024 = omega arith in q)
 
-pub fill_spec : {M : Type 1} → statement M
-fill_spec =
+pub fill-spec : {M : Type 1} → statement M
+fill-spec =
     tie.close
     (tie.spec
     invariant-loop
@@ -87,5 +87,5 @@ fill_spec =
     lowest-requires-2
     loop-less
     loop-again
-    same_length
+    same-length
     returns)

@@ -5,13 +5,13 @@ use mathlib.Core.Path.{◌≡◌, refl}
 use Prim.Native.Nat.{◌+◌, ◌-◌, ◌*◌, ◌<◌}
 use lib.ListN.{length}
 use Rattle.sets.proofs.Good.{array-length}
-use Rattle.ancestry.specs.Rows.{rowsRoom, Joining, joining-start, joining-more, joining-end}
+use Rattle.ancestry.specs.Rows.{rows_room, Joining, joining-start, joining-more, joining-end}
 use Rattle.ancestry.proofs.join.Statement.{statement}
 use Rattle.ancestry.proofs.join.Tie as tie
 
 abbrev invariant-loop : tie.invariant-loop
 invariant-loop rows₀ c s first k₀ rows k =
-    (first ≡ 16 * c) × (c < 1024) × (length rows₀ ≡ rowsRoom) × (length s.words ≡ 16) × (length rows ≡ rowsRoom) × Joining rows₀ c s.words rows k
+    (first ≡ 16 * c) × (c < 1024) × (length rows₀ ≡ rows_room) × (length s.words ≡ 16) × (length rows ≡ rows_room) × Joining rows₀ c s.words rows k
 
 abbrev decreases-loop : tie.decreases-loop
 decreases-loop rows₀ c s first k₀ rows k = 16 - k
@@ -61,8 +61,8 @@ loop-again c =
     let j = joining-more a.rows.now a.c a.t3.words l.rows l.k (16 * a.c + l.k) l.invariant.5 (omega arith) l.invariant.1 refl in
     (refl, l.invariant.1, l.invariant.2, l.invariant.3, j.size, j)
 
-same_length : tie.Need-same-length invariant-loop decreases-loop
-same_length c = search rules
+same-length : tie.Need-same-length invariant-loop decreases-loop
+same-length c = search rules
 
 returns : tie.Need-returns invariant-loop decreases-loop
 returns c =
@@ -89,5 +89,5 @@ join-spec =
     add-k
     loop-less
     loop-again
-    same_length
+    same-length
     returns)

@@ -7,8 +7,8 @@ use Rattle.ancestry.proofs.join_if.Tie as tie
 join-requires : tie.Need-join-requires
 join-requires c κs = search rules
 
-same_length : tie.Need-same-length
-same_length c = search rules
+same-length : tie.Need-same-length
+same-length c = search rules
 
 returns : tie.Need-returns
 returns c =
@@ -21,4 +21,4 @@ returns-2 c =
     joined-not a.rows.now a.c a.s.words c.before.before.requires.0 a.taken c.if1.false
 
 pub join-if-spec : {M : Type 1} → statement M
-join-if-spec = tie.close (tie.spec join-requires same_length returns returns-2)
+join-if-spec = tie.close (tie.spec join-requires same-length returns returns-2)

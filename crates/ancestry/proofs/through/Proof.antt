@@ -4,13 +4,13 @@ use native.Mathlib.Omega.{arith}
 use mathlib.Core.Path.{◌≡◌, sym, ◌∙◌}
 use Prim.Native.Nat.{◌-◌, ◌≤◌, ◌<◌}
 use lib.ListN.{length}
-use Rattle.ancestry.specs.Rows.{rowsRoom, row, Passing, passing-start, passing-more, passing-end}
+use Rattle.ancestry.specs.Rows.{rows_room, row, Passing, passing-start, passing-more, passing-end}
 use Rattle.ancestry.proofs.through.Statement.{statement}
 use Rattle.ancestry.proofs.through.Tie as tie
 
 abbrev invariant-loop : tie.invariant-loop
 invariant-loop rows₀ names k via i₀ rows i =
-    (names ≤ 1024) × (k < 1024) × (i ≤ names) × (length rows ≡ rowsRoom) × (via.words ≡ row rows₀ k) × Passing rows₀ k rows i
+    (names ≤ 1024) × (k < 1024) × (i ≤ names) × (length rows ≡ rows_room) × (via.words ≡ row rows₀ k) × Passing rows₀ k rows i
 
 abbrev decreases-loop : tie.decreases-loop
 decreases-loop rows₀ names k via i₀ rows i = names - i
@@ -42,8 +42,8 @@ loop-again c =
     let q = passing-more a.rows.now a.k l.rows l.i l.invariant.5 c.before.before.before.before.is-in.result c.before.before.before.before.is-in.ensures c.before.before.before.before.before.before.before.before.row_of.result.words c.before.before.join-if.new.0 l.invariant.4 c.before.before.join-if.ensures in
     (l.invariant.0, l.invariant.1, omega arith, q.size, l.invariant.4, q)
 
-same_length : tie.Need-same-length invariant-loop decreases-loop
-same_length c = c.before.loop.invariant.3 ∙ sym c.before.before.before.before.before.requires.0
+same-length : tie.Need-same-length invariant-loop decreases-loop
+same-length c = c.before.loop.invariant.3 ∙ sym c.before.before.before.before.before.requires.0
 
 returns : tie.Need-returns invariant-loop decreases-loop
 returns c =
@@ -64,5 +64,5 @@ through-spec =
     add-i
     loop-less
     loop-again
-    same_length
+    same-length
     returns)

@@ -2,10 +2,10 @@
 use borrow.Author.Rules.{rules}
 use mathlib.Core.Path.{ap, ◌∙◌}
 use native.Mathlib.Omega.{arith}
-use Rattle.ty.specs.Answers.{maybeWord}
-use Rattle.lattice.specs.World.{worldOf}
-use Rattle.solving.specs.Solving.{TypeState, resolveState}
-use Rattle.answering.specs.Cut.{cut-within, cut_sorted, cut_short, cut_parts, cut-words}
+use Rattle.ty.specs.Answers.{maybe_word}
+use Rattle.lattice.specs.World.{world_of}
+use Rattle.solving.specs.Solving.{TypeState, resolve_state}
+use Rattle.answering.specs.Cut.{cut-within, cut-sorted, cut-short, cut-parts, cut-words}
 use Rattle.answering.specs.FromFinal.{final-sorted, parts-order, parts-legal, parts-state}
 use Rattle.answering.proofs.answer.Statement.{statement}
 use Rattle.answering.proofs.answer.Tie as tie
@@ -43,9 +43,9 @@ copy-state-requires c κs =
     let p = c.before.before.before.before.before.before.before.requires in
     let r = c.before.before.run in
     let s = final-sorted x.t p.0.1 x.keys.now p.1 in (
-      cut_sorted x.component x.keys.now s r.result r.ensures,
+      cut-sorted x.component x.keys.now s r.result r.ensures,
       p.2,
-      omega (arith, p.3, cut_short x.component x.keys.now s r.result r.ensures),
+      omega (arith, p.3, cut-short x.component x.keys.now s r.result r.ensures),
     )
 
 answer-from-requires : tie.Need-answer-from-requires
@@ -55,15 +55,15 @@ answer-from-requires c κs =
     let r = c.before.before.before.before.before.before.run in
     let o = c.before.before.before.copy-state in
     let s = final-sorted x.t p.0.1 x.keys.now p.1 in
-    let e = cut_parts x.component x.keys.now s r.result r.ensures o.result o.ensures.0 in
+    let e = cut-parts x.component x.keys.now s r.result r.ensures o.result o.ensures.0 in
     let f = cut-words x.component x.keys.now s r.result r.ensures x.out.now o.new.1.1.0 o.ensures.1 in (
       p.0,
       parts-order x.t p.0.1 x.keys.now p.1 x.component x.out.now o.new.1.1.0 f o.result e (omega (arith, p.3, o.auto.1.1.0)),
       parts-legal x.t p.0.1 x.keys.now p.1 x.component x.out.now o.new.1.1.0 f o.result e,
     )
 
-same_length : tie.Need-same-length
-same_length c = search rules
+same-length : tie.Need-same-length
+same-length c = search rules
 
 returns : tie.Need-returns
 returns c =
@@ -72,10 +72,10 @@ returns c =
     let r = c.before.before.before.before.before.before.before.run in
     let o = c.before.before.before.before.copy-state in
     let s = final-sorted x.t p.0.1 x.keys.now p.1 in
-    let e = cut_parts x.component x.keys.now s r.result r.ensures o.result o.ensures.0 in
+    let e = cut-parts x.component x.keys.now s r.result r.ensures o.result o.ensures.0 in
     let f = cut-words x.component x.keys.now s r.result r.ensures x.out.now o.new.1.1.0 o.ensures.1 in
     c.answer-from.ensures
-    ∙ ap (λ (z : TypeState). maybeWord (resolveState (worldOf x.pairs.now x.marks.now x.t) z))
+    ∙ ap (λ (z : TypeState). maybe_word (resolve_state (world_of x.pairs.now x.marks.now x.t) z))
     (parts-state x.t p.0.1 x.keys.now p.1 x.component x.out.now o.new.1.1.0 f o.result e)
 
 pub answer-spec : {M : Type 1} → statement M
@@ -89,5 +89,5 @@ answer-spec =
     part-copy-state-end
     copy-state-requires
     answer-from-requires
-    same_length
+    same-length
     returns)

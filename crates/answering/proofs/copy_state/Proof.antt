@@ -46,8 +46,8 @@ copy-words-requires-5 c κs =
     let o4 = c.before.before.before.copy-words4 in
     (p.0, p.1, omega arith, omega (arith, p.2, five-short x.component x.keys.now p.0, o1.ensures.0, o1.auto.1.1.1.0, o2.ensures.0, o2.auto.1.1.1.0, o3.ensures.0, o3.auto.1.1.1.0, o4.ensures.0, o4.auto.1.1.1.0))
 
-same_length : tie.Need-same-length
-same_length c = search rules
+same-length : tie.Need-same-length
+same-length c = search rules
 
 returns : tie.Need-returns
 returns c =
@@ -68,5 +68,5 @@ copy-state-spec =
     copy-words-requires-3
     copy-words-requires-4
     copy-words-requires-5
-    same_length
+    same-length
     returns)

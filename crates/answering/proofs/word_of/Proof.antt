@@ -2,10 +2,10 @@
 use borrow.Author.Rules.{rules}
 use mathlib.Core.Path.{ap, ◌∙◌}
 use native.Mathlib.Omega.{arith}
-use Rattle.lattice.specs.World.{worldOf}
-use Rattle.solving.specs.Solving.{state_of, resolveState}
-use Rattle.answering.specs.Answering.{tableIn, number_in}
-use Rattle.answering.specs.FromFinal.{number_word}
+use Rattle.lattice.specs.World.{world_of}
+use Rattle.solving.specs.Solving.{state_of, resolve_state}
+use Rattle.answering.specs.Answering.{table_in, number_in}
+use Rattle.answering.specs.FromFinal.{number-word}
 use Rattle.answering.proofs.word_of.Statement.{statement}
 use Rattle.answering.proofs.word_of.Tie as tie
 
@@ -27,13 +27,13 @@ answer-requires c κs = search rules
 word-in-requires : tie.Need-word-in-requires
 word-in-requires c κs = search rules
 
-same_length : tie.Need-same-length
-same_length c = search rules
+same-length : tie.Need-same-length
+same-length c = search rules
 
 returns-2 : tie.Need-returns-2
 returns-2 c =
     let x = c.before.before.before.before.before.before.before.before.before.before.before.args in
-    c.word_in.ensures ∙ ap number_in c.before.before.before.answer.ensures ∙ number_word (resolveState (worldOf x.pairs.now x.marks.now x.t) (state_of (tableIn x.keys.now) x.component))
+    c.word_in.ensures ∙ ap number_in c.before.before.before.answer.ensures ∙ number-word (resolve_state (world_of x.pairs.now x.marks.now x.t) (state_of (table_in x.keys.now) x.component))
 
 pub word-of-spec : {M : Type 1} → statement M
-word-of-spec = tie.close (tie.spec sub-result mul-result shared-slice-read-result returns answer-requires word-in-requires same_length returns-2)
+word-of-spec = tie.close (tie.spec sub-result mul-result shared-slice-read-result returns answer-requires word-in-requires same-length returns-2)

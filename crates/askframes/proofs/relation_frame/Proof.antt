@@ -3,7 +3,7 @@ use borrow.Author.Rules.{rules}
 use mathlib.Core.Path.{ap, ap₂, ◌∙◌}
 use Prim.Native.Nat.{ℕ}
 use native.Mathlib.Omega.{arith}
-use Rattle.view.specs.View.{relation, relationNumber}
+use Rattle.view.specs.View.{relation, relation_number}
 use Rattle.tables.specs.Table.{view_of}
 use Rattle.framestate.specs.declared.Said.TheVariants.{Related}
 use Rattle.askframes.specs.AskFrames.{asked-none, asked-some, same-refusal}
@@ -42,7 +42,7 @@ returns-2 c =
     let x = c.before.before.before.before.before.before.before.before.number_at.ensures.0 in
     let y = c.before.before.before.before.before.before.before.number-at2.ensures.0 in
     asked-some _ _ a.n _ (c.before.before.before.before.check-ask.ensures ∙ same-refusal a.n.stack.tables _ _ _ _ x y) _ _ c.say.ensures (omega arith)
-    (ap Related (c.before.relation-number.ensures ∙ ap relationNumber c.before.before.subtype-relation.ensures ∙ ap₂ (λ (p q : ℕ). relationNumber (relation (view_of a.pairs.now a.marks.now a.n.stack.tables) p q)) x y))
+    (ap Related (c.before.relation-number.ensures ∙ ap relation_number c.before.before.subtype-relation.ensures ∙ ap₂ (λ (p q : ℕ). relation_number (relation (view_of a.pairs.now a.marks.now a.n.stack.tables) p q)) x y))
 
 pub relation-frame-spec : {M : Type 1} → statement M
 relation-frame-spec =

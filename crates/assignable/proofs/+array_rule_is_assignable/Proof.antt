@@ -3,8 +3,8 @@ use borrow.Author.Rules.{rules}
 use mathlib.Core.Path.{sym, ◌∙◌}
 use Prim.Native.Nat.{ℕ, ◌+◌, ◌-◌, ◌*◌, ◌^◌, ◌<◌}
 use native.Mathlib.Omega.{arith}
-use Rattle.lattice.specs.World.{worldOf}
-use Rattle.assignable.specs.Steps.{both-arrays, legal-elements, rule-same, rule-left, rule-right, rule-whole, equal_words, other-words}
+use Rattle.lattice.specs.World.{world_of}
+use Rattle.assignable.specs.Steps.{both-arrays, legal-elements, rule-same, rule-left, rule-right, rule-whole, equal-words, other-words}
 use borrow.Fn.Kinds.{In}
 use borrow.Fn.PlainCycle.{Measures, is, falls, and}
 use Rattle.assignable.proofs.array_rule.Reads as array-rule
@@ -81,14 +81,14 @@ array-rule-returns t c =
     let s = c.before.before.before.before.before.before.before.before in
     let a = s.args in
     let p = s.requires.1 in
-    rule-same (worldOf a.pairs.now a.marks.now a.t) a.value.word a.expected.word p.3 p.4 p.1 p.2 (sym c.before.before.before.is-primitive.ensures ∙ c.before.before.if1.true) (sym c.before.is-primitive2.ensures ∙ c.if2.true)
+    rule-same (world_of a.pairs.now a.marks.now a.t) a.value.word a.expected.word p.3 p.4 p.1 p.2 (sym c.before.before.before.is-primitive.ensures ∙ c.before.before.if1.true) (sym c.before.is-primitive2.ensures ∙ c.if2.true)
 
 array-rule-returns-2 : (t : ℕ) → array-rule-lts.Need-returns-2 (array-rule-claims t) (array-rule-at t) array-rule.Post
 array-rule-returns-2 t c =
     let s = c.before.before.before.before.before.before.before.before in
     let a = s.args in
     let p = s.requires.1 in
-    rule-left (worldOf a.pairs.now a.marks.now a.t) a.value.word a.expected.word p.3 p.4 (sym c.before.before.before.is-primitive.ensures ∙ c.before.before.if1.true) (sym c.before.is-primitive2.ensures ∙ c.if2.false)
+    rule-left (world_of a.pairs.now a.marks.now a.t) a.value.word a.expected.word p.3 p.4 (sym c.before.before.before.is-primitive.ensures ∙ c.before.before.if1.true) (sym c.before.is-primitive2.ensures ∙ c.if2.false)
 
 array-rule-is-primitive-requires-3 : (t : ℕ) → array-rule-lts.Need-is-primitive-requires-3 (array-rule-claims t) (array-rule-at t) array-rule.Post
 array-rule-is-primitive-requires-3 t c κs = search rules
@@ -98,7 +98,7 @@ array-rule-returns-3 t c =
     let s = c.before.before.before.before.before.before.before.before in
     let a = s.args in
     let p = s.requires.1 in
-    rule-right (worldOf a.pairs.now a.marks.now a.t) a.value.word a.expected.word p.3 p.4 (sym c.before.before.before.is-primitive.ensures ∙ c.before.before.if1.false) (sym c.before.is-primitive3.ensures ∙ c.if3.true)
+    rule-right (world_of a.pairs.now a.marks.now a.t) a.value.word a.expected.word p.3 p.4 (sym c.before.before.before.is-primitive.ensures ∙ c.before.before.if1.false) (sym c.before.is-primitive3.ensures ∙ c.if3.true)
 
 array-rule-is-assignable-requires : (t : ℕ) → array-rule-lts.Need-is-assignable-requires (array-rule-claims t) (array-rule-at t) array-rule.Post
 array-rule-is-assignable-requires t c κs =
@@ -115,12 +115,12 @@ array-rule-returns-4 t c =
     let a = s.args in
     let p = s.requires.1 in
     c.is-assignable.ensures
-    ∙ rule-whole (worldOf a.pairs.now a.marks.now a.t) a.value.word a.expected.word p.3 p.4 (sym c.before.before.before.before.is-primitive.ensures ∙ c.before.before.before.if1.false) (sym c.before.before.is-primitive3.ensures ∙ c.before.if3.false)
+    ∙ rule-whole (world_of a.pairs.now a.marks.now a.t) a.value.word a.expected.word p.3 p.4 (sym c.before.before.before.before.is-primitive.ensures ∙ c.before.before.before.if1.false) (sym c.before.before.is-primitive3.ensures ∙ c.before.if3.false)
 
 is-assignable-returns : (t : ℕ) → is-assignable-lts.Need-returns (is-assignable-claims t) (is-assignable-at t) is-assignable.Post
 is-assignable-returns t c =
     let a = c.before.before.before.before.before.args in
-    equal_words (worldOf a.pairs.now a.marks.now a.t) a.value.word a.expected.word c.if1.true
+    equal-words (world_of a.pairs.now a.marks.now a.t) a.value.word a.expected.word c.if1.true
 
 is-assignable-are-arrays-requires : (t : ℕ) → is-assignable-lts.Need-are-arrays-requires (is-assignable-claims t) (is-assignable-at t) is-assignable.Post
 is-assignable-are-arrays-requires t c κs = search rules
@@ -139,7 +139,7 @@ is-assignable-returns-2 t c =
     let s = c.before.before.before.before.before.before.before.before in
     let a = s.args in
     let p = s.requires.1 in
-    c.array-rule.ensures ∙ other-words (worldOf a.pairs.now a.marks.now a.t) a.value.word a.expected.word p.1 p.2 c.before.before.before.if1.false
+    c.array-rule.ensures ∙ other-words (world_of a.pairs.now a.marks.now a.t) a.value.word a.expected.word p.1 p.2 c.before.before.before.if1.false
 
 is-assignable-bases-assignable-requires : (t : ℕ) → is-assignable-lts.Need-bases-assignable-requires (is-assignable-claims t) (is-assignable-at t) is-assignable.Post
 is-assignable-bases-assignable-requires t c κs =
@@ -151,7 +151,7 @@ is-assignable-returns-3 t c =
     let s = c.before.before.before.before.before.before.before.before in
     let a = s.args in
     let p = s.requires.1 in
-    c.bases-assignable.ensures ∙ other-words (worldOf a.pairs.now a.marks.now a.t) a.value.word a.expected.word p.1 p.2 c.before.before.before.if1.false
+    c.bases-assignable.ensures ∙ other-words (world_of a.pairs.now a.marks.now a.t) a.value.word a.expected.word p.1 p.2 c.before.before.before.if1.false
 
 pub +array-rule-is-assignable-spec : {M : Type 1} → statement M
 +array-rule-is-assignable-spec = close μ-array-rule μ-is-assignable (λ t. array-rule-lts.spec (array-rule-claims t)

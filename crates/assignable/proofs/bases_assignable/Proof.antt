@@ -2,8 +2,8 @@
 use borrow.Author.Rules.{rules}
 use mathlib.Core.Path.{sym, ◌∙◌}
 use Rattle.ty.specs.Words.{type_of}
-use Rattle.lattice.specs.World.{worldOf}
-use Rattle.assignable.specs.Steps.{apart-to, apart_from}
+use Rattle.lattice.specs.World.{world_of}
+use Rattle.assignable.specs.Steps.{apart-to, apart-from}
 use Rattle.assignable.proofs.bases_assignable.Statement.{statement}
 use Rattle.assignable.proofs.bases_assignable.Tie as tie
 
@@ -28,7 +28,7 @@ returns-2 : tie.Need-returns-2
 returns-2 c =
     let a = c.before.before.before.before.before.before.before.args in
     c.unknown-accepts.ensures
-    ∙ apart_from (worldOf a.pairs.now a.marks.now a.t) (type_of a.value.word) (type_of a.expected.word)
+    ∙ apart-from (world_of a.pairs.now a.marks.now a.t) (type_of a.value.word) (type_of a.expected.word)
     (sym c.before.before.is-known2.ensures ∙ c.before.if2.false) (sym c.before.before.before.before.is_Known.ensures ∙ c.before.before.before.if1.true)
 
 unknown-accepts-requires-2 : tie.Need-unknown-accepts-requires-2
@@ -38,7 +38,7 @@ returns-3 : tie.Need-returns-3
 returns-3 c =
     let a = c.before.before.before.before.before.args in
     c.unknown-accepts2.ensures
-    ∙ apart-to (worldOf a.pairs.now a.marks.now a.t) (type_of a.value.word) (type_of a.expected.word) (sym c.before.before.is_Known.ensures ∙ c.before.if1.false)
+    ∙ apart-to (world_of a.pairs.now a.marks.now a.t) (type_of a.value.word) (type_of a.expected.word) (sym c.before.before.is_Known.ensures ∙ c.before.if1.false)
 
 pub bases-assignable-spec : {M : Type 1} → statement M
 bases-assignable-spec =

@@ -4,8 +4,8 @@ use mathlib.Core.Path.{sym, ap, ◌∙◌}
 use native.Mathlib.Omega.{arith}
 use Rattle.ty.specs.Types.{ArgType, Primitive, Object}
 use Rattle.ty.specs.Words.{type_of}
-use Rattle.lattice.specs.Lattice.{assignableApart}
-use Rattle.lattice.specs.World.{worldOf}
+use Rattle.lattice.specs.Lattice.{assignable_apart}
+use Rattle.lattice.specs.World.{world_of}
 use Rattle.assignable.specs.Steps.{object-load, primitive-load, class-lt, primitives, from-primitive, from-reference}
 use Rattle.assignable.proofs.known_assignable.Statement.{statement}
 use Rattle.assignable.proofs.known_assignable.Tie as tie
@@ -27,7 +27,7 @@ returns : tie.Need-returns
 returns c =
     let a = c.before.before.before.before.before.before.args in
     c.to-class.ensures
-    ∙ ap (λ (u : ArgType). assignableApart (worldOf a.pairs.now a.marks.now a.t) (type_of a.value.word) u)
+    ∙ ap (λ (u : ArgType). assignable_apart (world_of a.pairs.now a.marks.now a.t) (type_of a.value.word) u)
     (ap Object c.before.load.ensures ∙ sym (object-load a.expected.word (sym c.before.before.before.is-object.ensures ∙ c.before.before.if1.true)))
 
 is-primitive-requires : tie.Need-is-primitive-requires
@@ -51,7 +51,7 @@ returns-2 c =
     let v = c.before.before.load2 in
     let e = c.before.load3 in
     c.primitive-assignable.ensures
-    ∙ primitives (worldOf a.pairs.now a.marks.now a.t) (type_of a.value.word) (type_of a.expected.word) v.result e.result
+    ∙ primitives (world_of a.pairs.now a.marks.now a.t) (type_of a.value.word) (type_of a.expected.word) v.result e.result
     (primitive-load a.value.word (sym c.before.before.before.before.before.before.is-primitive.ensures ∙ c.before.before.before.before.before.if2.true) ∙ ap Primitive (sym v.ensures))
     (primitive-load a.expected.word (sym c.before.before.before.before.is-primitive2.ensures ∙ c.before.before.before.if3.true) ∙ ap Primitive (sym e.ensures))
 
@@ -59,7 +59,7 @@ returns-3 : tie.Need-returns-3
 returns-3 c =
     let s = c.before.before.before.before.before.before.before.before in
     let a = s.args in
-    from-primitive (worldOf a.pairs.now a.marks.now a.t) (type_of a.value.word) (type_of a.expected.word)
+    from-primitive (world_of a.pairs.now a.marks.now a.t) (type_of a.value.word) (type_of a.expected.word)
     (sym c.before.before.before.is-primitive.ensures ∙ c.before.before.if2.true) s.requires.3 (sym c.before.before.before.before.before.is-object.ensures ∙ c.before.before.before.before.if1.false)
     (sym c.before.is-primitive2.ensures ∙ c.if3.false)
 
@@ -67,7 +67,7 @@ returns-4 : tie.Need-returns-4
 returns-4 c =
     let s = c.before.before.before.before.before.before in
     let a = s.args in
-    from-reference (worldOf a.pairs.now a.marks.now a.t) (type_of a.value.word) (type_of a.expected.word)
+    from-reference (world_of a.pairs.now a.marks.now a.t) (type_of a.value.word) (type_of a.expected.word)
     (sym c.before.is-primitive.ensures ∙ c.if2.false) s.requires.2 s.requires.3 (sym c.before.before.before.is-object.ensures ∙ c.before.before.if1.false) s.requires.4
 
 pub known-assignable-spec : {M : Type 1} → statement M

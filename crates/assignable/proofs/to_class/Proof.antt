@@ -3,8 +3,8 @@ use borrow.Author.Rules.{rules}
 use mathlib.Core.Path.{sym, ap, ◌∙◌}
 use Rattle.ty.specs.Types.{Object}
 use Rattle.ty.specs.Words.{type_of}
-use Rattle.lattice.specs.Lattice.{notNo, arrayParent}
-use Rattle.lattice.specs.World.{worldOf}
+use Rattle.lattice.specs.Lattice.{not_no, array_parent}
+use Rattle.lattice.specs.World.{world_of}
 use Rattle.assignable.specs.Steps.{object-load, array-to-class, class-to-class, other-to-class}
 use Rattle.assignable.proofs.to_class.Statement.{statement}
 use Rattle.assignable.proofs.to_class.Tie as tie
@@ -16,11 +16,11 @@ array-parent-requires : tie.Need-array-parent-requires
 array-parent-requires c κs = search rules
 
 returns : tie.Need-returns
-unfolding arrayParent
+unfolding array_parent
 returns c =
     let a = c.before.before.before.before.before.args in
     c.array-parent.ensures
-    ∙ array-to-class (worldOf a.pairs.now a.marks.now a.t) (type_of a.value.word) a.class (sym c.before.before.is-array.ensures ∙ c.before.if1.true)
+    ∙ array-to-class (world_of a.pairs.now a.marks.now a.t) (type_of a.value.word) a.class (sym c.before.before.is-array.ensures ∙ c.before.if1.true)
 
 is-object-requires : tie.Need-is-object-requires
 is-object-requires c κs = search rules
@@ -39,14 +39,14 @@ returns-2 c =
     let a = c.before.before.before.before.before.before.before.before.before.args in
     let l = c.before.before.load in
     c.not-no.ensures
-    ∙ ap notNo c.before.relation-of.ensures
-    ∙ class-to-class (worldOf a.pairs.now a.marks.now a.t) (type_of a.value.word) l.result a.class
+    ∙ ap not_no c.before.relation-of.ensures
+    ∙ class-to-class (world_of a.pairs.now a.marks.now a.t) (type_of a.value.word) l.result a.class
     (object-load a.value.word (sym c.before.before.before.before.is-object.ensures ∙ c.before.before.before.if2.true) ∙ ap Object (sym l.ensures))
 
 returns-3 : tie.Need-returns-3
 returns-3 c =
     let a = c.before.before.before.before.before.before.args in
-    other-to-class (worldOf a.pairs.now a.marks.now a.t) (type_of a.value.word) a.class c.before.before.before.before.before.before.requires.1
+    other-to-class (world_of a.pairs.now a.marks.now a.t) (type_of a.value.word) a.class c.before.before.before.before.before.before.requires.1
     (sym c.before.before.before.is-array.ensures ∙ c.before.before.if1.false) (sym c.before.is-object.ensures ∙ c.if2.false)
 
 pub to-class-spec : {M : Type 1} → statement M

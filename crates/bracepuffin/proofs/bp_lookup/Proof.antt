@@ -1,7 +1,7 @@
 -- `bp_lookup` meets its contract: the answer of what is looked up.
 use borrow.Author.Rules.{rules}
 use mathlib.Core.Path.{ap, ◌∙◌}
-use Rattle.bracepuffin.specs.Boundary.{foundAnswer}
+use Rattle.bracepuffin.specs.Boundary.{found_answer}
 use Rattle.bracepuffin.proofs.bp_lookup.Statement.{statement}
 use Rattle.bracepuffin.proofs.bp_lookup.Tie as tie
 
@@ -12,7 +12,7 @@ found-answer-requires : tie.Need-found-answer-requires
 found-answer-requires c κs = search rules
 
 returns : tie.Need-returns
-returns c = c.found-answer.ensures ∙ ap foundAnswer c.before.look_up.ensures
+returns c = c.found-answer.ensures ∙ ap found_answer c.before.look_up.ensures
 
 pub bp-lookup-spec : {M : Type 1} → statement M
 bp-lookup-spec = tie.close (tie.spec look-up-requires found-answer-requires returns)

@@ -1,7 +1,7 @@
 -- `bp_solve` meets its contract: the counts of the solve, and the slices that it leaves.
 use borrow.Author.Rules.{rules}
 use mathlib.Core.Path.{ap, ◌∙◌}
-use Rattle.bracepuffin.specs.Boundary.{solvedAnswer, solvedTold}
+use Rattle.bracepuffin.specs.Boundary.{solved_answer, solved_told}
 use Rattle.bracepuffin.proofs.bp_solve.Statement.{statement}
 use Rattle.bracepuffin.proofs.bp_solve.Tie as tie
 
@@ -11,8 +11,8 @@ solve-slices-requires c κs = search rules
 solved-answer-requires : tie.Need-solved-answer-requires
 solved-answer-requires c κs = search rules
 
-same_length : tie.Need-same-length
-same_length c = search rules
+same-length : tie.Need-same-length
+same-length c = search rules
 
 same-length-2 : tie.Need-same-length-2
 same-length-2 c = search rules
@@ -27,10 +27,10 @@ same-length-5 : tie.Need-same-length-5
 same-length-5 c = search rules
 
 returns : tie.Need-returns
-unfolding solvedTold
+unfolding solved_told
 returns c =
     let r = c.before.before.before.before.before.before.before.before.before.before.before.solve-slices.ensures in
-    (c.solved-answer.ensures ∙ ap solvedAnswer r.counts, r.memory)
+    (c.solved-answer.ensures ∙ ap solved_answer r.counts, r.memory)
 
 pub bp-solve-spec : {M : Type 1} → statement M
 bp-solve-spec =
@@ -38,7 +38,7 @@ bp-solve-spec =
     (tie.spec
     solve-slices-requires
     solved-answer-requires
-    same_length
+    same-length
     same-length-2
     same-length-3
     same-length-4

@@ -2,7 +2,7 @@
 use borrow.Author.Rules.{rules}
 use mathlib.Core.Path.{ap, ◌∙◌}
 use Rattle.questions.specs.Questions.{value_of, answer_of}
-use Rattle.bracepuffin.specs.Boundary.{numberAnswer, supertypeTold}
+use Rattle.bracepuffin.specs.Boundary.{number_answer, supertype_told}
 use Rattle.bracepuffin.proofs.bp_supertype.Statement.{statement}
 use Rattle.bracepuffin.proofs.bp_supertype.Tie as tie
 
@@ -12,12 +12,12 @@ ask-requires c κs = search rules
 number-answer-requires : tie.Need-number-answer-requires
 number-answer-requires c κs = search rules
 
-same_length : tie.Need-same-length
-same_length c = search rules
+same-length : tie.Need-same-length
+same-length c = search rules
 
 returns : tie.Need-returns
-unfolding value_of answer_of supertypeTold
-returns c = let r = c.before.before.before.ask.ensures in (c.number-answer.ensures ∙ ap numberAnswer r.result, r.memory)
+unfolding value_of answer_of supertype_told
+returns c = let r = c.before.before.before.ask.ensures in (c.number-answer.ensures ∙ ap number_answer r.result, r.memory)
 
 pub bp-supertype-spec : {M : Type 1} → statement M
-bp-supertype-spec = tie.close (tie.spec ask-requires number-answer-requires same_length returns)
+bp-supertype-spec = tie.close (tie.spec ask-requires number-answer-requires same-length returns)

@@ -1,7 +1,7 @@
 -- `method_answer` meets its contract, by the base.
 use borrow.Author.Rules.{rules}
 use mathlib.Core.Path.{sym, ap}
-use Rattle.bracepuffin.specs.Boundary.{bpMethodOf}
+use Rattle.bracepuffin.specs.Boundary.{bp_method_of}
 use Rattle.bracepuffin.proofs.method_answer.Statement.{statement}
 use Rattle.bracepuffin.proofs.method_answer.Tie as tie
 
@@ -12,10 +12,10 @@ enum-known-base-2 : tie.Need-enum-known-base-2
 enum-known-base-2 c = search rules
 
 returns : tie.Need-returns
-returns c = let a = c.before.before.before.args in sym (ap (bpMethodOf a.m) c.before.base.given.1)
+returns c = let a = c.before.before.before.args in sym (ap (bp_method_of a.m) c.before.base.given.1)
 
 returns-2 : tie.Need-returns-2
-returns-2 c = let a = c.before.before.before.args in sym (ap (bpMethodOf a.m) c.before.base2.given.1)
+returns-2 c = let a = c.before.before.before.args in sym (ap (bp_method_of a.m) c.before.base2.given.1)
 
 pub method-answer-spec : {M : Type 1} → statement M
 method-answer-spec = tie.close (tie.spec enum-known-base enum-known-base-2 returns returns-2)

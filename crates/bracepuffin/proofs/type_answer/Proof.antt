@@ -1,7 +1,7 @@
 -- `type_answer` meets its contract, by what was read.
 use borrow.Author.Rules.{rules}
 use mathlib.Core.Path.{sym, ap, ◌∙◌}
-use Rattle.bracepuffin.specs.Boundary.{typeAnswer}
+use Rattle.bracepuffin.specs.Boundary.{type_answer}
 use Rattle.bracepuffin.proofs.type_answer.Statement.{statement}
 use Rattle.bracepuffin.proofs.type_answer.Tie as tie
 
@@ -15,10 +15,10 @@ enum-known-r-2 : tie.Need-enum-known-r-2
 enum-known-r-2 c = search rules
 
 returns : tie.Need-returns
-returns c = c.type-found.ensures ∙ sym (ap typeAnswer c.before.before.r.given.1)
+returns c = c.type-found.ensures ∙ sym (ap type_answer c.before.before.r.given.1)
 
 returns-2 : tie.Need-returns-2
-returns-2 c = sym (ap typeAnswer c.before.r2.given.1)
+returns-2 c = sym (ap type_answer c.before.r2.given.1)
 
 pub type-answer-spec : {M : Type 1} → statement M
 type-answer-spec =

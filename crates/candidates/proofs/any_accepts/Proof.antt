@@ -6,13 +6,13 @@ use Prim.Native.Nat.{◌-◌, ◌≤◌}
 use native.Mathlib.Omega.{arith}
 use lib.ListN.{length}
 use Rattle.ty.specs.Words.{type_of}
-use Rattle.lattice.specs.Lattice.{anyAccepts}
-use Rattle.candidates.specs.Steps.{typesFrom, any_here, any-later, any-end}
+use Rattle.lattice.specs.Lattice.{any_accepts}
+use Rattle.candidates.specs.Steps.{types_from, any-here, any-later, any-end}
 use Rattle.candidates.proofs.any_accepts.Statement.{statement}
 use Rattle.candidates.proofs.any_accepts.Tie as tie
 
 abbrev invariant-loop : tie.invariant-loop
-invariant-loop domain candidate i₀ i = (i ≤ length domain) × (anyAccepts (map type_of domain) (type_of candidate.word) ≡ anyAccepts (typesFrom i domain) (type_of candidate.word))
+invariant-loop domain candidate i₀ i = (i ≤ length domain) × (any_accepts (map type_of domain) (type_of candidate.word) ≡ any_accepts (types_from i domain) (type_of candidate.word))
 
 abbrev decreases-loop : tie.decreases-loop
 decreases-loop domain candidate i₀ i = length domain - i
@@ -35,7 +35,7 @@ returns : tie.Need-returns invariant-loop decreases-loop
 returns c =
     let a = c.before.before.before.before.before.before.args in
     let l = c.before.before.before.before.loop in
-    sym (l.invariant.1 ∙ any_here a.domain.now l.i (type_of a.candidate.word) (omega arith) (sym c.before.observed-accepts.ensures ∙ c.if1.true))
+    sym (l.invariant.1 ∙ any-here a.domain.now l.i (type_of a.candidate.word) (omega arith) (sym c.before.observed-accepts.ensures ∙ c.if1.true))
 
 add-i : tie.Need-overflow-add-i invariant-loop decreases-loop
 add-i c = search rules

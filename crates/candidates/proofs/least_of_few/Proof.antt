@@ -6,19 +6,19 @@ use mathlib.Core.Option.{Option}
 use Prim.Native.Nat.{ℕ, ◌-◌, ◌≤◌}
 use native.Mathlib.Omega.{arith}
 use lib.ListN.{length, get_or}
-use Rattle.ty.specs.Types.{ArgType, concreteHint}
+use Rattle.ty.specs.Types.{ArgType, concrete_hint}
 use Rattle.ty.specs.Words.{type_of}
-use Rattle.ty.specs.Answers.{maybeWord}
-use Rattle.lattice.specs.Lattice.{candidate, leastHint, mostSpecificUpper}
-use Rattle.lattice.specs.World.{worldOf}
-use Rattle.candidates.specs.Maybe.{LegalMaybe, maybeType, maybe-word}
-use Rattle.candidates.specs.Steps.{typesFrom, least-end, least_step}
+use Rattle.ty.specs.Answers.{maybe_word}
+use Rattle.lattice.specs.Lattice.{candidate, least_hint, most_specific_upper}
+use Rattle.lattice.specs.World.{world_of}
+use Rattle.candidates.specs.Maybe.{LegalMaybe, maybe_type, maybe-word}
+use Rattle.candidates.specs.Steps.{types_from, least-end, least-step}
 use Rattle.candidates.proofs.least_of_few.Statement.{statement}
 use Rattle.candidates.proofs.least_of_few.Tie as tie
 
 abbrev invariant-loop : tie.invariant-loop
 invariant-loop pairs marks t upper best₀ i₀ best i =
-    (i ≤ length upper) × LegalMaybe best × (maybeType best ≡ leastHint (worldOf pairs marks t) (map type_of upper) (typesFrom i upper))
+    (i ≤ length upper) × LegalMaybe best × (maybe_type best ≡ least_hint (world_of pairs marks t) (map type_of upper) (types_from i upper))
 
 abbrev decreases-loop : tie.decreases-loop
 decreases-loop pairs marks t upper best₀ i₀ best i = i
@@ -26,7 +26,7 @@ decreases-loop pairs marks t upper best₀ i₀ best i = i
 loop-holds : tie.Need-loop-init invariant-loop decreases-loop
 loop-holds c =
     let a = c.before.before.before.args in
-    (omega arith, tt, sym (least-end (worldOf a.pairs.now a.marks.now a.t) (map type_of a.upper.now) a.upper.now (length a.upper.now) (omega arith)))
+    (omega arith, tt, sym (least-end (world_of a.pairs.now a.marks.now a.t) (map type_of a.upper.now) a.upper.now (length a.upper.now) (omega arith)))
 
 sub-i : tie.Need-overflow-sub-i invariant-loop decreases-loop
 sub-i c = search rules
@@ -54,17 +54,17 @@ loop-again c =
       omega arith,
       r.0,
       r.1
-          ∙ ap (λ (o : Option ArgType). candidate (worldOf a.pairs.now a.marks.now a.t) (map type_of a.upper.now) (concreteHint a.t.object (type_of (get_or a.upper.now (l.i - 1) 0))) o) l.invariant.2
-          ∙ sym (least_step (worldOf a.pairs.now a.marks.now a.t) (map type_of a.upper.now) a.upper.now l.i (omega arith) (omega arith)),
+          ∙ ap (λ (o : Option ArgType). candidate (world_of a.pairs.now a.marks.now a.t) (map type_of a.upper.now) (concrete_hint a.t.object (type_of (get_or a.upper.now (l.i - 1) 0))) o) l.invariant.2
+          ∙ sym (least-step (world_of a.pairs.now a.marks.now a.t) (map type_of a.upper.now) a.upper.now l.i (omega arith) (omega arith)),
     )
 
 returns : tie.Need-returns invariant-loop decreases-loop
-unfolding mostSpecificUpper
+unfolding most_specific_upper
 returns c =
     let a = c.before.before.before.before.before.args in
     let l = c.before.loop in
     maybe-word l.best l.invariant.1
-    ∙ ap maybeWord (l.invariant.2 ∙ ap (λ (k : ℕ). leastHint (worldOf a.pairs.now a.marks.now a.t) (map type_of a.upper.now) (typesFrom k a.upper.now)) (let q : l.i ≡ 0 = omega arith in q))
+    ∙ ap maybe_word (l.invariant.2 ∙ ap (λ (k : ℕ). least_hint (world_of a.pairs.now a.marks.now a.t) (map type_of a.upper.now) (types_from k a.upper.now)) (let q : l.i ≡ 0 = omega arith in q))
 
 pub least-of-few-spec : {M : Type 1} → statement M
 least-of-few-spec =

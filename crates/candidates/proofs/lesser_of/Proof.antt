@@ -9,8 +9,8 @@ use Rattle.candidates.proofs.lesser_of.Tie as tie
 compare-types-requires : tie.Need-compare-types-requires
 compare-types-requires c κs = search rules
 
-enum_told : tie.Need-enum-told
-enum_told c = search rules
+enum-told : tie.Need-enum-told
+enum-told c = search rules
 
 enum-told-2 : tie.Need-enum-told-2
 enum-told-2 c = search rules
@@ -21,7 +21,7 @@ enum-told-3 c = search rules
 returns : tie.Need-returns
 returns c =
     let s = c.before.before.before in
-    (search rules, sym (lesser-less (type_of s.args.t.word) (type_of s.args.u.word) (sym c.before.before.compare-types.ensures ∙ c.enum_told.given.1)))
+    (search rules, sym (lesser-less (type_of s.args.t.word) (type_of s.args.u.word) (sym c.before.before.compare-types.ensures ∙ c.enum-told.given.1)))
 
 returns-2 : tie.Need-returns-2
 returns-2 c =
@@ -36,4 +36,4 @@ returns-3 c =
 pub lesser-of-spec : {M : Type 1} → statement M
 lesser-of-spec =
     tie.close
-    (tie.spec compare-types-requires enum_told enum-told-2 enum-told-3 returns returns-2 returns-3)
+    (tie.spec compare-types-requires enum-told enum-told-2 enum-told-3 returns returns-2 returns-3)

@@ -6,7 +6,7 @@ use Prim.Native.Nat.{ℕ}
 use Rattle.sets.specs.Sets.{remove, subtract}
 use Rattle.sets.proofs.Good.{array-length}
 use Rattle.tables.specs.Table.{view_of}
-use Rattle.lattice.specs.Lattice.{notNo}
+use Rattle.lattice.specs.Lattice.{not_no}
 use Rattle.lattice.specs.World.{present}
 use Rattle.candidates.specs.Groups.{stands-alone, stands-reached, stands-by-one}
 use Rattle.candidates.proofs.stands_for_all.Statement.{statement}
@@ -70,7 +70,7 @@ returns-3 c =
     (left.without2.ensures ∙ ap (λ (x : List ℕ). remove x a.t.object) left.before.without.ensures)
     d.difference.result.words (d.difference.ensures ∙ ap (λ (x : List ℕ). subtract left.without2.result.words x) d.before.reached-from.ensures)
     e.before.lowest2.result e.before.lowest2.ensures e.if2.false c.not-no.result
-    (c.not-no.ensures ∙ ap notNo c.before.relation-of.ensures)
+    (c.not-no.ensures ∙ ap not_no c.before.relation-of.ensures)
 
 pub stands-for-all-spec : {M : Type 1} → statement M
 stands-for-all-spec =

@@ -5,7 +5,7 @@ use mathlib.Core.Bool.{Bool, cond}
 use mathlib.Core.List.{map}
 use Rattle.ty.specs.Words.{type_of}
 use Rattle.lattice.specs.Lattice.{lesser}
-use Rattle.candidates.specs.Maybe.{maybeType}
+use Rattle.candidates.specs.Maybe.{maybe_type}
 use Rattle.candidates.proofs.with_class_hint.Statement.{statement}
 use Rattle.candidates.proofs.with_class_hint.Tie as tie
 
@@ -27,7 +27,7 @@ returns c =
     let g = c.before.before.group-for.ensures.1 in
     record {
       legal = r.0;
-      type = r.1 ∙ ap (λ (b : Bool). cond b (lesser (type_of a.hint.word) (maybeType a.b.best)) (maybeType a.b.best)) (c.before.takes.ensures (map type_of a.upper.now) g);
+      type = r.1 ∙ ap (λ (b : Bool). cond b (lesser (type_of a.hint.word) (maybe_type a.b.best)) (maybe_type a.b.best)) (c.before.takes.ensures (map type_of a.upper.now) g);
       group = g;
     }
 

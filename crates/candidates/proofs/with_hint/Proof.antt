@@ -4,7 +4,7 @@ use mathlib.Core.Path.{ap, ◌∙◌}
 use mathlib.Core.Bool.{Bool, cond}
 use Rattle.ty.specs.Words.{type_of}
 use Rattle.lattice.specs.Lattice.{lesser}
-use Rattle.candidates.specs.Maybe.{maybeType}
+use Rattle.candidates.specs.Maybe.{maybe_type}
 use Rattle.candidates.proofs.with_hint.Statement.{statement}
 use Rattle.candidates.proofs.with_hint.Tie as tie
 
@@ -18,7 +18,7 @@ returns : tie.Need-returns
 returns c =
     let a = c.before.before.before.before.before.args in
     let r = c.lesser-if.ensures in
-    (r.0, r.1 ∙ ap (λ (b : Bool). cond b (lesser (type_of a.hint.word) (maybeType a.best)) (maybeType a.best)) c.before.is-assignable-to-each.ensures)
+    (r.0, r.1 ∙ ap (λ (b : Bool). cond b (lesser (type_of a.hint.word) (maybe_type a.best)) (maybe_type a.best)) c.before.is-assignable-to-each.ensures)
 
 pub with-hint-spec : {M : Type 1} → statement M
 with-hint-spec =

@@ -6,7 +6,7 @@ use Rattle.sets.specs.Sets.{insert}
 use Rattle.view.specs.Ancestors.{ancestor-self}
 use Rattle.view.specs.Relations.{relation-yes}
 use Rattle.tables.specs.Table.{view_of}
-use Rattle.lattice.specs.World.{worldOf}
+use Rattle.lattice.specs.World.{world_of}
 use Rattle.candidates.specs.Groups.{grouped-class, grouped-other}
 use Rattle.candidates.proofs.with_other.Statement.{statement}
 use Rattle.candidates.proofs.with_other.Tie as tie
@@ -24,7 +24,7 @@ returns c =
     let v = view_of a.pairs.now a.marks.now a.t in (
       refl,
       λ ts old.
-          grouped-class (worldOf a.pairs.now a.marks.now a.t) a.g.head ts a.g.classes.words old a.other.word (λ x. (relation-yes v x x).1 (ancestor-self v x))
+          grouped-class (world_of a.pairs.now a.marks.now a.t) a.g.head ts a.g.classes.words old a.other.word (λ x. (relation-yes v x x).1 (ancestor-self v x))
           s.requires.2 c.before.before.if1.true a.candidate.word s.requires.1 c.with.result.words
           (c.with.ensures ∙ ap (λ (k : ℕ). insert a.g.classes.words k) c.before.load.ensures),
     )
@@ -38,7 +38,7 @@ returns-2 c =
     let a = s.args in (
       refl,
       λ ts old.
-          grouped-other (worldOf a.pairs.now a.marks.now a.t) a.g.head ts a.g.classes.words old a.other.word c.before.if1.false a.candidate.word s.requires.1
+          grouped-other (world_of a.pairs.now a.marks.now a.t) a.g.head ts a.g.classes.words old a.other.word c.before.if1.false a.candidate.word s.requires.1
           c.is-assignable.result c.is-assignable.ensures,
     )
 

@@ -5,7 +5,7 @@ use mathlib.Core.List.{List, ◌++◌}
 use Prim.Native.Nat.{ℕ, ◌+◌, ◌-◌, ◌≤◌}
 use native.Mathlib.Omega.{arith}
 use lib.ListN.{length, take, drop, replicate}
-use Rattle.clearing.proofs.Steps.{cleared, cleared_more, cleared-rest}
+use Rattle.clearing.proofs.Steps.{cleared, cleared-more, cleared-rest}
 use Rattle.clearing.proofs.clear.Statement.{statement}
 use Rattle.clearing.proofs.clear.Tie as tie
 
@@ -38,14 +38,14 @@ loop-again c =
       refl,
       omega (arith, c.before.before.before.before.loop-test.true, l.invariant.1),
       block.auto.0 ∙ l.invariant.2,
-      block.ensures ∙ ap (λ (w : List ℕ). take l.i w ++ (replicate 16 0 ++ drop (l.i + 16) w)) l.invariant.3 ∙ cleared_more a.work.now l.i 16,
+      block.ensures ∙ ap (λ (w : List ℕ). take l.i w ++ (replicate 16 0 ++ drop (l.i + 16) w)) l.invariant.3 ∙ cleared-more a.work.now l.i 16,
     )
 
 put-zeros-requires : tie.Need-put-zeros-requires invariant-loop decreases-loop
 put-zeros-requires c κs = let l = c.before.before.loop in (l.invariant.1, omega (arith, l.invariant.2))
 
-same_length : tie.Need-same-length invariant-loop decreases-loop
-same_length c = search rules
+same-length : tie.Need-same-length invariant-loop decreases-loop
+same-length c = search rules
 
 returns : tie.Need-returns invariant-loop decreases-loop
 returns c =
@@ -55,8 +55,8 @@ returns c =
     c.before.before.put-zeros.ensures
     ∙ ap (λ (w : List ℕ). take l.i w ++ (replicate (n - l.i) 0 ++ drop n w)) l.invariant.3 ∙ cleared-rest a.work.now l.i n l.invariant.1 refl
 
-pub clear_spec : {M : Type 1} → statement M
-clear_spec =
+pub clear-spec : {M : Type 1} → statement M
+clear-spec =
     tie.close
     (tie.spec
     invariant-loop
@@ -68,5 +68,5 @@ clear_spec =
     loop-less
     loop-again
     put-zeros-requires
-    same_length
+    same-length
     returns)

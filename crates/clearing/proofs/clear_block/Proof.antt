@@ -19,8 +19,8 @@ add-put-zeros c = search rules
 put-zeros-requires : tie.Need-put-zeros-requires
 put-zeros-requires c κs = search rules
 
-same_length : tie.Need-same-length
-same_length c = search rules
+same-length : tie.Need-same-length
+same-length c = search rules
 
 returns : tie.Need-returns
 returns c =
@@ -44,7 +44,7 @@ clear-block-spec =
     is-zero-requires
     add-put-zeros
     put-zeros-requires
-    same_length
+    same-length
     returns
     same-length-2
     returns-2)

@@ -41,8 +41,8 @@ loop-again c =
       ap (λ x. set x l.k 0) l.invariant.4 ∙ zeroed-more a.work.now a.i l.k l.invariant.0 (omega (arith, h, l.invariant.2)),
     )
 
-same_length : tie.Need-same-length invariant-loop decreases-loop
-same_length c = c.before.loop.invariant.3
+same-length : tie.Need-same-length invariant-loop decreases-loop
+same-length c = c.before.loop.invariant.3
 
 returns : tie.Need-returns invariant-loop decreases-loop
 returns c =
@@ -62,5 +62,5 @@ put-zeros-spec =
     add-k
     loop-less
     loop-again
-    same_length
+    same-length
     returns)

@@ -5,7 +5,7 @@ use mathlib.Core.List.{List}
 use Prim.Native.Nat.{ℕ, ◌-◌, ◌≤◌}
 use native.Mathlib.Omega.{arith}
 use lib.ListN.{length, length-set, set}
-use Rattle.keys.specs.Rank.{keyComponent, keyKind}
+use Rattle.keys.specs.Rank.{key_component, key_kind}
 use Rattle.copying.specs.Copies.{word_in}
 use Rattle.columnsout.specs.Columns.{front, front-more}
 use Rattle.columnsout.proofs.write_columns.Statement.{statement}
@@ -14,7 +14,7 @@ use Rattle.columnsout.proofs.write_columns.Tie as tie
 abbrev invariant-loop : tie.invariant-loop
 invariant-loop keys out-comp₀ out-kind₀ out-type₀ i₀ out-comp out-kind out-type i =
     (i ≤ length keys) × (length out-comp ≡ length out-comp₀) × (length out-kind ≡ length out-kind₀) × (length out-type ≡ length out-type₀)
-    × (out-comp ≡ front keyComponent keys out-comp₀ i) × (out-kind ≡ front keyKind keys out-kind₀ i) × (out-type ≡ front word_in keys out-type₀ i)
+    × (out-comp ≡ front key_component keys out-comp₀ i) × (out-kind ≡ front key_kind keys out-kind₀ i) × (out-type ≡ front word_in keys out-type₀ i)
 
 abbrev decreases-loop : tie.decreases-loop
 decreases-loop keys out-comp₀ out-kind₀ out-type₀ i₀ out-comp out-kind out-type i = length keys - i
@@ -72,15 +72,15 @@ loop-again c =
       simp length-set l.invariant.2,
       simp length-set l.invariant.3,
       ap (λ (o : List ℕ). set o l.i c.before.key-component.result) l.invariant.4
-          ∙ front-more keyComponent k a.out-comp.now l.i c.before.key-component.result c.before.key-component.ensures (omega arith) s.requires.0,
+          ∙ front-more key_component k a.out-comp.now l.i c.before.key-component.result c.before.key-component.ensures (omega arith) s.requires.0,
       ap (λ (o : List ℕ). set o l.i c.key-kind.result) l.invariant.5
-          ∙ front-more keyKind k a.out-kind.now l.i c.key-kind.result c.key-kind.ensures (omega arith) s.requires.1,
+          ∙ front-more key_kind k a.out-kind.now l.i c.key-kind.result c.key-kind.ensures (omega arith) s.requires.1,
       ap (λ (o : List ℕ). set o l.i c.before.before.key-type.result.word) l.invariant.6
           ∙ front-more word_in k a.out-type.now l.i c.before.before.key-type.result.word c.before.before.key-type.ensures (omega arith) s.requires.2,
     )
 
-same_length : tie.Need-same-length invariant-loop decreases-loop
-same_length c = search rules
+same-length : tie.Need-same-length invariant-loop decreases-loop
+same-length c = search rules
 
 same-length-2 : tie.Need-same-length-2 invariant-loop decreases-loop
 same-length-2 c = search rules
@@ -94,9 +94,9 @@ returns c =
     let l = c.before.loop in
     let e : l.i ≡ length a.keys.now = omega arith in
     record {
-      components-are = l.invariant.4 ∙ ap (front keyComponent a.keys.now a.out-comp.now) e;
-      kinds-are = l.invariant.5 ∙ ap (front keyKind a.keys.now a.out-kind.now) e;
-      types_are = l.invariant.6 ∙ ap (front word_in a.keys.now a.out-type.now) e;
+      components-are = l.invariant.4 ∙ ap (front key_component a.keys.now a.out-comp.now) e;
+      kinds-are = l.invariant.5 ∙ ap (front key_kind a.keys.now a.out-kind.now) e;
+      types-are = l.invariant.6 ∙ ap (front word_in a.keys.now a.out-type.now) e;
     }
 
 pub write-columns-spec : {M : Type 1} → statement M
@@ -120,7 +120,7 @@ write-columns-spec =
     add-i
     loop-less
     loop-again
-    same_length
+    same-length
     same-length-2
     same-length-3
     returns)

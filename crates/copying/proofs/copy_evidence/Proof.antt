@@ -7,8 +7,8 @@ use native.Mathlib.Nat.{zero-add}
 use native.Mathlib.Omega.{arith}
 use lib.ListN.{length}
 use lib.Seq.{paste}
-use Rattle.copying.specs.Copies.{runIn, words_in}
-use Rattle.copying.specs.Steps.{run_short, evidence-exact, evidence-lower, paste_none}
+use Rattle.copying.specs.Copies.{run_in, words_in}
+use Rattle.copying.specs.Steps.{run-short, evidence-exact, evidence-lower, paste-none}
 use Rattle.copying.proofs.copy_evidence.Statement.{statement}
 use Rattle.copying.proofs.copy_evidence.Tie as tie
 
@@ -16,17 +16,17 @@ copy-words-requires : tie.Need-copy-words-requires
 copy-words-requires c κs =
     let x = c.before.before.before.args in
     let p = c.before.before.before.requires in
-    (p.0, p.1, omega arith, omega (arith, p.2, run_short x.component 4 x.keys.now p.0))
+    (p.0, p.1, omega arith, omega (arith, p.2, run-short x.component 4 x.keys.now p.0))
 
-same_length : tie.Need-same-length
-same_length c = search rules
+same-length : tie.Need-same-length
+same-length c = search rules
 
 returns : tie.Need-returns
 returns c =
     let x = c.before.before.before.before.before.before.before.args in
     let o = c.before.before.before.copy-words in
     let e = evidence-exact x.component x.keys.now x.out.now o.result o.ensures.0 c.if1.true in (
-      o.ensures.0 ∙ zero-add (length (runIn x.component 4 x.keys.now)) ∙ ap length e,
+      o.ensures.0 ∙ zero-add (length (run_in x.component 4 x.keys.now)) ∙ ap length e,
       o.ensures.1 ∙ ap (λ (l : List ℕ). paste x.out.now 0 (words_in l) (length l)) e,
     )
 
@@ -35,7 +35,7 @@ copy-words-requires-2 c κs =
     let x = c.before.before.before.before.before.before.before.before.args in
     let p = c.before.before.before.before.before.before.before.before.requires in
     let o = c.before.before.before.before.copy-words in
-    (p.0, p.1, omega arith, omega (arith, p.2, o.auto.1.1.1.0, run_short x.component 3 x.keys.now p.0))
+    (p.0, p.1, omega arith, omega (arith, p.2, o.auto.1.1.1.0, run-short x.component 3 x.keys.now p.0))
 
 same-length-2 : tie.Need-same-length-2
 same-length-2 c = search rules
@@ -46,8 +46,8 @@ returns-2 c =
     let o = c.before.before.before.before.before.before.before.copy-words in
     let v = c.before.before.copy-words2 in
     let e = evidence-lower x.component x.keys.now x.out.now o.result o.ensures.0 c.before.before.before.before.if1.false in
-    let same = paste_none x.component x.keys.now x.out.now o.new.1.1.1.0 (runIn x.component 4 x.keys.now) e.0 o.ensures.1 in (
-      v.ensures.0 ∙ zero-add (length (runIn x.component 3 x.keys.now)) ∙ ap length e.1,
+    let same = paste-none x.component x.keys.now x.out.now o.new.1.1.1.0 (run_in x.component 4 x.keys.now) e.0 o.ensures.1 in (
+      v.ensures.0 ∙ zero-add (length (run_in x.component 3 x.keys.now)) ∙ ap length e.1,
       v.ensures.1 ∙ ap₂ (λ (d l : List ℕ). paste d 0 (words_in l) (length l)) same e.1,
     )
 
@@ -56,7 +56,7 @@ copy-evidence-spec =
     tie.close
     (tie.spec
     copy-words-requires
-    same_length
+    same-length
     returns
     copy-words-requires-2
     same-length-2

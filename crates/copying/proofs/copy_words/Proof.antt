@@ -7,7 +7,7 @@ use native.Mathlib.Omega.{arith}
 use lib.ListN.{length}
 use lib.Seq.{paste}
 use Rattle.copying.specs.Copies.{words_in}
-use Rattle.copying.specs.Steps.{run_is, run-bounds, run_length}
+use Rattle.copying.specs.Steps.{run-is, run-bounds, run-length}
 use Rattle.copying.proofs.copy_words.Statement.{statement}
 use Rattle.copying.proofs.copy_words.Tie as tie
 
@@ -53,7 +53,7 @@ words-at-requires c κs =
     let x = c.before.before.before.before.before.args in
     let p = c.before.before.before.before.before.requires in
     let r = c.before.before.run in
-    omega (arith, p.3, ap length (run_is x.component x.kind x.keys.now p.0 r.result r.ensures))
+    omega (arith, p.3, ap length (run-is x.component x.kind x.keys.now p.0 r.result r.ensures))
 
 sub-result : tie.Need-overflow-sub-result
 sub-result c =
@@ -67,18 +67,18 @@ add-result c =
     let x = c.before.before.before.before.before.before.before.before.args in
     let p = c.before.before.before.before.before.before.before.before.requires in
     let r = c.before.before.before.before.before.run in
-    omega (arith, p.3, run_length x.component x.kind x.keys.now p.0 r.result r.ensures)
+    omega (arith, p.3, run-length x.component x.kind x.keys.now p.0 r.result r.ensures)
 
-same_length : tie.Need-same-length
-same_length c = search rules
+same-length : tie.Need-same-length
+same-length c = search rules
 
 returns : tie.Need-returns
 returns c =
     let x = c.before.before.before.before.before.before.before.before.args in
     let p = c.before.before.before.before.before.before.before.before.requires in
     let r = c.before.before.before.before.before.run in (
-      ap (λ (m : ℕ). x.at + m) (sym (run_length x.component x.kind x.keys.now p.0 r.result r.ensures)),
-      c.before.before.words-at.ensures ∙ ap (λ (l : List ℕ). paste x.out.now x.at (words_in l) (length l)) (run_is x.component x.kind x.keys.now p.0 r.result r.ensures),
+      ap (λ (m : ℕ). x.at + m) (sym (run-length x.component x.kind x.keys.now p.0 r.result r.ensures)),
+      c.before.before.words-at.ensures ∙ ap (λ (l : List ℕ). paste x.out.now x.at (words_in l) (length l)) (run-is x.component x.kind x.keys.now p.0 r.result r.ensures),
     )
 
 pub copy-words-spec : {M : Type 1} → statement M
@@ -95,5 +95,5 @@ copy-words-spec =
     words-at-requires
     sub-result
     add-result
-    same_length
+    same-length
     returns)

@@ -6,13 +6,13 @@ use Prim.Native.Nat.{ℕ, ◌+◌, ◌-◌, ◌%◌, ◌≤◌}
 use native.Mathlib.Omega.{arith}
 use lib.ListN.{length, get_or, set, length-set}
 use lib.Seq.{paste, paste-zero}
-use Rattle.copying.specs.Copies.{ranksIn, rankIn}
-use Rattle.copying.specs.Steps.{paste_more}
+use Rattle.copying.specs.Copies.{ranks_in, rank_in}
+use Rattle.copying.specs.Steps.{paste-more}
 use Rattle.copying.proofs.ranks_at.Statement.{statement}
 use Rattle.copying.proofs.ranks_at.Tie as tie
 
 abbrev invariant-loop : tie.invariant-loop
-invariant-loop keys out₀ at i₀ out i = (i ≤ length keys) × (length out ≡ length out₀) × (out ≡ paste out₀ at (ranksIn keys) i)
+invariant-loop keys out₀ at i₀ out i = (i ≤ length keys) × (length out ≡ length out₀) × (out ≡ paste out₀ at (ranks_in keys) i)
 
 abbrev decreases-loop : tie.decreases-loop
 decreases-loop keys out₀ at i₀ out i = length keys - i
@@ -20,7 +20,7 @@ decreases-loop keys out₀ at i₀ out i = length keys - i
 loop-holds : tie.Need-loop-init invariant-loop decreases-loop
 loop-holds c =
     let x = c.args in
-    (omega arith, refl, paste-zero x.out.now x.at (ranksIn x.keys.now))
+    (omega arith, refl, paste-zero x.out.now x.at (ranks_in x.keys.now))
 
 mul-out : tie.Need-overflow-mul-out invariant-loop decreases-loop
 mul-out c = search rules
@@ -50,17 +50,17 @@ loop-again c =
       omega arith,
       simp length-set l.invariant.1,
       ap (λ (o : List ℕ). set o (x.at + l.i) (get_or x.keys.now l.i 0 % 4503599627370496)) l.invariant.2
-          ∙ paste_more rankIn x.out.now x.at x.keys.now l.i (get_or x.keys.now l.i 0 % 4503599627370496) refl (omega arith) c.before.before.before.requires,
+          ∙ paste-more rank_in x.out.now x.at x.keys.now l.i (get_or x.keys.now l.i 0 % 4503599627370496) refl (omega arith) c.before.before.before.requires,
     )
 
-same_length : tie.Need-same-length invariant-loop decreases-loop
-same_length c = search rules
+same-length : tie.Need-same-length invariant-loop decreases-loop
+same-length c = search rules
 
 returns : tie.Need-returns invariant-loop decreases-loop
 returns c =
     let x = c.before.before.args in
     let l = c.before.loop in
-    l.invariant.2 ∙ ap (paste x.out.now x.at (ranksIn x.keys.now)) (let e : l.i ≡ length x.keys.now = omega arith in e)
+    l.invariant.2 ∙ ap (paste x.out.now x.at (ranks_in x.keys.now)) (let e : l.i ≡ length x.keys.now = omega arith in e)
 
 pub ranks-at-spec : {M : Type 1} → statement M
 ranks-at-spec =
@@ -77,5 +77,5 @@ ranks-at-spec =
     add-i
     loop-less
     loop-again
-    same_length
+    same-length
     returns)

@@ -7,7 +7,7 @@ use native.Mathlib.Omega.{arith}
 use lib.ListN.{length, set, length-set}
 use lib.Seq.{paste, paste-zero}
 use Rattle.copying.specs.Copies.{words_in, word_in}
-use Rattle.copying.specs.Steps.{paste_more}
+use Rattle.copying.specs.Steps.{paste-more}
 use Rattle.copying.proofs.words_at.Statement.{statement}
 use Rattle.copying.proofs.words_at.Tie as tie
 
@@ -53,11 +53,11 @@ loop-again c =
       omega arith,
       simp length-set l.invariant.1,
       ap (λ (o : List ℕ). set o (x.at + l.i) c.key-type.result.word) l.invariant.2
-          ∙ paste_more word_in x.out.now x.at x.keys.now l.i c.key-type.result.word c.key-type.ensures (omega arith) c.before.before.before.before.before.before.requires,
+          ∙ paste-more word_in x.out.now x.at x.keys.now l.i c.key-type.result.word c.key-type.ensures (omega arith) c.before.before.before.before.before.before.requires,
     )
 
-same_length : tie.Need-same-length invariant-loop decreases-loop
-same_length c = search rules
+same-length : tie.Need-same-length invariant-loop decreases-loop
+same-length c = search rules
 
 returns : tie.Need-returns invariant-loop decreases-loop
 returns c =
@@ -81,5 +81,5 @@ words-at-spec =
     add-i
     loop-less
     loop-again
-    same_length
+    same-length
     returns)

@@ -4,7 +4,7 @@ use mathlib.Core.Path.{ap, ◌∙◌}
 use mathlib.Core.Bool.{false}
 use mathlib.Core.List.{List}
 use lib.ListN.{length, drop}
-use Rattle.descriptor.specs.Read.{readName, readType}
+use Rattle.descriptor.specs.Read.{read_name, read_type}
 use Rattle.descriptor.specs.Core.{core_of, lent-anew, core-end, core-name, core-full, core-deeper, core-flat}
 use Prim.Native.Nat.{ℕ, ◌+◌, ◌-◌, ◌<◌}
 use borrow.Fn.Kinds.{In}
@@ -89,7 +89,7 @@ read-core-returns-2 : (t : ℕ) → read-core-lts.Need-returns-2 (claims t) (rea
 read-core-returns-2 t c =
     let a = c.before.before.before.before.before.before.before.args in
     c.name-core.ensures
-    ∙ ap (λ (l : List ℕ). core_of (readName (drop (a.at + 1) l) a.at a.dims)) (lent-anew a.s.now)
+    ∙ ap (λ (l : List ℕ). core_of (read_name (drop (a.at + 1) l) a.at a.dims)) (lent-anew a.s.now)
     ∙ core-name a.s.now a.at a.void a.dims c.before.before.before.before.before.if1.false c.before.before.before.letter.result c.before.before.before.letter.ensures c.before.before.if2.true
 
 read-core-returns-3 : (t : ℕ) → read-core-lts.Need-returns-3 (claims t) (read-core-at t) read-core.Post
@@ -101,7 +101,7 @@ read-core-returns-4 : (t : ℕ) → read-core-lts.Need-returns-4 (claims t) (rea
 read-core-returns-4 t c =
     let a = c.before.before.before.before.before.before.before.before.before.args in
     c.read-core.ensures
-    ∙ ap (λ (l : List ℕ). core_of (readType (drop (a.at + 1) l) (a.at + 1) false (a.dims + 1))) (lent-anew a.s.now)
+    ∙ ap (λ (l : List ℕ). core_of (read_type (drop (a.at + 1) l) (a.at + 1) false (a.dims + 1))) (lent-anew a.s.now)
     ∙ core-deeper a.s.now a.at a.void a.dims c.before.before.before.before.before.before.before.if1.false c.before.before.before.before.before.letter.result c.before.before.before.before.before.letter.ensures c.before.before.before.if3.true c.before.before.if4.false
 
 read-core-returns-5 : (t : ℕ) → read-core-lts.Need-returns-5 (claims t) (read-core-at t) read-core.Post

@@ -1,10 +1,10 @@
--- Each way out is the core of a case of `readName`.
+-- Each way out is the core of a case of `read_name`.
 use borrow.Author.Rules.{rules}
 use mathlib.Core.Path.{ap, ◌∙◌}
 use mathlib.Core.List.{List}
 use Prim.Native.Nat.{ℕ, ◌+◌, ◌-◌}
 use lib.ListN.{length, take, drop}
-use Rattle.utf8.specs.Utf8.{validPrefix}
+use Rattle.utf8.specs.Utf8.{valid_prefix}
 use native.Mathlib.Omega.{arith}
 use Rattle.descriptor.specs.Core.{core_of, lent-anew}
 use Rattle.descriptor.specs.Steps.{name-inside, name-none, name-empty, name-bad, name-good}
@@ -51,7 +51,7 @@ returns-3 c =
     let a = c.before.before.before.before.before.before.before.args in
     let e = c.before.before.before.before.before.find-end in
     let v = c.before.valid_up_to in
-    ap core_of (name-bad a.s.now a.at a.dims e.result c.before.before.before.before.before.before.before.requires.0 e.ensures c.before.before.before.before.if1.false c.before.before.before.if2.false v.result (v.ensures ∙ ap (λ (l : List ℕ). a.at + 1 + validPrefix (take (e.result - (a.at + 1)) (drop (a.at + 1) l))) (lent-anew a.s.now)) c.if3.true)
+    ap core_of (name-bad a.s.now a.at a.dims e.result c.before.before.before.before.before.before.before.requires.0 e.ensures c.before.before.before.before.if1.false c.before.before.before.if2.false v.result (v.ensures ∙ ap (λ (l : List ℕ). a.at + 1 + valid_prefix (take (e.result - (a.at + 1)) (drop (a.at + 1) l))) (lent-anew a.s.now)) c.if3.true)
 
 mul-t18 : tie.Need-overflow-mul-t18
 mul-t18 c = search rules
@@ -70,7 +70,7 @@ returns-4 c =
     let a = c.before.before.before.before.before.before.before.args in
     let e = c.before.before.before.before.before.find-end in
     let v = c.before.valid_up_to in
-    ap core_of (name-good a.s.now a.at a.dims e.result c.before.before.before.before.before.before.before.requires.0 e.ensures c.before.before.before.before.if1.false c.before.before.before.if2.false v.result (v.ensures ∙ ap (λ (l : List ℕ). a.at + 1 + validPrefix (take (e.result - (a.at + 1)) (drop (a.at + 1) l))) (lent-anew a.s.now)) c.if3.false)
+    ap core_of (name-good a.s.now a.at a.dims e.result c.before.before.before.before.before.before.before.requires.0 e.ensures c.before.before.before.before.if1.false c.before.before.before.if2.false v.result (v.ensures ∙ ap (λ (l : List ℕ). a.at + 1 + valid_prefix (take (e.result - (a.at + 1)) (drop (a.at + 1) l))) (lent-anew a.s.now)) c.if3.false)
 
 pub name-core-spec : {M : Type 1} → statement M
 name-core-spec =

@@ -24,5 +24,5 @@ returns c =
     let e = c.before.ended in
     c.Read-of.ensures ∙ sym (ended-tells a.s.now a.at k.result e.result k.ensures e.ensures).whole
 
-pub read_last_spec : {M : Type 1} → statement M
-read_last_spec = tie.close (tie.spec read-core-requires ended-requires read-of-requires returns)
+pub read-last-spec : {M : Type 1} → statement M
+read-last-spec = tie.close (tie.spec read-core-requires ended-requires read-of-requires returns)

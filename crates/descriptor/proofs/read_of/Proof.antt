@@ -1,4 +1,4 @@
--- Each way out is a case of `unCore`.
+-- Each way out is a case of `un_core`.
 use borrow.Author.Rules.{rules}
 use mathlib.Core.Path.{ap, ◌∙◌}
 use native.Mathlib.Omega.{arith}

@@ -5,13 +5,13 @@ use Prim.Native.Nat.{◌*◌, ◌-◌, ◌≤◌}
 use native.Mathlib.Omega.{arith}
 use lib.ListN.{length, drop}
 use borrow.Author.Tests.{not-true, not-false}
-use Rattle.hexline.specs.Hex.{hexBytes, isHex}
+use Rattle.hexline.specs.Hex.{hex_bytes, is_hex}
 use Rattle.hexline.specs.Laws.{hex-end, pair-bad-high, pair-bad-low, pair-hex}
 use Rattle.hexline.proofs.is_hex.Statement.{statement}
 use Rattle.hexline.proofs.is_hex.Tie as tie
 
 abbrev invariant-loop : tie.invariant-loop
-invariant-loop line n k₀ k = (k ≤ n) × (2 * n ≡ length line) × (isHex (hexBytes line) ≡ isHex (hexBytes (drop (2 * k) line)))
+invariant-loop line n k₀ k = (k ≤ n) × (2 * n ≡ length line) × (is_hex (hex_bytes line) ≡ is_hex (hex_bytes (drop (2 * k) line)))
 
 abbrev decreases-loop : tie.decreases-loop
 decreases-loop line n k₀ k = n - k
@@ -56,7 +56,7 @@ loop-again : tie.Need-loop-preserved invariant-loop decreases-loop
 loop-again c = let l = c.before.before.before.before.before.before.before.loop in let a = c.before.before.before.before.before.before.before.before.before.args in (omega arith, omega arith, l.invariant.2 ∙ pair-hex a.line.now l.k (omega arith) (sym c.before.before.before.before.is_digit.ensures ∙ not-false _ c.before.before.before.if1.false) (sym c.before.is-digit2.ensures ∙ not-false _ c.if2.false))
 
 returns-3 : tie.Need-returns-3 invariant-loop decreases-loop
-returns-3 c = let l = c.before.loop in let a = c.before.before.before.args in sym (l.invariant.2 ∙ ap isHex (hex-end a.line.now l.k (omega arith)))
+returns-3 c = let l = c.before.loop in let a = c.before.before.before.args in sym (l.invariant.2 ∙ ap is_hex (hex-end a.line.now l.k (omega arith)))
 
 pub is-hex-spec : {M : Type 1} → statement M
 is-hex-spec =

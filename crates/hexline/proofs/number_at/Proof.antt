@@ -16,8 +16,8 @@ wide-requires c κs = search rules
 mul-result : tie.Need-overflow-mul-result
 mul-result c = search rules
 
-add_wide : tie.Need-overflow-add-wide
-add_wide c = search rules
+add-wide : tie.Need-overflow-add-wide
+add-wide c = search rules
 
 shared-slice-read-wide-2 : tie.Need-shared-slice-read-wide-2
 shared-slice-read-wide-2 c = search rules
@@ -39,7 +39,7 @@ number-at-spec =
     shared-slice-read-wide
     wide-requires
     mul-result
-    add_wide
+    add-wide
     shared-slice-read-wide-2
     wide-requires-2
     add-result

@@ -6,19 +6,19 @@ use mathlib.Core.List.{List, ◌∷◌}
 use Prim.Native.Nat.{ℕ, ◌+◌, ◌*◌, ◌-◌, ◌≤◌}
 use native.Mathlib.Omega.{arith}
 use lib.ListN.{length, drop}
-use Rattle.hexline.specs.Hex.{hexBytes, isHex, bytes_of}
-use Rattle.hexline.specs.Laws.{hex-length, hex-end, pair-bytes, Filling, fill_start, fill_step, fill_end}
+use Rattle.hexline.specs.Hex.{hex_bytes, is_hex, bytes_of}
+use Rattle.hexline.specs.Laws.{hex-length, hex-end, pair-bytes, Filling, fill-start, fill-step, fill-end}
 use Rattle.hexline.proofs.put_bytes.Statement.{statement}
 use Rattle.hexline.proofs.put_bytes.Tie as tie
 
 abbrev invariant-loop : tie.invariant-loop
-invariant-loop line frame₀ n k₀ frame k = (k ≤ n) × (2 * n ≡ length line) × (n ≤ length frame) × (isHex (hexBytes (drop (2 * k) line)) ≡ true) × Filling (bytes_of (hexBytes line)) (bytes_of (hexBytes (drop (2 * k) line))) frame₀ frame k
+invariant-loop line frame₀ n k₀ frame k = (k ≤ n) × (2 * n ≡ length line) × (n ≤ length frame) × (is_hex (hex_bytes (drop (2 * k) line)) ≡ true) × Filling (bytes_of (hex_bytes line)) (bytes_of (hex_bytes (drop (2 * k) line))) frame₀ frame k
 
 abbrev decreases-loop : tie.decreases-loop
 decreases-loop line frame₀ n k₀ frame k = n - k
 
 loop-holds : tie.Need-loop-init invariant-loop decreases-loop
-loop-holds c = let a = c.before.before.args in let p = c.before.before.requires.0 in let e = hex-length a.line.now p in (omega arith, omega arith, omega arith, p, fill_start (bytes_of (hexBytes a.line.now)) a.frame.now)
+loop-holds c = let a = c.before.before.args in let p = c.before.before.requires.0 in let e = hex-length a.line.now p in (omega arith, omega arith, omega arith, p, fill-start (bytes_of (hex_bytes a.line.now)) a.frame.now)
 
 mul-value : tie.Need-overflow-mul-value invariant-loop decreases-loop
 mul-value c = search rules
@@ -62,19 +62,19 @@ loop-again c =
     let a = c.before.before.before.before.before.before.before.before.args in
     let q = pair-bytes a.line.now l.k (omega arith) l.invariant.3 in
     let v = ap₂ (λ (x y : ℕ). x * 16 + y) c.before.before.value.ensures.0 c.value2.ensures.0 in
-    let f = subst (λ (m : List ℕ). Filling (bytes_of (hexBytes a.line.now)) m a.frame.now l.frame l.k) (q.0 ∙ ap (λ (x : ℕ). x ∷ bytes_of (hexBytes (drop (2 * (l.k + 1)) a.line.now))) (sym v)) l.invariant.4 in
-    let g = fill_step (bytes_of (hexBytes a.line.now)) a.frame.now l.frame l.k _ _ (omega arith) f in
+    let f = subst (λ (m : List ℕ). Filling (bytes_of (hex_bytes a.line.now)) m a.frame.now l.frame l.k) (q.0 ∙ ap (λ (x : ℕ). x ∷ bytes_of (hex_bytes (drop (2 * (l.k + 1)) a.line.now))) (sym v)) l.invariant.4 in
+    let g = fill-step (bytes_of (hex_bytes a.line.now)) a.frame.now l.frame l.k _ _ (omega arith) f in
     (omega arith, omega arith, (let s = g.same in let t = l.invariant.4.same in omega arith), q.1, g)
 
-same_length : tie.Need-same-length invariant-loop decreases-loop
-same_length c = c.before.loop.invariant.4.same
+same-length : tie.Need-same-length invariant-loop decreases-loop
+same-length c = c.before.loop.invariant.4.same
 
 returns : tie.Need-returns invariant-loop decreases-loop
 returns c =
     let l = c.before.loop in
     let a = c.before.before.before.before.args in
-    fill_end (bytes_of (hexBytes a.line.now)) a.frame.now l.frame l.k (omega arith)
-    (subst (λ (m : List ℕ). Filling (bytes_of (hexBytes a.line.now)) m a.frame.now l.frame l.k) (ap bytes_of (hex-end a.line.now l.k (omega arith))) l.invariant.4)
+    fill-end (bytes_of (hex_bytes a.line.now)) a.frame.now l.frame l.k (omega arith)
+    (subst (λ (m : List ℕ). Filling (bytes_of (hex_bytes a.line.now)) m a.frame.now l.frame l.k) (ap bytes_of (hex-end a.line.now l.k (omega arith))) l.invariant.4)
 
 pub put-bytes-spec : {M : Type 1} → statement M
 put-bytes-spec =
@@ -96,5 +96,5 @@ put-bytes-spec =
     add-k
     loop-less
     loop-again
-    same_length
+    same-length
     returns)

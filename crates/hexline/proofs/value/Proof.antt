@@ -24,5 +24,5 @@ returns-4 c = (sym (ap value_of (digit-letter c.before.before.before.before.args
 returns-5 : tie.Need-returns-5
 returns-5 c = (sym (ap value_of (digit-above c.before.before.before.before.args.b (omega arith))), omega arith)
 
-pub value_spec : {M : Type 1} → statement M
-value_spec = tie.close (tie.spec returns returns-2 returns-3 sub-result returns-4 returns-5)
+pub value-spec : {M : Type 1} → statement M
+value-spec = tie.close (tie.spec returns returns-2 returns-3 sub-result returns-4 returns-5)

@@ -6,17 +6,17 @@ use mathlib.Core.List.{List}
 use Prim.Native.Nat.{ℕ}
 use lib.ListN.{length}
 use Rattle.sets.specs.Sets.{at, members, first}
-use Rattle.view.specs.View.{withParents}
+use Rattle.view.specs.View.{with_parents}
 use Rattle.tables.specs.Table.{view_of}
 use Rattle.hierarchy.proofs.Steps.{expand-step, expand-end}
-use Rattle.view.specs.Frontier.{left_less}
+use Rattle.view.specs.Frontier.{left-less}
 use Rattle.hierarchy.proofs.expand.Statement.{statement}
 use Rattle.hierarchy.proofs.expand.Tie as tie
 
 abbrev invariant-loop : tie.invariant-loop
 invariant-loop pairs marks t all₀ left₀ c₀ all left c =
     (c ≡ first (at left.words) 1024)
-    × (withParents (view_of pairs marks t) all₀.words (members (at left₀.words) 0 1024) ≡ withParents (view_of pairs marks t) all.words (members (at left.words) 0 1024))
+    × (with_parents (view_of pairs marks t) all₀.words (members (at left₀.words) 0 1024) ≡ with_parents (view_of pairs marks t) all.words (members (at left.words) 0 1024))
 
 abbrev decreases-loop : tie.decreases-loop
 decreases-loop pairs marks t all₀ left₀ c₀ all left c = length (members (at left.words) 0 1024)
@@ -39,7 +39,7 @@ lowest-requires-2 c κs = search rules
 loop-less : tie.Need-loop-smaller invariant-loop decreases-loop
 loop-less c =
     let l = c.before.before.before.before.loop in
-    left_less l.left.words l.c c.before.without.result.words l.invariant.0 (omega arith) c.before.without.ensures
+    left-less l.left.words l.c c.before.without.result.words l.invariant.0 (omega arith) c.before.without.ensures
 
 loop-again : tie.Need-loop-preserved invariant-loop decreases-loop
 loop-again c =
@@ -48,7 +48,7 @@ loop-again c =
     let v = view_of a.pairs.now a.marks.now a.t in (
       c.lowest2.ensures,
       l.invariant.1 ∙ expand-step v l.all.words l.left.words l.c l.invariant.0 (omega arith)
-          ∙ ap₂ (λ (s f : List ℕ). withParents v s (members (at f) 0 1024)) (sym c.before.before.with-parents.ensures) (sym c.before.without.ensures),
+          ∙ ap₂ (λ (s f : List ℕ). with_parents v s (members (at f) 0 1024)) (sym c.before.before.with-parents.ensures) (sym c.before.without.ensures),
     )
 
 returns : tie.Need-returns invariant-loop decreases-loop

@@ -3,7 +3,7 @@ use borrow.Author.Rules.{rules}
 use native.Mathlib.Omega.{arith}
 use mathlib.Core.Path.{refl}
 use Prim.Native.Nat.{◌-◌}
-use Rattle.hierarchy.proofs.Steps.{Copied, copied_more, copied_all}
+use Rattle.hierarchy.proofs.Steps.{Copied, copied-more, copied-all}
 use Rattle.hierarchy.proofs.recorded.Statement.{statement}
 use Rattle.hierarchy.proofs.recorded.Tie as tie
 
@@ -16,8 +16,8 @@ decreases-loop marks words₀ i₀ words i = 16 - i
 loop-holds : tie.Need-loop-init invariant-loop decreases-loop
 loop-holds c = (omega arith, refl, λ j h. absurd (omega arith))
 
-mul_words : tie.Need-overflow-mul-words invariant-loop decreases-loop
-mul_words c = search rules
+mul-words : tie.Need-overflow-mul-words invariant-loop decreases-loop
+mul-words c = search rules
 
 shared-slice-read-words : tie.Need-shared-slice-read-words invariant-loop decreases-loop
 shared-slice-read-words c = search rules
@@ -37,12 +37,12 @@ loop-less c = search rules
 loop-again : tie.Need-loop-preserved invariant-loop decreases-loop
 loop-again c =
     let l = c.before.before.loop in
-    copied_more c.before.before.before.args.marks.now l.words l.i l.invariant (omega arith)
+    copied-more c.before.before.before.args.marks.now l.words l.i l.invariant (omega arith)
 
 returns : tie.Need-returns invariant-loop decreases-loop
 returns c =
     let l = c.before.loop in
-    copied_all c.before.before.args.marks.now l.words l.i l.invariant (omega arith) c.before.before.requires
+    copied-all c.before.before.args.marks.now l.words l.i l.invariant (omega arith) c.before.before.requires
 
 pub recorded-spec : {M : Type 1} → statement M
 recorded-spec =
@@ -51,7 +51,7 @@ recorded-spec =
     invariant-loop
     decreases-loop
     loop-holds
-    mul_words
+    mul-words
     shared-slice-read-words
     mul-words-2
     array-write-words

@@ -4,7 +4,7 @@ use native.Mathlib.Omega.{arith}
 use mathlib.Core.Path.{sym, ◌∙◌}
 use Prim.Native.Nat.{◌-◌}
 use Rattle.tables.specs.Table.{view_of}
-use Rattle.hierarchy.proofs.Walks.{Standing, standing-start, standing-next, walked-found, walked-last, walked_end}
+use Rattle.hierarchy.proofs.Walks.{Standing, standing-start, standing-next, walked-found, walked-last, walked-end}
 use Rattle.hierarchy.proofs.walk_to.Statement.{statement}
 use Rattle.hierarchy.proofs.walk_to.Tie as tie
 
@@ -70,7 +70,7 @@ returns-3 : tie.Need-returns-3 invariant-loop decreases-loop
 returns-3 c =
     let a = c.before.before.before.before.before.before.before.before.args in
     let l = c.before.before.before.loop in
-    walked_end (view_of a.pairs.now a.marks.now a.t) a.x a.y l.seen.words l.front.words l.k l.invariant (omega arith) c.has2.result c.has2.ensures
+    walked-end (view_of a.pairs.now a.marks.now a.t) a.x a.y l.seen.words l.front.words l.k l.invariant (omega arith) c.has2.result c.has2.ensures
 
 pub walk-to-spec : {M : Type 1} → statement M
 walk-to-spec =

@@ -4,8 +4,8 @@ use native.Mathlib.Omega.{arith}
 use mathlib.Core.Path.{◌≡◌, refl, sym, ap, ◌∙◌}
 use Prim.Native.Nat.{ℕ, ◌+◌, ◌-◌, ◌≤◌}
 use lib.ListN.{length, take, drop, length-take}
-use Rattle.view.specs.View.{insertAll}
-use Rattle.tables.specs.Table.{parentsIn, ownRun, parentsOf}
+use Rattle.view.specs.View.{insert_all}
+use Rattle.tables.specs.Table.{parents_in, own_run, parents_of}
 use Rattle.hierarchy.proofs.Steps.{parents-step, parents-stop, parents-end}
 use Rattle.hierarchy.proofs.with_parents.Statement.{statement}
 use Rattle.hierarchy.proofs.with_parents.Tie as tie
@@ -13,7 +13,7 @@ use Rattle.hierarchy.proofs.with_parents.Tie as tie
 abbrev invariant-loop : tie.invariant-loop
 invariant-loop pairs marks t c past i₀ all₀ i all =
     (past ≡ length (take t.pairs pairs)) × (past ≤ length pairs)
-    × (insertAll all₀.words (parentsIn t.names (ownRun c (drop i₀ (take t.pairs pairs)))) ≡ insertAll all.words (parentsIn t.names (ownRun c (drop i (take t.pairs pairs)))))
+    × (insert_all all₀.words (parents_in t.names (own_run c (drop i₀ (take t.pairs pairs)))) ≡ insert_all all.words (parents_in t.names (own_run c (drop i (take t.pairs pairs)))))
 
 abbrev decreases-loop : tie.decreases-loop
 decreases-loop pairs marks t c past i₀ all₀ i all = past - i
@@ -37,12 +37,12 @@ shared-slice-read-key : tie.Need-shared-slice-read-key invariant-loop decreases-
 shared-slice-read-key c = search rules
 
 returns : tie.Need-returns invariant-loop decreases-loop
-unfolding parentsOf
+unfolding parents_of
 returns c =
     let a = c.before.before.before.before.before.before.before.before.args in
     let l = c.before.before.before.loop in
     let h = c.before.before.loop-test.true in
-    sym (ap (λ (k : ℕ). insertAll a.s.words (parentsIn a.t.names (ownRun a.c (drop k (take a.t.pairs a.pairs.now))))) (sym c.before.before.before.before.position.ensures)
+    sym (ap (λ (k : ℕ). insert_all a.s.words (parents_in a.t.names (own_run a.c (drop k (take a.t.pairs a.pairs.now))))) (sym c.before.before.before.before.position.ensures)
     ∙ l.invariant.2 ∙ parents-stop a.t.names a.c a.t.pairs a.pairs.now l.all.words l.i (omega (arith, h, l.invariant.0)) c.if1.true)
 
 with-class-requires : tie.Need-with-class-requires invariant-loop decreases-loop
@@ -62,15 +62,15 @@ loop-again c =
       l.invariant.0,
       l.invariant.1,
       l.invariant.2 ∙ parents-step a.t.names a.c a.t.pairs a.pairs.now l.all.words l.i (omega (arith, h, l.invariant.0)) c.before.if1.false
-          ∙ ap (λ s. insertAll s (parentsIn a.t.names (ownRun a.c (drop (l.i + 1) (take a.t.pairs a.pairs.now))))) (sym c.with-class.ensures),
+          ∙ ap (λ s. insert_all s (parents_in a.t.names (own_run a.c (drop (l.i + 1) (take a.t.pairs a.pairs.now))))) (sym c.with-class.ensures),
     )
 
 returns-2 : tie.Need-returns-2 invariant-loop decreases-loop
-unfolding parentsOf
+unfolding parents_of
 returns-2 c =
     let a = c.before.before.before.before.before.before.args in
     let l = c.before.loop in
-    sym (ap (λ (k : ℕ). insertAll a.s.words (parentsIn a.t.names (ownRun a.c (drop k (take a.t.pairs a.pairs.now))))) (sym c.before.before.position.ensures)
+    sym (ap (λ (k : ℕ). insert_all a.s.words (parents_in a.t.names (own_run a.c (drop k (take a.t.pairs a.pairs.now))))) (sym c.before.before.position.ensures)
     ∙ l.invariant.2 ∙ parents-end a.t.names a.c a.t.pairs a.pairs.now l.all.words l.i (omega (arith, c.loop-test.false, l.invariant.0)))
 
 pub with-parents-spec : {M : Type 1} → statement M

@@ -25,8 +25,8 @@ add-key-2 c =
 insert-requires : tie.Need-insert-requires
 insert-requires c κs = search rules
 
-enum_told : tie.Need-enum-told
-enum_told c = search rules
+enum-told : tie.Need-enum-told
+enum-told c = search rules
 
 enum-told-2 : tie.Need-enum-told-2
 enum-told-2 c = search rules
@@ -47,14 +47,14 @@ enum-told-3 c = search rules
 refused-requires : tie.Need-refused-requires
 refused-requires c κs = search rules
 
-same_length : tie.Need-same-length
-same_length c = search rules
+same-length : tie.Need-same-length
+same-length c = search rules
 
 returns : tie.Need-returns
 returns c =
     let x = c.before.before.before.before.before.before.before.before.args in
     let i = c.before.before.before.before.insert in
-    insert-old x.a.now x.ring.now x.s x.component x.kind x.rank c.before.before.before.before.before.before.before.before.requires.3 i.result i.new.0 i.ensures.0 i.ensures.1 c.enum_told.given.1
+    insert-old x.a.now x.ring.now x.s x.component x.kind x.rank c.before.before.before.before.before.before.before.before.requires.3 i.result i.new.0 i.ensures.0 i.ensures.1 c.enum-told.given.1
 
 same-length-2 : tie.Need-same-length-2
 same-length-2 c = search rules
@@ -87,13 +87,13 @@ insert-bound-spec =
     add-key
     add-key-2
     insert-requires
-    enum_told
+    enum-told
     enum-told-2
     offer-requires
     add-t19
     enum-told-3
     refused-requires
-    same_length
+    same-length
     returns
     same-length-2
     same-length-3

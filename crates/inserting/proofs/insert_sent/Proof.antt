@@ -5,8 +5,8 @@ use Rattle.inserting.specs.Steps.{sent-none, sent-rank, sent-deep, sent-ranked}
 use Rattle.inserting.proofs.insert_sent.Statement.{statement}
 use Rattle.inserting.proofs.insert_sent.Tie as tie
 
-enum_told : tie.Need-enum-told
-enum_told c = search rules
+enum-told : tie.Need-enum-told
+enum-told c = search rules
 
 enum-known-t : tie.Need-enum-known-t
 enum-known-t c = search rules
@@ -26,10 +26,10 @@ refused-requires c κs = search rules
 returns : tie.Need-returns
 returns c =
     let x = c.before.before.before.before.args in
-    sent-none x.a.now x.ring.now x.s x.component x.kind x.t c.enum_told.given.1
+    sent-none x.a.now x.ring.now x.s x.component x.kind x.t c.enum-told.given.1
 
-same_length : tie.Need-same-length
-same_length c = search rules
+same-length : tie.Need-same-length
+same-length c = search rules
 
 same-length-2 : tie.Need-same-length-2
 same-length-2 c = search rules
@@ -49,13 +49,13 @@ pub insert-sent-spec : {M : Type 1} → statement M
 insert-sent-spec =
     tie.close
     (tie.spec
-    enum_told
+    enum-told
     enum-known-t
     insert-bound-requires
     enum-told-2
     refused-requires
     returns
-    same_length
+    same-length
     same-length-2
     returns-2
     returns-3)

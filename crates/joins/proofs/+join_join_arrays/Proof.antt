@@ -1,8 +1,8 @@
 -- `join` and `join_arrays` meet their contracts: each turn of the two takes a dimension off.
 use mathlib.Core.Path.{◌≡◌, sym, ◌∙◌}
 use native.Mathlib.Omega.{arith}
-use Rattle.ty.specs.Words.{dimsOf}
-use Rattle.joins.specs.Cases.{object-lt-1024, word_same, arrays-high, legal-elements, word-arrays-left, word-arrays-right, word-arrays, arrays-fit}
+use Rattle.ty.specs.Words.{dims_of}
+use Rattle.joins.specs.Cases.{object-lt-1024, word-same, arrays-high, legal-elements, word-arrays-left, word-arrays-right, word-arrays, arrays-fit}
 use Prim.Native.Nat.{ℕ, ◌+◌, ◌-◌, ◌*◌, ◌^◌, ◌≤◌, ◌<◌}
 use borrow.Fn.Kinds.{In}
 use borrow.Fn.PlainCycle.{Measures, is, falls, and}
@@ -20,10 +20,10 @@ use Rattle.joins.proofs.+join_join_arrays.{statement}
 use Rattle.joins.proofs.+join_join_arrays.Tie.{close}
 
 abbrev μ-join : Measures 2 join-kinds.ps ℕ
-μ-join κs a = 2 * dimsOf a.1.1.1.0.word + 1
+μ-join κs a = 2 * dims_of a.1.1.1.0.word + 1
 
 abbrev μ-join-arrays : Measures 2 join-arrays-kinds.ps ℕ
-μ-join-arrays κs a = 2 * dimsOf a.1.1.1.0.word
+μ-join-arrays κs a = 2 * dims_of a.1.1.1.0.word
 
 abbrev join-at : ℕ → In 2 join-kinds.ps
 join-at t = and 2 join-kinds.ps (is 2 join-kinds.ps μ-join t) join.Pre
@@ -64,7 +64,7 @@ join-returns : (t : ℕ) → join-lts.Need-returns (claims t) (join-at t) join.P
 join-returns t c =
     let a = c.before.before.before.before.before.args in
     let p = c.before.before.before.before.before.requires.1 in
-    word_same a.pairs.now a.marks.now a.t p.0 a.left.word a.right.word p.1 p.2 c.if1.true
+    word-same a.pairs.now a.marks.now a.t p.0 a.left.word a.right.word p.1 p.2 c.if1.true
 
 join-both-arrays-requires : (t : ℕ) → join-lts.Need-both-arrays-requires (claims t) (join-at t) join.Post
 join-both-arrays-requires t c κs = tt
@@ -73,9 +73,9 @@ join-join-arrays-requires : (t : ℕ) → join-lts.Need-join-arrays-requires (cl
 join-join-arrays-requires t c κs =
     let a = c.before.before.before.before.before.before.before.args in
     let p = c.before.before.before.before.before.before.before.requires.1 in
-    let m : 2 * dimsOf a.left.word + 1 ≡ t = c.before.before.before.before.before.before.before.requires.0 in
+    let m : 2 * dims_of a.left.word + 1 ≡ t = c.before.before.before.before.before.before.before.requires.0 in
     let h = arrays-high a.left.word a.right.word (sym c.before.both-arrays.ensures ∙ c.if2.true) in
-    (let q : 2 * dimsOf a.left.word < t = omega arith in q, ((p, c.before.before.if1.false), h.0, h.1))
+    (let q : 2 * dims_of a.left.word < t = omega arith in q, ((p, c.before.before.if1.false), h.0, h.1))
 
 join-returns-2 : (t : ℕ) → join-lts.Need-returns-2 (claims t) (join-at t) join.Post
 join-returns-2 t c = c.join-arrays.ensures
@@ -122,10 +122,10 @@ join-arrays-join-requires : (t : ℕ) → join-arrays-lts.Need-join-requires (ar
 join-arrays-join-requires t c κs =
     let a = c.before.before.before.before.before.before.before.before.args in
     let p = c.before.before.before.before.before.before.before.before.requires.1 in
-    let m : 2 * dimsOf a.left.word ≡ t = c.before.before.before.before.before.before.before.before.requires.0 in
+    let m : 2 * dims_of a.left.word ≡ t = c.before.before.before.before.before.before.before.before.requires.0 in
     let h : 2 ^ 56 ≤ a.left.word = p.1 in
     let e = legal-elements a.pairs.now a.marks.now a.t p.0.0.0 a.left.word a.right.word p.0.0.1 p.0.0.2 p.0.1 p.1 p.2 in
-    (let q : 2 * dimsOf (a.left.word - 2 ^ 56) + 1 < t = omega arith in q, (p.0.0.0, e.0, e.1, p.0.0.3))
+    (let q : 2 * dims_of (a.left.word - 2 ^ 56) + 1 < t = omega arith in q, (p.0.0.0, e.0, e.1, p.0.0.3))
 
 join-arrays-add-t9 : (t : ℕ) → join-arrays-lts.Need-overflow-add-t9 (array-claims t) (join-arrays-at t) join-arrays.Post
 join-arrays-add-t9 t c =

@@ -4,15 +4,15 @@ use Prim.Native.Nat.{ℕ, ◌+◌, ◌*◌, ◌^◌}
 use native.Mathlib.Omega.{arith}
 use Rattle.ty.specs.Types.{categories}
 use Rattle.ty.specs.Words.{type_of}
-use Rattle.ty.specs.Round.{listLoad}
-use Rattle.lattice.specs.Lattice.{inBoth}
-use Rattle.joins.specs.Lists.{both-none, both_some, both-load, unknown-short}
+use Rattle.ty.specs.Round.{list_load}
+use Rattle.lattice.specs.Lattice.{in_both}
+use Rattle.joins.specs.Lists.{both-none, both-some, both-load, unknown-short}
 use borrow.Author.Rules.{rules}
 use Rattle.joins.proofs.in_both.Statement.{statement}
 use Rattle.joins.proofs.in_both.Tie as tie
 
 -- what was kept is what both have
-members : (c : tie.After-keep-members) → c.keep-members.result ≡ listLoad (inBoth (categories (type_of c.before.before.before.args.left.word)) (categories (type_of c.before.before.before.args.right.word)))
+members : (c : tie.After-keep-members) → c.keep-members.result ≡ list_load (in_both (categories (type_of c.before.before.before.args.left.word)) (categories (type_of c.before.before.before.args.right.word)))
 members c =
     let a = c.before.before.before.args in
     c.keep-members.ensures.0
@@ -38,7 +38,7 @@ add-t4 : tie.Need-overflow-add-t4
 add-t4 c = search rules
 
 returns-2 : tie.Need-returns-2
-returns-2 c = ap (λ (x : ℕ). 2 * 2 ^ 48 + x) (members c.before) ∙ both_some _ _ (λ e. c.if1.false (members c.before ∙ e))
+returns-2 c = ap (λ (x : ℕ). 2 * 2 ^ 48 + x) (members c.before) ∙ both-some _ _ (λ e. c.if1.false (members c.before ∙ e))
 
 pub in-both-spec : {M : Type 1} → statement M
 in-both-spec =

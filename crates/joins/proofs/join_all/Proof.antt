@@ -7,28 +7,28 @@ use mathlib.Core.Option.{some}
 use Prim.Native.Nat.{ℕ, ◌+◌, ◌-◌, ◌≤◌, ◌<◌, ◌^◌}
 use native.Mathlib.Omega.{arith}
 use lib.ListN.{length, get_or}
-use Rattle.ty.specs.Words.{type_of, legalWord}
+use Rattle.ty.specs.Words.{type_of, legal_word}
 use Rattle.ty.specs.declared.MaybeType.TheVariants.{Is}
 use Rattle.ty.specs.Types.{ArgType}
-use Rattle.ty.specs.Answers.{word, maybeWord}
+use Rattle.ty.specs.Answers.{word, maybe_word}
 use Rattle.ty.specs.Round.{word-of-type}
-use Rattle.lattice.specs.Lattice.{joinAll}
-use Rattle.lattice.specs.World.{worldOf}
-use Rattle.joins.specs.Fold.{joinRest, all_none, all_first, all-next, all_end, next-legal, next-type}
+use Rattle.lattice.specs.Lattice.{join_all}
+use Rattle.lattice.specs.World.{world_of}
+use Rattle.joins.specs.Fold.{join_rest, all-none, all-first, all-next, all-end, next-legal, next-type}
 use Rattle.joins.proofs.join_all.Statement.{statement}
 use Rattle.joins.proofs.join_all.Tie as tie
 
 abbrev invariant-loop : tie.invariant-loop
 invariant-loop pairs marks t words all₀ i₀ all i = (i ≤ length words)
-    × (legalWord t.names all.word ≡ true)
-    × (joinAll (worldOf pairs marks t) (map type_of words) ≡ some (joinRest (worldOf pairs marks t) words (type_of all.word) i))
+    × (legal_word t.names all.word ≡ true)
+    × (join_all (world_of pairs marks t) (map type_of words) ≡ some (join_rest (world_of pairs marks t) words (type_of all.word) i))
     × (all.word < 2 ^ 64)
 
 abbrev decreases-loop : tie.decreases-loop
 decreases-loop pairs marks t words all₀ i₀ all i = length words - i
 
 returns : tie.Need-returns invariant-loop decreases-loop
-returns c = let a = c.before.before.before.before.args in sym (ap maybeWord (all_none (worldOf a.pairs.now a.marks.now a.t) a.words.now c.if1.true))
+returns c = let a = c.before.before.before.before.args in sym (ap maybe_word (all-none (world_of a.pairs.now a.marks.now a.t) a.words.now c.if1.true))
 
 shared-slice-read-t10 : tie.Need-shared-slice-read-t10 invariant-loop decreases-loop
 shared-slice-read-t10 c = search rules
@@ -38,7 +38,7 @@ loop-holds c =
     let a = c.before.before.before.before.before.args in
     let p = c.before.before.before.before.before.requires in
     let e = c.before.if1.false in
-    (omega arith, p.1 0 (omega arith), all_first (worldOf a.pairs.now a.marks.now a.t) a.words.now e, omega (arith, (c.shared-slice-known4.given 0).fits))
+    (omega arith, p.1 0 (omega arith), all-first (world_of a.pairs.now a.marks.now a.t) a.words.now e, omega (arith, (c.shared-slice-known4.given 0).fits))
 
 mul-t11 : tie.Need-overflow-mul-t11 invariant-loop decreases-loop
 mul-t11 c = search rules
@@ -63,7 +63,7 @@ loop-again c =
     let a = c.before.before.before.before.before.before.before.before.before.args in
     let p = c.before.before.before.before.before.before.before.before.before.requires in
     let l = c.before.before.before.loop in
-    let w = worldOf a.pairs.now a.marks.now a.t in
+    let w = world_of a.pairs.now a.marks.now a.t in
     let x = l.all.word in
     let y = get_or a.words.now l.i 0 in
     let f = l.invariant.3 in
@@ -71,11 +71,11 @@ loop-again c =
     let r = p.1 l.i (omega arith) in
     let e = c.join.ensures in (
       omega arith,
-      ap (legalWord a.t.names) e ∙ next-legal a.pairs.now a.marks.now a.t p.0 x y l.invariant.1 r f g,
+      ap (legal_word a.t.names) e ∙ next-legal a.pairs.now a.marks.now a.t p.0 x y l.invariant.1 r f g,
       l.invariant.2
           ∙ ap some
           (all-next w a.words.now (type_of x) l.i (omega arith)
-          ∙ ap (λ (t : ArgType). joinRest w a.words.now t (l.i + 1)) (sym (ap type_of e ∙ next-type a.pairs.now a.marks.now a.t p.0 x y l.invariant.1 r f g))),
+          ∙ ap (λ (t : ArgType). join_rest w a.words.now t (l.i + 1)) (sym (ap type_of e ∙ next-type a.pairs.now a.marks.now a.t p.0 x y l.invariant.1 r f g))),
       omega arith,
     )
 
@@ -86,7 +86,7 @@ returns-2 c =
     let l = c.before.loop in
     let x = l.all.word in
     sym
-    (ap maybeWord (l.invariant.2 ∙ ap some (all_end (worldOf a.pairs.now a.marks.now a.t) a.words.now (type_of x) l.i (omega arith)))
+    (ap maybe_word (l.invariant.2 ∙ ap some (all-end (world_of a.pairs.now a.marks.now a.t) a.words.now (type_of x) l.i (omega arith)))
     ∙ ap (λ (y : ℕ). Is (word y)) (word-of-type a.t.names x l.invariant.1))
 
 pub join-all-spec : {M : Type 1} → statement M

@@ -4,9 +4,9 @@ use Prim.Native.Nat.{ℕ}
 use native.Mathlib.Omega.{arith}
 use Rattle.ty.specs.Types.{Object}
 use Rattle.ty.specs.Words.{word_of}
-use Rattle.lattice.specs.Lattice.{joinApart}
+use Rattle.lattice.specs.Lattice.{join_apart}
 use Rattle.lattice.specs.JoinTable.{cell}
-use Rattle.lattice.specs.World.{worldOf}
+use Rattle.lattice.specs.World.{world_of}
 use Rattle.joins.specs.Cases.{legal-left, legal-right, primitive-lt, object-lt, word-primitives, word-left-primitive, word-right-primitive, word-classes}
 use borrow.Author.Rules.{rules}
 use Rattle.joins.proofs.join_bases.Statement.{statement}
@@ -92,7 +92,7 @@ returns-4 c =
     let a = c.before.before.before.before.before.before.before.before.before.args in
     let p = c.before.before.before.before.before.before.before.before.before.requires in
     c.join-classes.ensures
-    ∙ ap₂ (λ (x y : ℕ). word_of (joinApart (worldOf a.pairs.now a.marks.now a.t) (Object x) (Object y))) c.before.before.load3.ensures c.before.load4.ensures
+    ∙ ap₂ (λ (x y : ℕ). word_of (join_apart (world_of a.pairs.now a.marks.now a.t) (Object x) (Object y))) c.before.before.load3.ensures c.before.load4.ensures
     ∙ word-classes a.pairs.now a.marks.now a.t p.0.0.0 a.left.word a.right.word p.0.0.1 p.0.0.2 p.0.1 p.1 (sym c.before.before.before.before.before.before.is-primitive.ensures ∙ c.before.before.before.before.before.if1.false) p.2 (sym c.before.before.before.before.is-primitive3.ensures ∙ c.before.before.before.if3.false)
 
 pub join-bases-spec : {M : Type 1} → statement M

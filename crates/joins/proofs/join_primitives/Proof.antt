@@ -2,12 +2,12 @@
 use mathlib.Core.List.{List, [], ◌∷◌}
 use Prim.Native.Nat.{ℕ}
 use lib.Dec.{T}
-use Rattle.order.specs.Compare.{compareNumbers}
+use Rattle.order.specs.Compare.{compare_numbers}
 use Rattle.order.specs.Lists.{elem}
 use Rattle.ty.specs.Types.{compare}
 use Rattle.ty.specs.Words.{pack, word_of}
-use Rattle.lattice.specs.Lattice.{sameType, narrow, underDouble, joinPrimitive}
-use Rattle.lattice.specs.JoinTable.{joinCategories, cell, every, row, rule}
+use Rattle.lattice.specs.Lattice.{same_type, narrow, under_double, join_primitive}
+use Rattle.lattice.specs.JoinTable.{join_categories, cell, every, row, rule}
 use borrow.Author.Rules.{rules}
 use Rattle.joins.proofs.join_primitives.Statement.{statement}
 use Rattle.joins.proofs.join_primitives.Tie as tie
@@ -30,7 +30,7 @@ joins =
 
 -- ONE TEST over its 121 cells
 tested : T (every (row 11 cell) 0 joins)
-unfolding joins cell joinCategories sameType compare compareNumbers joinPrimitive narrow underDouble elem word_of pack
+unfolding joins cell join_categories same_type compare compare_numbers join_primitive narrow under_double elem word_of pack
 tested = tt
 
 mul-t17 : tie.Need-overflow-mul-t17

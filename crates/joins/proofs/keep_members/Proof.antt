@@ -6,15 +6,15 @@ use native.Mathlib.Omega.{arith}
 use mathlib.Core.Bool.{cond}
 use lib.Dec.{eqb}
 use Rattle.ty.specs.Words.{list_of}
-use Rattle.ty.specs.Round.{listLoad}
+use Rattle.ty.specs.Round.{list_load}
 use Rattle.lattice.specs.Unions.{kept}
-use Rattle.joins.specs.Joins.{withFirst}
-use Rattle.joins.specs.Lists.{keptFrom, kept-start, kept_step, kept-lt, kept-all, kept-fits}
+use Rattle.joins.specs.Joins.{with_first}
+use Rattle.joins.specs.Lists.{kept_from, kept-start, kept-step, kept-lt, kept-all, kept-fits}
 use Rattle.joins.proofs.keep_members.Statement.{statement}
 use Rattle.joins.proofs.keep_members.Tie as tie
 
 abbrev invariant-loop : tie.invariant-loop
-invariant-loop load set i₀ found₀ i found = (i ≤ load / 2 ^ 44) × (found ≡ keptFrom load set i)
+invariant-loop load set i₀ found₀ i found = (i ≤ load / 2 ^ 44) × (found ≡ kept_from load set i)
 
 abbrev decreases-loop : tie.decreases-loop
 decreases-loop load set i₀ found₀ i found = i
@@ -50,15 +50,15 @@ loop-again c =
     let d = c.before.digit in (
       omega arith,
       k
-          ∙ ap (λ (x : ℕ). cond (eqb (a.set / 2 ^ d.result % 2) 1) (withFirst d.result x) x) l.invariant.1
-          ∙ kept_step a.load a.set l.i d.result (omega arith) (omega arith) (omega arith) d.ensures,
+          ∙ ap (λ (x : ℕ). cond (eqb (a.set / 2 ^ d.result % 2) 1) (with_first d.result x) x) l.invariant.1
+          ∙ kept-step a.load a.set l.i d.result (omega arith) (omega arith) (omega arith) d.ensures,
     )
 
 returns : tie.Need-returns invariant-loop decreases-loop
 returns c =
     let a = c.before.before.args in
     let l = c.before.loop in
-    let e : l.found ≡ listLoad (kept a.set (list_of a.load)) = l.invariant.1 ∙ ap (keptFrom a.load a.set) (let z : l.i ≡ 0 = omega arith in z) ∙ kept-all a.load a.set in
+    let e : l.found ≡ list_load (kept a.set (list_of a.load)) = l.invariant.1 ∙ ap (kept_from a.load a.set) (let z : l.i ≡ 0 = omega arith in z) ∙ kept-all a.load a.set in
     (e, omega (arith, kept-fits a.load a.set c.before.before.requires))
 
 pub keep-members-spec : {M : Type 1} → statement M

@@ -4,7 +4,7 @@ use Prim.Native.Nat.{ℕ, ◌^◌, ◌<◌}
 use native.Mathlib.Omega.{arith}
 use borrow.Author.Rules.{rules}
 use Rattle.order.specs.Laws.{numbers-less, numbers-greater}
-use Rattle.order.specs.Compare.{compareNumbers}
+use Rattle.order.specs.Compare.{compare_numbers}
 use Rattle.ty.specs.Types.{compare}
 use Rattle.ty.specs.Words.{Legal, type_of}
 use Rattle.ty.specs.Round.{legal-of-word}
@@ -15,9 +15,9 @@ use Rattle.keys.proofs.compare_types.Statement.{statement}
 use Rattle.keys.proofs.compare_types.Tie as tie
 
 order-of-ranks : (v w x y : ℕ) → v < 2 ^ 64 → w < 2 ^ 64 → Legal v × Legal w → x ≡ rank (type_of v) → y ≡ rank (type_of w)
-    → compareNumbers x y ≡ compare (type_of v) (type_of w)
+    → compare_numbers x y ≡ compare (type_of v) (type_of w)
 order-of-ranks v w x y k l h p q =
-    ap₂ compareNumbers p q ∙ rank-order (type_of v) (type_of w) (legal-of-word 1024 v k h.0) (legal-of-word 1024 w l h.1)
+    ap₂ compare_numbers p q ∙ rank-order (type_of v) (type_of w) (legal-of-word 1024 v k h.0) (legal-of-word 1024 w l h.1)
 
 rank-of-requires : tie.Need-rank-of-requires
 rank-of-requires c κs = search rules

@@ -6,7 +6,7 @@ use borrow.Author.Rules.{rules}
 use Rattle.ty.specs.Words.{type_of}
 use Rattle.ty.specs.Round.{legal-of-word}
 use Rattle.keys.specs.Rank.{key}
-use Rattle.keys.specs.Laws.{rank_lt}
+use Rattle.keys.specs.Laws.{rank-lt}
 use Rattle.keys.proofs.key_of.Statement.{statement}
 use Rattle.keys.proofs.key_of.Tie as tie
 
@@ -23,13 +23,13 @@ add-result : tie.Need-overflow-add-result
 add-result c =
     let w = c.before.args.t.word in
     let r = c.rank-of.ensures in
-    omega (arith, rank_lt (type_of w) (legal-of-word 1024 w (omega arith) c.before.requires.2))
+    omega (arith, rank-lt (type_of w) (legal-of-word 1024 w (omega arith) c.before.requires.2))
 
 add-result-2 : tie.Need-overflow-add-result-2
 add-result-2 c =
     let w = c.before.args.t.word in
     let r = c.rank-of.ensures in
-    omega (arith, rank_lt (type_of w) (legal-of-word 1024 w (omega arith) c.before.requires.2))
+    omega (arith, rank-lt (type_of w) (legal-of-word 1024 w (omega arith) c.before.requires.2))
 
 returns : tie.Need-returns
 unfolding key

@@ -4,21 +4,21 @@ use mathlib.Core.Path.{◌≡◌}
 use Prim.Native.Nat.{◌+◌, ◌-◌, ◌*◌, ◌^◌, ◌≤◌}
 use native.Mathlib.Omega.{arith}
 use borrow.Author.Rules.{rules}
-use Rattle.ty.specs.Round.{listLoad}
+use Rattle.ty.specs.Round.{list_load}
 use Rattle.keys.specs.Rank.{members_of}
 use Rattle.keys.specs.Parts.{members-lt}
-use Rattle.keys.proofs.Rest.{restLoad, rest_all, rest_end, rest-none, rest_more}
+use Rattle.keys.proofs.Rest.{rest_load, rest-all, rest-end, rest-none, rest-more}
 use Rattle.keys.proofs.members_load.Statement.{statement}
 use Rattle.keys.proofs.members_load.Tie as tie
 
 abbrev invariant-loop : tie.invariant-loop
-invariant-loop digits sum₀ i₀ sum i = (i ≤ 11) × (listLoad (members_of digits) ≡ i * 2 ^ 44 + sum + restLoad (11 - i) digits)
+invariant-loop digits sum₀ i₀ sum i = (i ≤ 11) × (list_load (members_of digits) ≡ i * 2 ^ 44 + sum + rest_load (11 - i) digits)
 
 abbrev decreases-loop : tie.decreases-loop
 decreases-loop digits sum₀ i₀ sum i = 11 - i
 
 loop-holds : tie.Need-loop-init invariant-loop decreases-loop
-loop-holds c = (omega arith, omega (arith, rest_all c.args.digits))
+loop-holds c = (omega arith, omega (arith, rest-all c.args.digits))
 
 digit-requires : tie.Need-digit-requires invariant-loop decreases-loop
 digit-requires c κs = search rules
@@ -54,7 +54,7 @@ add-sum c =
     omega (
       arith,
       members-lt x,
-      rest_more x l.i c.before.digit.result c.before.before.loop-test.true c.before.digit.ensures c.if1.false,
+      rest-more x l.i c.before.digit.result c.before.before.loop-test.true c.before.digit.ensures c.if1.false,
     )
 
 add-i : tie.Need-overflow-add-i invariant-loop decreases-loop
@@ -70,7 +70,7 @@ loop-again c =
       omega arith,
       omega (
         arith,
-        rest_more x l.i c.before.digit.result c.before.before.loop-test.true c.before.digit.ensures c.if1.false,
+        rest-more x l.i c.before.digit.result c.before.before.loop-test.true c.before.digit.ensures c.if1.false,
       ),
     )
 
@@ -81,7 +81,7 @@ add-result-2 : tie.Need-overflow-add-result-2 invariant-loop decreases-loop
 add-result-2 c = omega (arith, members-lt c.before.before.args.digits)
 
 returns-2 : tie.Need-returns-2 invariant-loop decreases-loop
-returns-2 c = omega (arith, rest_end c.before.before.args.digits c.before.loop.i c.loop-test.false)
+returns-2 c = omega (arith, rest-end c.before.before.args.digits c.before.loop.i c.loop-test.false)
 
 pub members-load-spec : {M : Type 1} → statement M
 members-load-spec =

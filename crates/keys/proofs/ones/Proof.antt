@@ -21,9 +21,9 @@ entry f zero k h = absurd (omega arith)
 entry f (suc n) zero h = refl
 entry f (suc n) (suc k) h = entry (λ k. f (suc k)) n k (omega arith)
 
-ones_below : (n : ℕ) → n < 12 → 0x11111111111 - 0x11111111111 / 2 ^ (4 * n) ≡ pack 11 (replicate n 1)
+ones-below : (n : ℕ) → n < 12 → 0x11111111111 - 0x11111111111 / 2 ^ (4 * n) ≡ pack 11 (replicate n 1)
 unfolding pack table
-ones_below n h =
+ones-below n h =
     sym (entry (λ (k : ℕ). 0x11111111111 - 0x11111111111 / 2 ^ (4 * k)) 12 n h) ∙ entry (λ (k : ℕ). pack 11 (replicate k 1)) 12 n h
 
 mul-result : tie.Need-overflow-mul-result
@@ -36,7 +36,7 @@ sub-result : tie.Need-overflow-sub-result
 sub-result c = shr_le _ _
 
 returns : tie.Need-returns
-returns c = ones_below c.args.n c.requires
+returns c = ones-below c.args.n c.requires
 
 pub ones-spec : {M : Type 1} → statement M
 ones-spec = tie.close (tie.spec mul-result shr-result sub-result returns)

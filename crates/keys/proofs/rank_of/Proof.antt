@@ -5,7 +5,7 @@ use native.Mathlib.Omega.{arith}
 use borrow.Author.Rules.{rules}
 use Rattle.ty.specs.Words.{type_of}
 use Rattle.ty.specs.Round.{legal-of-word}
-use Rattle.keys.specs.Laws.{rank_lt}
+use Rattle.keys.specs.Laws.{rank-lt}
 use Rattle.keys.specs.Parts.{rank-known, rank-unknown, unknown-length}
 use Rattle.keys.proofs.rank_of.Statement.{statement}
 use Rattle.keys.proofs.rank_of.Tie as tie
@@ -50,7 +50,7 @@ add-result-5 c =
     let fits : w < 2 ^ 64 = omega arith in
     let pre = c.before.before.requires in
     let r = c.ones.ensures in
-    omega (arith, rank_lt (type_of w) (legal-of-word 1024 w fits pre), rank-unknown w fits pre c.before.if1.false)
+    omega (arith, rank-lt (type_of w) (legal-of-word 1024 w fits pre), rank-unknown w fits pre c.before.if1.false)
 
 returns-2 : tie.Need-returns-2
 returns-2 c =

@@ -10,8 +10,8 @@ check-record-requires c κs =
     let s = c.before.before.before.before in
     (s.requires.few, s.requires.ordered, s.requires.counted, s.requires.layer-room)
 
-same_length : tie.Need-same-length
-same_length c = search rules
+same-length : tie.Need-same-length
+same-length c = search rules
 
 returns : tie.Need-returns
 returns c =
@@ -100,7 +100,7 @@ add-layer-record-spec =
     tie.close
     (tie.spec
     check-record-requires
-    same_length
+    same-length
     returns
     uncover-requires
     put-pairs-requires

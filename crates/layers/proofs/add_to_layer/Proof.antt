@@ -9,8 +9,8 @@ add-layer-record-requires c κs =
     let s = c.before.before.before.before.before in
     holds-roomy s.args.pairs.now s.args.marks.now s.args.s s.requires.0 s.requires.1
 
-same_length : tie.Need-same-length
-same_length c = search rules
+same-length : tie.Need-same-length
+same-length c = search rules
 
 same-length-2 : tie.Need-same-length-2
 same-length-2 c = search rules
@@ -22,4 +22,4 @@ returns c =
     layer-filled a.pairs.now a.marks.now a.s s.requires.0 s.requires.1 a.flags a.class a.parents.now _ _ _ c.before.before.before.before.before.before.add-layer-record.ensures
 
 pub add-to-layer-spec : {M : Type 1} → statement M
-add-to-layer-spec = tie.close (tie.spec add-layer-record-requires same_length same-length-2 returns)
+add-to-layer-spec = tie.close (tie.spec add-layer-record-requires same-length same-length-2 returns)

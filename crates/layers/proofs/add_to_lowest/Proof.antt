@@ -18,8 +18,8 @@ add-record-requires c κs =
     let s = c.before.before.before.before.before in
     lowest-ready s.args.pairs.now s.args.marks.now s.args.s s.requires.0 s.requires.1
 
-same_length : tie.Need-same-length
-same_length c = search rules
+same-length : tie.Need-same-length
+same-length c = search rules
 
 same-length-2 : tie.Need-same-length-2
 same-length-2 c = search rules
@@ -38,6 +38,6 @@ add-to-lowest-spec =
     part-add-record-start
     part-add-record-end
     add-record-requires
-    same_length
+    same-length
     same-length-2
     returns)

@@ -5,7 +5,7 @@ use mathlib.Core.Bool.{true, false}
 use native.Mathlib.Omega.{arith}
 use lib.ListN.{take}
 use Rattle.rows.specs.Laws.{numbers-first, room-last, numbers-good}
-use Rattle.layers.specs.Layers.{keysInside}
+use Rattle.layers.specs.Layers.{keys_inside}
 use Rattle.layers.proofs.check_record.Statement.{statement}
 use Rattle.layers.proofs.check_record.Tie as tie
 
@@ -16,7 +16,7 @@ returns : tie.Need-returns
 returns c =
     let a = c.before.before.before.before.args in
     let check = c.before.check-numbers in
-    check.ensures ∙ numbers-first a.t.names (keysInside a.layer.own.words (take a.t.pairs a.pairs.now)) a.flags a.class a.parents.now (λ z. c.if1.true (check.ensures ∙ z))
+    check.ensures ∙ numbers-first a.t.names (keys_inside a.layer.own.words (take a.t.pairs a.pairs.now)) a.flags a.class a.parents.now (λ z. c.if1.true (check.ensures ∙ z))
 
 is-full-requires : tie.Need-is-full-requires
 is-full-requires c κs =
@@ -28,12 +28,12 @@ is-full-requires c κs =
 returns-2 : tie.Need-returns-2
 returns-2 c =
     let a = c.before.before.before.before.before.before.args in
-    room-last a.t.names (keysInside a.layer.own.words (take a.t.pairs a.pairs.now)) a.flags a.class a.parents.now true (sym c.before.before.before.check-numbers.ensures ∙ c.before.before.if1.false) (sym c.if2.true ∙ c.before.is-full.ensures)
+    room-last a.t.names (keys_inside a.layer.own.words (take a.t.pairs a.pairs.now)) a.flags a.class a.parents.now true (sym c.before.before.before.check-numbers.ensures ∙ c.before.before.if1.false) (sym c.if2.true ∙ c.before.is-full.ensures)
 
 returns-3 : tie.Need-returns-3
 returns-3 c =
     let a = c.before.before.before.before.before.before.args in
-    room-last a.t.names (keysInside a.layer.own.words (take a.t.pairs a.pairs.now)) a.flags a.class a.parents.now false (sym c.before.before.before.check-numbers.ensures ∙ c.before.before.if1.false) (sym c.if2.false ∙ c.before.is-full.ensures)
+    room-last a.t.names (keys_inside a.layer.own.words (take a.t.pairs a.pairs.now)) a.flags a.class a.parents.now false (sym c.before.before.before.check-numbers.ensures ∙ c.before.before.if1.false) (sym c.if2.false ∙ c.before.is-full.ensures)
 
 pub check-record-spec : {M : Type 1} → statement M
 check-record-spec = tie.close (tie.spec check-numbers-requires returns is-full-requires returns-2 returns-3)

@@ -7,10 +7,10 @@ use native.Mathlib.Omega.{arith}
 use lib.ListN.{length, take}
 use borrow.Author.Tests.{le-ltb}
 use Rattle.sets.specs.Sets.{at, members}
-use Rattle.tables.specs.Table.{pairsRoom}
+use Rattle.tables.specs.Table.{pairs_room}
 use Rattle.rows.specs.Rows.{put_all}
-use Rattle.rows.specs.Keys.{all_most, fresh-count, room-left}
-use Rattle.layers.specs.Layers.{keysInside}
+use Rattle.rows.specs.Keys.{all-most, fresh-count, room-left}
+use Rattle.layers.specs.Layers.{keys_inside}
 use Rattle.layers.specs.Laws.{inside-sorted}
 use Rattle.layers.proofs.is_full.Statement.{statement}
 use Rattle.layers.proofs.is_full.Tie as tie
@@ -22,9 +22,9 @@ returns : tie.Need-returns
 returns c =
     let s = c.before.before.before.before in
     let a = s.args in
-    let l = keysInside a.layer.own.words (take a.n a.pairs.now) in
+    let l = keys_inside a.layer.own.words (take a.n a.pairs.now) in
     let counted = s.requires.3 in
-    sym (le-ltb pairsRoom (length (put_all a.class a.parents.now l)) (omega (arith, all_most a.class a.parents.now l)))
+    sym (le-ltb pairs_room (length (put_all a.class a.parents.now l)) (omega (arith, all-most a.class a.parents.now l)))
 
 fresh-in-layer-requires : tie.Need-fresh-in-layer-requires
 fresh-in-layer-requires c κs = search rules
@@ -36,7 +36,7 @@ returns-2 : tie.Need-returns-2
 returns-2 c =
     let s = c.before.before.before.before.before.before in
     let a = s.args in
-    let l = keysInside a.layer.own.words (take a.n a.pairs.now) in
+    let l = keys_inside a.layer.own.words (take a.n a.pairs.now) in
     let counted = s.requires.3 in
     let k = c.count.ensures ∙ ap (λ (ws : List ℕ). length (members (at ws) 0 1024)) c.before.fresh-in-layer.ensures in
     let f = fresh-count a.class a.parents.now l (inside-sorted a.layer.own.words (take a.n a.pairs.now) s.requires.2) s.requires.1 in

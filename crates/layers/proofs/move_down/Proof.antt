@@ -54,8 +54,8 @@ loop-again c =
           ∙ ap (moved a.s.now a.k) n,
     )
 
-same_length : tie.Need-same-length invariant-loop decreases-loop
-same_length c = c.before.loop.invariant.2
+same-length : tie.Need-same-length invariant-loop decreases-loop
+same-length c = c.before.loop.invariant.2
 
 returns : tie.Need-returns invariant-loop decreases-loop
 returns c =
@@ -66,8 +66,8 @@ returns c =
     l.invariant.3 ∙ ap (λ (i : ℕ). moved a.s.now a.k (i - a.k)) e
     ∙ ap (λ (u : List ℕ). u ++ drop (a.n - a.k) a.s.now) (drop-front a.s.now a.k a.n p.0 p.1)
 
-pub move_down_spec : {M : Type 1} → statement M
-move_down_spec =
+pub move-down-spec : {M : Type 1} → statement M
+move-down-spec =
     tie.close
     (tie.spec
     invariant-loop
@@ -81,5 +81,5 @@ move_down_spec =
     add-i
     loop-less
     loop-again
-    same_length
+    same-length
     returns)

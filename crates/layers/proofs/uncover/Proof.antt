@@ -26,8 +26,8 @@ returns c =
 take-away-requires : tie.Need-take-away-requires
 take-away-requires c κs = search rules
 
-same_length : tie.Need-same-length
-same_length c = search rules
+same-length : tie.Need-same-length
+same-length c = search rules
 
 returns-2 : tie.Need-returns-2
 returns-2 c =
@@ -38,4 +38,4 @@ returns-2 c =
     (away.ensures.0 ∙ ap length gone, away.ensures.1 ∙ ap (λ (l : List ℕ). filled l a.pairs.now) gone)
 
 pub uncover-spec : {M : Type 1} → statement M
-uncover-spec = tie.close (tie.spec has-requires returns take-away-requires same_length returns-2)
+uncover-spec = tie.close (tie.spec has-requires returns take-away-requires same-length returns-2)

@@ -6,7 +6,7 @@ use Prim.Native.Nat.{ℕ, ◌+◌, ◌/◌, ◌<◌}
 use lib.ListN.{length}
 use native.Mathlib.Omega.{arith}
 use Rattle.lineout.specs.Printed.{decimal}
-use Rattle.lineout.specs.Laws.{decimal-small, decimal-more, decimal-longer, puts_then, puts-as}
+use Rattle.lineout.specs.Laws.{decimal-small, decimal-more, decimal-longer, puts-then, puts-as}
 use borrow.Fn.Kinds.{In}
 use borrow.Fn.PlainCycle.{Measures, is, falls, and}
 use Rattle.lineout.proofs.put_decimal.Reads as put-decimal
@@ -66,7 +66,7 @@ put-decimal-put-byte-requires-2 t c κs =
     let p = s.requires.1 in
     let d = c.before.before.before.before.put-decimal in
     let e = decimal-longer s.args.n (omega arith) in
-    let f = d.ensures.filled_is in
+    let f = d.ensures.filled-is in
     let k = d.auto.0 in
     omega arith
 
@@ -80,7 +80,7 @@ put-decimal-returns-2 t c =
     let p = s.requires.1 in
     let l = decimal-longer n (omega arith) in
     puts-as _ _ _ _ _ _ (ap (λ (d : ℕ). decimal (n / 10) ++ (d ∷ [])) c.before.before.before.digit2.ensures ∙ sym (decimal-more n (omega arith)))
-    (puts_then _ _ _ _ _ _ _ _ (omega arith) c.before.before.before.before.before.before.before.put-decimal.ensures c.before.before.put-byte2.ensures)
+    (puts-then _ _ _ _ _ _ _ _ (omega arith) c.before.before.before.before.before.before.before.put-decimal.ensures c.before.before.put-byte2.ensures)
 
 pub +put-decimal-spec : {M : Type 1} → statement M
 +put-decimal-spec = close μ-put-decimal λ t. put-decimal-lts.spec (claims t) (put-decimal-at t) put-decimal.Post

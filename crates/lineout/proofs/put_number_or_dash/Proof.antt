@@ -9,8 +9,8 @@ use Rattle.lineout.proofs.put_number_or_dash.Tie as tie
 put-byte-requires : tie.Need-put-byte-requires
 put-byte-requires c κs = search rules
 
-same_length : tie.Need-same-length
-same_length c = search rules
+same-length : tie.Need-same-length
+same-length c = search rules
 
 returns : tie.Need-returns
 returns c = puts-as _ _ _ _ _ _ (sym (number-none c.before.before.before.before.before.before.args.n c.before.before.before.before.if1.true)) c.before.before.put_byte.ensures
@@ -27,4 +27,4 @@ returns-2 c = puts-as _ _ _ _ _ _ (sym (number-some c.before.before.before.befor
 pub put-number-or-dash-spec : {M : Type 1} → statement M
 put-number-or-dash-spec =
     tie.close
-    (tie.spec put-byte-requires same_length returns put-decimal-requires same-length-2 returns-2)
+    (tie.spec put-byte-requires same-length returns put-decimal-requires same-length-2 returns-2)

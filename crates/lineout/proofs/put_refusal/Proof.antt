@@ -15,7 +15,7 @@ put-decimal-requires c κs =
     let s = c.before.before.before.before.before.before in
     let p = s.requires in
     let d = decimal-short s.args.line (omega arith) in
-    let a = c.before.before.before.put-letter.ensures.filled_is in
+    let a = c.before.before.before.put-letter.ensures.filled-is in
     let k = c.before.before.before.put-letter.auto.0 in
     omega arith
 
@@ -24,8 +24,8 @@ put-byte-requires c κs =
     let s = c.before.before.before.before.before.before.before.before.before.before in
     let p = s.requires in
     let d = decimal-short s.args.line (omega arith) in
-    let a = c.before.before.before.before.before.before.before.put-letter.ensures.filled_is in
-    let b = c.before.before.before.put-decimal.ensures.filled_is in
+    let a = c.before.before.before.before.before.before.before.put-letter.ensures.filled-is in
+    let b = c.before.before.before.put-decimal.ensures.filled-is in
     let k = c.before.before.before.before.before.before.before.put-letter.auto.0 in
     let l = c.before.before.before.put-decimal.auto.0 in
     omega arith
@@ -36,9 +36,9 @@ put-decimal-requires-2 c κs =
     let p = s.requires in
     let d = decimal-short s.args.line (omega arith) in
     let e = decimal-short s.args.refusal (omega arith) in
-    let a = c.before.before.before.before.before.before.before.before.before.before.before.put-letter.ensures.filled_is in
-    let b = c.before.before.before.before.before.before.before.put-decimal.ensures.filled_is in
-    let f = c.before.before.before.put_byte.ensures.filled_is in
+    let a = c.before.before.before.before.before.before.before.before.before.before.before.put-letter.ensures.filled-is in
+    let b = c.before.before.before.before.before.before.before.put-decimal.ensures.filled-is in
+    let f = c.before.before.before.put_byte.ensures.filled-is in
     let k = c.before.before.before.before.before.before.before.before.before.before.before.put-letter.auto.0 in
     let l = c.before.before.before.before.before.before.before.put-decimal.auto.0 in
     let m = c.before.before.before.put_byte.auto.0 in
@@ -50,18 +50,18 @@ put-byte-requires-2 c κs =
     let p = s.requires in
     let d = decimal-short s.args.line (omega arith) in
     let e = decimal-short s.args.refusal (omega arith) in
-    let a = c.before.before.before.before.before.before.before.before.before.before.before.before.before.before.before.put-letter.ensures.filled_is in
-    let b = c.before.before.before.before.before.before.before.before.before.before.before.put-decimal.ensures.filled_is in
-    let f = c.before.before.before.before.before.before.before.put_byte.ensures.filled_is in
-    let g = c.before.before.before.put-decimal2.ensures.filled_is in
+    let a = c.before.before.before.before.before.before.before.before.before.before.before.before.before.before.before.put-letter.ensures.filled-is in
+    let b = c.before.before.before.before.before.before.before.before.before.before.before.put-decimal.ensures.filled-is in
+    let f = c.before.before.before.before.before.before.before.put_byte.ensures.filled-is in
+    let g = c.before.before.before.put-decimal2.ensures.filled-is in
     let k = c.before.before.before.before.before.before.before.before.before.before.before.before.before.before.before.put-letter.auto.0 in
     let l = c.before.before.before.before.before.before.before.before.before.before.before.put-decimal.auto.0 in
     let m = c.before.before.before.before.before.before.before.put_byte.auto.0 in
     let n = c.before.before.before.put-decimal2.auto.0 in
     omega arith
 
-same_length : tie.Need-same-length
-same_length c = c.before.before.put-byte2.auto.0 ∙ c.before.before.before.before.before.before.put-decimal2.auto.0 ∙ c.before.before.before.before.before.before.before.before.before.before.put_byte.auto.0 ∙ c.before.before.before.before.before.before.before.before.before.before.before.before.before.before.put-decimal.auto.0 ∙ c.before.before.before.before.before.before.before.before.before.before.before.before.before.before.before.before.before.before.put-letter.auto.0
+same-length : tie.Need-same-length
+same-length c = c.before.before.put-byte2.auto.0 ∙ c.before.before.before.before.before.before.put-decimal2.auto.0 ∙ c.before.before.before.before.before.before.before.before.before.before.put_byte.auto.0 ∙ c.before.before.before.before.before.before.before.before.before.before.before.before.before.before.put-decimal.auto.0 ∙ c.before.before.before.before.before.before.before.before.before.before.before.before.before.before.before.before.before.before.put-letter.auto.0
 
 returns : tie.Need-returns
 returns c =
@@ -81,5 +81,5 @@ put-refusal-spec =
     put-byte-requires
     put-decimal-requires-2
     put-byte-requires-2
-    same_length
+    same-length
     returns)

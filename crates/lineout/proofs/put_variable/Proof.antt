@@ -2,7 +2,7 @@
 use borrow.Author.Rules.{rules}
 use mathlib.Core.Path.{◌∙◌}
 use native.Mathlib.Omega.{arith}
-use Rattle.lineout.specs.Printed.{decimal, wordText}
+use Rattle.lineout.specs.Printed.{decimal, word_text}
 use Rattle.lineout.specs.Laws.{decimal-short, word-short, line-two}
 use Rattle.lineout.proofs.put_variable.Statement.{statement}
 use Rattle.lineout.proofs.put_variable.Tie as tie
@@ -15,7 +15,7 @@ put-decimal-requires c κs =
     let s = c.before.before.before.before.before.before in
     let p = s.requires in
     let d = decimal-short s.args.i (omega arith) in
-    let a = c.before.before.before.put-letter.ensures.filled_is in
+    let a = c.before.before.before.put-letter.ensures.filled-is in
     let k = c.before.before.before.put-letter.auto.0 in
     omega arith
 
@@ -24,8 +24,8 @@ put-byte-requires c κs =
     let s = c.before.before.before.before.before.before.before.before.before.before in
     let p = s.requires in
     let d = decimal-short s.args.i (omega arith) in
-    let a = c.before.before.before.before.before.before.before.put-letter.ensures.filled_is in
-    let b = c.before.before.before.put-decimal.ensures.filled_is in
+    let a = c.before.before.before.before.before.before.before.put-letter.ensures.filled-is in
+    let b = c.before.before.before.put-decimal.ensures.filled-is in
     let k = c.before.before.before.before.before.before.before.put-letter.auto.0 in
     let l = c.before.before.before.put-decimal.auto.0 in
     omega arith
@@ -36,9 +36,9 @@ put-word-or-dash-requires c κs =
     let p = s.requires in
     let d = decimal-short s.args.i (omega arith) in
     let e = word-short s.args.w in
-    let a = c.before.before.before.before.before.before.before.before.before.before.before.put-letter.ensures.filled_is in
-    let b = c.before.before.before.before.before.before.before.put-decimal.ensures.filled_is in
-    let f = c.before.before.before.put_byte.ensures.filled_is in
+    let a = c.before.before.before.before.before.before.before.before.before.before.before.put-letter.ensures.filled-is in
+    let b = c.before.before.before.before.before.before.before.put-decimal.ensures.filled-is in
+    let f = c.before.before.before.put_byte.ensures.filled-is in
     let k = c.before.before.before.before.before.before.before.before.before.before.before.put-letter.auto.0 in
     let l = c.before.before.before.before.before.before.before.put-decimal.auto.0 in
     let m = c.before.before.before.put_byte.auto.0 in
@@ -50,18 +50,18 @@ put-byte-requires-2 c κs =
     let p = s.requires in
     let d = decimal-short s.args.i (omega arith) in
     let e = word-short s.args.w in
-    let a = c.before.before.before.before.before.before.before.before.before.before.before.before.before.before.before.put-letter.ensures.filled_is in
-    let b = c.before.before.before.before.before.before.before.before.before.before.before.put-decimal.ensures.filled_is in
-    let f = c.before.before.before.before.before.before.before.put_byte.ensures.filled_is in
-    let g = c.before.before.before.put-word-or-dash.ensures.filled_is in
+    let a = c.before.before.before.before.before.before.before.before.before.before.before.before.before.before.before.put-letter.ensures.filled-is in
+    let b = c.before.before.before.before.before.before.before.before.before.before.before.put-decimal.ensures.filled-is in
+    let f = c.before.before.before.before.before.before.before.put_byte.ensures.filled-is in
+    let g = c.before.before.before.put-word-or-dash.ensures.filled-is in
     let k = c.before.before.before.before.before.before.before.before.before.before.before.before.before.before.before.put-letter.auto.0 in
     let l = c.before.before.before.before.before.before.before.before.before.before.before.put-decimal.auto.0 in
     let m = c.before.before.before.before.before.before.before.put_byte.auto.0 in
     let n = c.before.before.before.put-word-or-dash.auto.0 in
     omega arith
 
-same_length : tie.Need-same-length
-same_length c = c.before.before.put-byte2.auto.0 ∙ c.before.before.before.before.before.before.put-word-or-dash.auto.0 ∙ c.before.before.before.before.before.before.before.before.before.before.put_byte.auto.0 ∙ c.before.before.before.before.before.before.before.before.before.before.before.before.before.before.put-decimal.auto.0 ∙ c.before.before.before.before.before.before.before.before.before.before.before.before.before.before.before.before.before.before.put-letter.auto.0
+same-length : tie.Need-same-length
+same-length c = c.before.before.put-byte2.auto.0 ∙ c.before.before.before.before.before.before.put-word-or-dash.auto.0 ∙ c.before.before.before.before.before.before.before.before.before.before.put_byte.auto.0 ∙ c.before.before.before.before.before.before.before.before.before.before.before.before.before.before.put-decimal.auto.0 ∙ c.before.before.before.before.before.before.before.before.before.before.before.before.before.before.before.before.before.before.put-letter.auto.0
 
 returns : tie.Need-returns
 returns c =
@@ -69,7 +69,7 @@ returns c =
     let p = s.requires in
     let d = decimal-short s.args.i (omega arith) in
     let e = word-short s.args.w in
-    line-two 86 (decimal s.args.i) (wordText s.args.w) s.args.filled _ _ _ _ _ s.args.out.now _ _ _ _ _ (omega arith)
+    line-two 86 (decimal s.args.i) (word_text s.args.w) s.args.filled _ _ _ _ _ s.args.out.now _ _ _ _ _ (omega arith)
     c.before.before.before.before.before.before.before.before.before.before.before.before.before.before.before.before.before.before.put-letter.ensures c.before.before.before.before.before.before.before.before.before.before.before.before.before.before.put-decimal.ensures c.before.before.before.before.before.before.before.before.before.before.put_byte.ensures c.before.before.before.before.before.before.put-word-or-dash.ensures c.before.before.put-byte2.ensures
 
 pub put-variable-spec : {M : Type 1} → statement M
@@ -81,5 +81,5 @@ put-variable-spec =
     put-byte-requires
     put-word-or-dash-requires
     put-byte-requires-2
-    same_length
+    same-length
     returns)

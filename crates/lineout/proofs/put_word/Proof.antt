@@ -5,19 +5,19 @@ use mathlib.Core.List.{List, ◌∷◌}
 use Prim.Native.Nat.{ℕ, ◌+◌, ◌-◌, ◌≤◌}
 use native.Mathlib.Omega.{arith}
 use lib.ListN.{length}
-use Rattle.lineout.specs.Printed.{hexDigits}
-use Rattle.lineout.specs.Laws.{hex-step, hex-end, hex-length, Writing, writing_start, writing_step, writing-end}
+use Rattle.lineout.specs.Printed.{hex_digits}
+use Rattle.lineout.specs.Laws.{hex-step, hex-end, hex-length, Writing, writing-start, writing-step, writing-end}
 use Rattle.lineout.proofs.put_word.Statement.{statement}
 use Rattle.lineout.proofs.put_word.Tie as tie
 
 abbrev invariant-loop : tie.invariant-loop
-invariant-loop out₀ filled w k₀ at₀ out k at = (k ≤ 16) × (at ≡ filled + k) × (length out ≡ length out₀) × Writing (hexDigits 16 w) (hexDigits (16 - k) w) filled at out₀ out
+invariant-loop out₀ filled w k₀ at₀ out k at = (k ≤ 16) × (at ≡ filled + k) × (length out ≡ length out₀) × Writing (hex_digits 16 w) (hex_digits (16 - k) w) filled at out₀ out
 
 abbrev decreases-loop : tie.decreases-loop
 decreases-loop out₀ filled w k₀ at₀ out k at = 16 - k
 
 loop-holds : tie.Need-loop-init invariant-loop decreases-loop
-loop-holds c = let a = c.before.args in (omega arith, omega arith, refl, writing_start (hexDigits 16 a.w) a.filled a.out.now)
+loop-holds c = let a = c.before.args in (omega arith, omega arith, refl, writing-start (hex_digits 16 a.w) a.filled a.out.now)
 
 sub-hex-digit : tie.Need-overflow-sub-hex-digit invariant-loop decreases-loop
 sub-hex-digit c = search rules
@@ -46,17 +46,17 @@ loop-again c =
     let a = c.before.before.before.before.before.before.before.before.args in
     let p = c.before.before.before.before.before.before.before.before.requires in
     let e = hex-step a.w l.k (omega arith) in
-    let f = subst (λ (m : List ℕ). Writing (hexDigits 16 a.w) m a.filled l.at a.out.now l.out) (e ∙ ap (λ (d : ℕ). d ∷ hexDigits (16 - (l.k + 1)) a.w) (sym c.before.before.before.hex-digit.ensures)) l.invariant.3 in
+    let f = subst (λ (m : List ℕ). Writing (hex_digits 16 a.w) m a.filled l.at a.out.now l.out) (e ∙ ap (λ (d : ℕ). d ∷ hex_digits (16 - (l.k + 1)) a.w) (sym c.before.before.before.hex-digit.ensures)) l.invariant.3 in
     let b = c.before.before.put_byte in
-    let g = writing_step (hexDigits 16 a.w) _ _ a.filled l.at _ a.out.now l.out _ (hex-length 16 a.w) (omega arith) f b.ensures in
-    let n = b.ensures.filled_is in
+    let g = writing-step (hex_digits 16 a.w) _ _ a.filled l.at _ a.out.now l.out _ (hex-length 16 a.w) (omega arith) f b.ensures in
+    let n = b.ensures.filled-is in
     (omega arith, omega arith, b.auto.0 ∙ l.invariant.2, g)
 
-same_length : tie.Need-same-length invariant-loop decreases-loop
-same_length c = c.before.loop.invariant.2
+same-length : tie.Need-same-length invariant-loop decreases-loop
+same-length c = c.before.loop.invariant.2
 
 returns : tie.Need-returns invariant-loop decreases-loop
-returns c = let l = c.before.loop in let a = c.before.before.before.args in writing-end (hexDigits 16 a.w) a.filled l.at a.out.now l.out (subst (λ (m : List ℕ). Writing (hexDigits 16 a.w) m a.filled l.at a.out.now l.out) (hex-end a.w l.k (omega arith)) l.invariant.3)
+returns c = let l = c.before.loop in let a = c.before.before.before.args in writing-end (hex_digits 16 a.w) a.filled l.at a.out.now l.out (subst (λ (m : List ℕ). Writing (hex_digits 16 a.w) m a.filled l.at a.out.now l.out) (hex-end a.w l.k (omega arith)) l.invariant.3)
 
 pub put-word-spec : {M : Type 1} → statement M
 put-word-spec =
@@ -73,5 +73,5 @@ put-word-spec =
     add-k
     loop-less
     loop-again
-    same_length
+    same-length
     returns)

@@ -1,4 +1,4 @@
--- The parameters' reader meets its contract: each way out is a step of `methodFrom`; the bytes left fall with each parameter.
+-- The parameters' reader meets its contract: each way out is a step of `method_from`; the bytes left fall with each parameter.
 use borrow.Author.Rules.{rules}
 use mathlib.Core.Path.{refl, sym, ap, subst, ◌∙◌}
 use mathlib.Core.Bool.{false}
@@ -8,8 +8,8 @@ use lib.ListN.{length, take, drop}
 use Rattle.descriptor.specs.Steps.{Placed}
 use Rattle.descriptor.specs.Laws.{read-placed, found-tells}
 use Rattle.descriptor.specs.Core.{lent-anew}
-use Rattle.methods.specs.Params.{methodFrom}
-use Rattle.methods.specs.Filled.{left-same, left_end, left-close, left-full, left-refused, left-more}
+use Rattle.methods.specs.Params.{method_from}
+use Rattle.methods.specs.Filled.{left-same, left-end, left-close, left-full, left-refused, left-more}
 use Prim.Native.Nat.{ℕ, ◌+◌, ◌-◌, ◌<◌}
 use borrow.Fn.Kinds.{In}
 use borrow.Fn.PlainCycle.{Measures, is, falls, and}
@@ -58,7 +58,7 @@ read-params-refused-requires t c κs = search rules
 read-params-returns : (t : ℕ) → read-params-lts.Need-returns (claims t) (read-params-at t) read-params.Post
 read-params-returns t c =
     let a = c.before.before.before.before.args in
-    let l = left_end a.s.now a.strict a.bad a.at a.count a.params.now c.before.if1.true in
+    let l = left-end a.s.now a.strict a.bad a.at a.count a.params.now c.before.if1.true in
     (c.refused.ensures ∙ l.0, l.1)
 
 read-params-shared-slice-read-if2 : (t : ℕ) → read-params-lts.Need-shared-slice-read-if2 (claims t) (read-params-at t) read-params.Post
@@ -143,7 +143,7 @@ read-params-returns-4 t c =
     let l =
     left-more a.s.now a.strict a.bad a.at a.count a.params.now c.before.before.before.before.before.before.before.before.before.before.before.before.before.before.before.before.before.if1.false c.before.before.before.before.before.before.before.before.before.before.before.before.before.before.before.if2.false c.before.before.before.before.before.before.before.before.before.before.before.before.before.before.if3.false _ (sym u.1 ∙ c.before.before.before.before.before.before.before.before.before.before.before.before.before.read-type.ensures) _ _ _ refl p.2 p.0
     c.before.before.before.before.before.before.before.before.before.first-bad.result c.before.before.before.before.before.before.before.before.before.first-bad.ensures q.result q.new.1.0
-    (left-same (a.count + 1) a.params.now _ _ q.result q.new.1.0 (ap (λ (l : List ℕ). methodFrom l a.strict w u.0.1.1.0 (a.count + 1)) (lent-anew a.s.now)) q.ensures)
+    (left-same (a.count + 1) a.params.now _ _ q.result q.new.1.0 (ap (λ (l : List ℕ). method_from l a.strict w u.0.1.1.0 (a.count + 1)) (lent-anew a.s.now)) q.ensures)
     in
     (l.0, n.ensures ∙ l.1)
 

@@ -1,8 +1,8 @@
--- Each way out is a case of `firstBad`.
+-- Each way out is a case of `first_bad`.
 use borrow.Author.Rules.{rules}
 use mathlib.Core.Path.{ap, ◌∙◌}
 use borrow.Author.Tests.{not-true, not-false}
-use Rattle.methods.specs.Strict.{refusedAt, bad-kept, bad-before, bad-here}
+use Rattle.methods.specs.Strict.{refused_at, bad-kept, bad-before, bad-here}
 use Rattle.methods.proofs.first_bad.Statement.{statement}
 use Rattle.methods.proofs.first_bad.Tie as tie
 
@@ -16,7 +16,7 @@ refused-at-requires : tie.Need-refused-at-requires
 refused-at-requires c κs = search rules
 
 returns-2 : tie.Need-returns-2
-returns-2 c = c.refused-at.ensures ∙ ap refusedAt c.before.judged.ensures ∙ bad-here c.before.before.before.before.before.args.s.now c.before.before.before.before.before.args.strict c.before.before.before.before.before.args.bad c.before.before.before.before.before.args.t (not-false _ c.before.before.before.if1.false) c.before.before.if2.true
+returns-2 c = c.refused-at.ensures ∙ ap refused_at c.before.judged.ensures ∙ bad-here c.before.before.before.before.before.args.s.now c.before.before.before.before.before.args.strict c.before.before.before.before.before.args.bad c.before.before.before.before.before.args.t (not-false _ c.before.before.before.if1.false) c.before.before.if2.true
 
 returns-3 : tie.Need-returns-3
 returns-3 c = bad-before c.before.before.before.args.s.now c.before.before.before.args.strict c.before.before.before.args.bad c.before.before.before.args.t (not-false _ c.before.if1.false) c.if2.false

@@ -6,19 +6,19 @@ use Prim.Native.Nat.{◌+◌, ◌-◌, ◌≤◌}
 use native.Mathlib.Omega.{arith}
 use lib.Dec.{eqb}
 use lib.ListN.{length, get_or, take, drop}
-use Rattle.methods.specs.Strict.{pickB, parts-end, parts_at}
-use Rattle.descriptor.specs.Read.{partsFrom, strictName}
+use Rattle.methods.specs.Strict.{pick_b, parts-end, parts-at}
+use Rattle.descriptor.specs.Read.{parts_from, strict_name}
 use Rattle.methods.proofs.is_strict.Statement.{statement}
 use Rattle.methods.proofs.is_strict.Tie as tie
 
 abbrev invariant-loop : tie.invariant-loop
-invariant-loop s from to begun₀ i₀ begun i = (i ≤ to) × (to ≤ length s) × (strictName (take (to - from) (drop from s)) ≡ partsFrom begun (take (to - i) (drop i s)))
+invariant-loop s from to begun₀ i₀ begun i = (i ≤ to) × (to ≤ length s) × (strict_name (take (to - from) (drop from s)) ≡ parts_from begun (take (to - i) (drop i s)))
 
 abbrev decreases-loop : tie.decreases-loop
 decreases-loop s from to begun₀ i₀ begun i = to - i
 
 loop-holds : tie.Need-loop-init invariant-loop decreases-loop
-unfolding strictName
+unfolding strict_name
 loop-holds c = (omega arith, omega arith, refl)
 
 shared-slice-read-b : tie.Need-shared-slice-read-b invariant-loop decreases-loop
@@ -32,8 +32,8 @@ returns c =
     let a = c.before.before.before.before.before.before.args in
     let l = c.before.before.before.before.loop in
     sym (l.invariant.2
-    ∙ parts_at a.s.now l.i a.to l.begun (omega arith) (omega arith)
-    ∙ ap (λ (t : Bool). pickB t false (partsFrom (not (eqb (get_or a.s.now l.i 0) 47)) (take (a.to - (l.i + 1)) (drop (l.i + 1) a.s.now)))) (sym c.before.stops.ensures ∙ c.if1.true))
+    ∙ parts-at a.s.now l.i a.to l.begun (omega arith) (omega arith)
+    ∙ ap (λ (t : Bool). pick_b t false (parts_from (not (eqb (get_or a.s.now l.i 0) 47)) (take (a.to - (l.i + 1)) (drop (l.i + 1) a.s.now)))) (sym c.before.stops.ensures ∙ c.if1.true))
 
 add-i : tie.Need-overflow-add-i invariant-loop decreases-loop
 add-i c = search rules
@@ -48,8 +48,8 @@ loop-again c =
       omega arith,
       omega arith,
       l.invariant.2
-          ∙ parts_at a.s.now l.i a.to l.begun (omega arith) (omega arith)
-          ∙ ap (λ (t : Bool). pickB t false (partsFrom (not (eqb (get_or a.s.now l.i 0) 47)) (take (a.to - (l.i + 1)) (drop (l.i + 1) a.s.now)))) (sym c.before.stops.ensures ∙ c.if1.false),
+          ∙ parts-at a.s.now l.i a.to l.begun (omega arith) (omega arith)
+          ∙ ap (λ (t : Bool). pick_b t false (parts_from (not (eqb (get_or a.s.now l.i 0) 47)) (take (a.to - (l.i + 1)) (drop (l.i + 1) a.s.now)))) (sym c.before.stops.ensures ∙ c.if1.false),
     )
 
 returns-2 : tie.Need-returns-2 invariant-loop decreases-loop

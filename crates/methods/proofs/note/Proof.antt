@@ -10,8 +10,8 @@ mul-params c = search rules
 slice-write-params : tie.Need-slice-write-params
 slice-write-params c = search rules
 
-same_length : tie.Need-same-length
-same_length c = search rules
+same-length : tie.Need-same-length
+same-length c = search rules
 
 returns : tie.Need-returns
 returns c = rw (eq-eqb _ _ c.if1.true)
@@ -20,4 +20,4 @@ returns-2 : tie.Need-returns-2
 returns-2 c = rw (ne_eqb _ _ c.if1.false)
 
 pub note-spec : {M : Type 1} → statement M
-note-spec = tie.close (tie.spec mul-params slice-write-params same_length returns returns-2)
+note-spec = tie.close (tie.spec mul-params slice-write-params same-length returns returns-2)

@@ -4,7 +4,7 @@ use mathlib.Core.List.{List}
 use Prim.Native.Nat.{ℕ}
 use native.Mathlib.Omega.{arith}
 use Rattle.descriptor.specs.Core.{lent-anew}
-use Rattle.methods.specs.Params.{methodFrom}
+use Rattle.methods.specs.Params.{method_from}
 use Rattle.methods.specs.Filled.{left-same, whole-short, whole-unopened, whole-opened}
 use borrow.Author.Rules.{rules}
 use Rattle.methods.proofs.read_method.Statement.{statement}
@@ -43,15 +43,15 @@ part-read-params-end c = search rules
 read-params-requires : tie.Need-read-params-requires
 read-params-requires c κs = search rules
 
-same_length : tie.Need-same-length
-same_length c = search rules
+same-length : tie.Need-same-length
+same-length c = search rules
 
 returns-3 : tie.Need-returns-3
 returns-3 c =
     let a = c.before.before.before.before.before.before.before.before.before.before.before.args in
     let q = c.before.before.read-params in
     whole-opened a.strict a.s.now a.params.now c.before.before.before.before.before.before.before.before.if1.false c.before.before.before.before.before.if3.true q.result q.new.1.0
-    (left-same 0 a.params.now _ _ q.result q.new.1.0 (ap (λ (l : List ℕ). methodFrom l a.strict 0 1 0) (lent-anew a.s.now)) q.ensures)
+    (left-same 0 a.params.now _ _ q.result q.new.1.0 (ap (λ (l : List ℕ). method_from l a.strict 0 1 0) (lent-anew a.s.now)) q.ensures)
 
 refused-requires-3 : tie.Need-refused-requires-3
 refused-requires-3 c κs = search rules
@@ -75,7 +75,7 @@ read-method-spec =
     part-read-params-start
     part-read-params-end
     read-params-requires
-    same_length
+    same-length
     returns-3
     refused-requires-3
     returns-4)

@@ -11,8 +11,8 @@ use Rattle.methods.specs.Filled.{answer-ending}
 use Rattle.methods.proofs.read_return.Statement.{statement}
 use Rattle.methods.proofs.read_return.Tie as tie
 
-add_at : tie.Need-overflow-add-at
-add_at c = search rules
+add-at : tie.Need-overflow-add-at
+add-at c = search rules
 
 read-last-requires : tie.Need-read-last-requires
 read-last-requires c κs = search rules
@@ -35,4 +35,4 @@ returns c =
 
 pub read-return-spec : {M : Type 1} → statement M
 read-return-spec =
-    tie.close (tie.spec add_at read-last-requires closed-requires answer-requires returns)
+    tie.close (tie.spec add-at read-last-requires closed-requires answer-requires returns)

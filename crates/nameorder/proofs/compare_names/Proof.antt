@@ -8,7 +8,7 @@ use native.Mathlib.Omega.{arith}
 use lib.ListN.{length, get_or, drop, drop_of_length-le}
 use lib.Seq.{drop-cons}
 use Rattle.order.specs.Laws.{numbers-same, numbers-by}
-use Rattle.order.specs.Compare.{compareNumbers, compareLists, then}
+use Rattle.order.specs.Compare.{compare_numbers, compare_lists, then}
 use Rattle.order.specs.declared.Order.{Order}
 use Rattle.nameorder.proofs.compare_names.Statement.{statement}
 use Rattle.nameorder.proofs.compare_names.Tie as tie
@@ -16,29 +16,29 @@ use Rattle.nameorder.proofs.compare_names.Tie as tie
 -- ---- the comparison from i on
 
 module _ (a b : List ℕ) (i : ℕ) where
-  same_byte : i < length a → i < length b → get_or a i 0 ≡ get_or b i 0
-      → compareLists (drop i a) (drop i b) ≡ compareLists (drop (i + 1) a) (drop (i + 1) b)
-  unfolding compareLists
-  same_byte p q e = rw (add-one, drop-cons a i 0, drop-cons b i 0, e, numbers-same)
+  same-byte : i < length a → i < length b → get_or a i 0 ≡ get_or b i 0
+      → compare_lists (drop i a) (drop i b) ≡ compare_lists (drop (i + 1) a) (drop (i + 1) b)
+  unfolding compare_lists
+  same-byte p q e = rw (add-one, drop-cons a i 0, drop-cons b i 0, e, numbers-same)
 
-  other_byte : i < length a → i < length b → (get_or a i 0 ≡ get_or b i 0 → ⊥)
-      → compareLists (drop i a) (drop i b) ≡ compareNumbers (get_or a i 0) (get_or b i 0)
-  unfolding compareLists
-  other_byte p q ne =
+  other-byte : i < length a → i < length b → (get_or a i 0 ≡ get_or b i 0 → ⊥)
+      → compare_lists (drop i a) (drop i b) ≡ compare_numbers (get_or a i 0) (get_or b i 0)
+  unfolding compare_lists
+  other-byte p q ne =
       rw (drop-cons a i 0, drop-cons b i 0)
-      (numbers-by (λ (o : Order). then o (compareLists (drop (suc i) a) (drop (suc i) b)) ≡ o) (get_or a i 0) (get_or b i 0)
+      (numbers-by (λ (o : Order). then o (compare_lists (drop (suc i) a) (drop (suc i) b)) ≡ o) (get_or a i 0) (get_or b i 0)
       (λ h. refl) (λ h. absurd (ne h)) (λ h. refl))
 
-  one_ended : i ≡ min (length a) (length b) → compareLists (drop i a) (drop i b) ≡ compareNumbers (length a) (length b)
-  unfolding compareLists
-  one_ended e =
-      numbers-by (λ (o : Order). compareLists (drop i a) (drop i b) ≡ o) (length a) (length b)
+  one-ended : i ≡ min (length a) (length b) → compare_lists (drop i a) (drop i b) ≡ compare_numbers (length a) (length b)
+  unfolding compare_lists
+  one-ended e =
+      numbers-by (λ (o : Order). compare_lists (drop i a) (drop i b) ≡ o) (length a) (length b)
       (λ h. rw (drop_of_length-le a {i = i} (omega arith), drop-cons b i 0 (omega arith)))
       (λ h. rw (drop_of_length-le a {i = i} (omega arith), drop_of_length-le b {i = i} (omega arith)))
       (λ h. rw (drop-cons a i 0 (omega arith), drop_of_length-le b {i = i} (omega arith)))
 
 abbrev invariant-loop : tie.invariant-loop
-invariant-loop a b n i₀ i = (i ≤ n) × (n ≡ min (length a) (length b)) × (compareLists a b ≡ compareLists (drop i a) (drop i b))
+invariant-loop a b n i₀ i = (i ≤ n) × (n ≡ min (length a) (length b)) × (compare_lists a b ≡ compare_lists (drop i a) (drop i b))
 
 abbrev decreases-loop : tie.decreases-loop
 decreases-loop a b n i₀ i = n - i
@@ -76,8 +76,8 @@ returns c =
     let l = c.before.before.before.before.before.before.before.before.before.loop in
     let s = c.before.before.before.before.before.before.before.before.before.before.smaller in
     c.compare-numbers.ensures
-    ∙ ap₂ compareNumbers c.before.before.before.wide.ensures c.before.wide2.ensures
-    ∙ sym (l.invariant.2 ∙ other_byte a.a.now a.b.now l.i (omega arith) (omega arith)
+    ∙ ap₂ compare_numbers c.before.before.before.wide.ensures c.before.wide2.ensures
+    ∙ sym (l.invariant.2 ∙ other-byte a.a.now a.b.now l.i (omega arith) (omega arith)
     c.before.before.before.before.before.if1.true)
 
 add-i : tie.Need-overflow-add-i invariant-loop decreases-loop
@@ -92,7 +92,7 @@ loop-again c =
     let l = c.before.before.before.before.loop in (
       omega arith,
       l.invariant.1,
-      l.invariant.2 ∙ same_byte a.a.now a.b.now l.i (omega arith) (omega arith) c.if1.false,
+      l.invariant.2 ∙ same-byte a.a.now a.b.now l.i (omega arith) (omega arith) c.if1.false,
     )
 
 compare-numbers-requires-2 : tie.Need-compare-numbers-requires-2 invariant-loop decreases-loop
@@ -102,7 +102,7 @@ returns-2 : tie.Need-returns-2 invariant-loop decreases-loop
 returns-2 c =
     let a = c.before.before.before.before.before.before.args in
     let l = c.before.before.loop in
-    c.compare-numbers2.ensures ∙ sym (l.invariant.2 ∙ one_ended a.a.now a.b.now l.i (omega arith))
+    c.compare-numbers2.ensures ∙ sym (l.invariant.2 ∙ one-ended a.a.now a.b.now l.i (omega arith))
 
 pub compare-names-spec : {M : Type 1} → statement M
 compare-names-spec =

@@ -7,7 +7,7 @@ use Prim.Native.Nat.{ℕ, ◌+◌, ◌-◌, ◌≤◌}
 use native.Mathlib.Omega.{arith}
 use lib.ListN.{length}
 use lib.Seq.{slice}
-use Rattle.nameorder.proofs.Block.{differ, same_first, other-first, none_left}
+use Rattle.nameorder.proofs.Block.{differ, same-first, other-first, none-left}
 use Rattle.nameorder.proofs.differ_in_block.Statement.{statement}
 use Rattle.nameorder.proofs.differ_in_block.Tie as tie
 
@@ -59,7 +59,7 @@ loop-again c =
           (λ w. ap (λ (t : Bool). l.differ || t) (other-first x y (i + l.k) (i + 8) (omega arith) l.invariant.0 l.invariant.1 w.0.taken) ∙ rw w.1 (or-true l.differ))
           (λ w.
           ap₂ ◌||◌ (sym w.1)
-          (same_first x y (i + l.k) (i + 8) (omega arith) l.invariant.0 l.invariant.1 w.0.left
+          (same-first x y (i + l.k) (i + 8) (omega arith) l.invariant.0 l.invariant.1 w.0.left
           ∙ ap (λ (n : ℕ). differ (slice n (i + 8) x) (slice n (i + 8) y)) next))
           c.if1.branch,
     )
@@ -74,7 +74,7 @@ returns c =
     sym
     (l.invariant.3
     ∙ ap (λ (n : ℕ). l.differ || differ (slice n (a.i + 8) x) (slice n (a.i + 8) y)) end
-    ∙ ap (λ (t : Bool). l.differ || t) (none_left x y (a.i + 8))
+    ∙ ap (λ (t : Bool). l.differ || t) (none-left x y (a.i + 8))
     ∙ or-false l.differ)
 
 pub differ-in-block-spec : {M : Type 1} → statement M

@@ -8,7 +8,7 @@ use native.Mathlib.Omega.{arith}
 use lib.Dec.{ltb}
 use lib.ListN.{length, take, drop, length-drop}
 use lib.Seq.{take_all}
-use Rattle.order.specs.Compare.{compareLists, isLess}
+use Rattle.order.specs.Compare.{compare_lists, is_less}
 use Rattle.order.specs.declared.Order.{Order}
 use Rattle.nameorder.proofs.is_not_above.Statement.{statement}
 use Rattle.nameorder.proofs.is_not_above.Tie as tie
@@ -49,8 +49,8 @@ returns c =
     let p = c.before.before.before.skip-same in
     let a = c.before.before.before.before.before.before.before.args in
     c.rest-is-not-above.ensures
-    ∙ ap (λ (o : Order). ltb 0 a.count && not (isLess o))
-    (ap₂ compareLists (left a.last.now p.result) (left a.name.now p.result) ∙ sym p.ensures.1)
+    ∙ ap (λ (o : Order). ltb 0 a.count && not (is_less o))
+    (ap₂ compare_lists (left a.last.now p.result) (left a.name.now p.result) ∙ sym p.ensures.1)
 
 pub is-not-above-spec : {M : Type 1} → statement M
 is-not-above-spec =

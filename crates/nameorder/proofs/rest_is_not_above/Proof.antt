@@ -7,14 +7,14 @@ use Prim.Native.Nat.{ℕ}
 use native.Mathlib.Omega.{arith}
 use lib.Dec.{ltb}
 use borrow.Author.Tests.{lt-ltb, le-ltb}
-use Rattle.order.specs.Compare.{compareLists, isLess}
+use Rattle.order.specs.Compare.{compare_lists, is_less}
 use Rattle.order.specs.declared.Order.{Order}
 use Rattle.nameorder.proofs.rest_is_not_above.Statement.{statement}
 use Rattle.nameorder.proofs.rest_is_not_above.Tie as tie
 
 -- after the first name, by the order found
-later : (count : ℕ) (last name : List ℕ) (o r : Order) → (count ≡ 0 → ⊥) → r ≡ compareLists last name → r ≡ o
-    → not (isLess o) ≡ (ltb 0 count && not (isLess (compareLists last name)))
+later : (count : ℕ) (last name : List ℕ) (o r : Order) → (count ≡ 0 → ⊥) → r ≡ compare_lists last name → r ≡ o
+    → not (is_less o) ≡ (ltb 0 count && not (is_less (compare_lists last name)))
 later count last name o r z e t = rw (lt-ltb 0 count (omega arith), ← e, t)
 
 returns : tie.Need-returns
@@ -23,8 +23,8 @@ returns c = rw (le-ltb 0 c.before.before.before.args.count (omega arith))
 compare-names-requires : tie.Need-compare-names-requires
 compare-names-requires c κs = search rules
 
-enum_told : tie.Need-enum-told
-enum_told c = search rules
+enum-told : tie.Need-enum-told
+enum-told c = search rules
 
 enum-told-2 : tie.Need-enum-told-2
 enum-told-2 c = search rules
@@ -35,7 +35,7 @@ enum-told-3 c = search rules
 returns-2 : tie.Need-returns-2
 returns-2 c =
     let a = c.before.before.before.before.before.before.args in
-    later a.count a.last.now a.name.now _ _ c.before.before.before.if1.false c.before.before.compare-names.ensures c.enum_told.given.1
+    later a.count a.last.now a.name.now _ _ c.before.before.before.if1.false c.before.before.compare-names.ensures c.enum-told.given.1
 
 returns-3 : tie.Need-returns-3
 returns-3 c =
@@ -53,7 +53,7 @@ rest-is-not-above-spec =
     (tie.spec
     returns
     compare-names-requires
-    enum_told
+    enum-told
     enum-told-2
     enum-told-3
     returns-2

@@ -4,13 +4,13 @@ use mathlib.Core.Path.{◌≡◌, refl, sym, ◌∙◌}
 use Prim.Native.Nat.{◌+◌, ◌-◌, ◌≤◌}
 use native.Mathlib.Omega.{arith}
 use lib.ListN.{length, drop}
-use Rattle.order.specs.Compare.{compareLists}
+use Rattle.order.specs.Compare.{compare_lists}
 use Rattle.nameorder.proofs.Block.{past}
 use Rattle.nameorder.proofs.skip_same.Statement.{statement}
 use Rattle.nameorder.proofs.skip_same.Tie as tie
 
 abbrev invariant-loop : tie.invariant-loop
-invariant-loop a b n i₀ i = (n ≤ length a) × (n ≤ length b) × (i ≤ n) × (compareLists a b ≡ compareLists (drop i a) (drop i b))
+invariant-loop a b n i₀ i = (n ≤ length a) × (n ≤ length b) × (i ≤ n) × (compare_lists a b ≡ compare_lists (drop i a) (drop i b))
 
 abbrev decreases-loop : tie.decreases-loop
 decreases-loop a b n i₀ i = n - i

@@ -9,40 +9,40 @@ use lib.Dec.{leb, ltb}
 use lib.ListN.{length, take, drop}
 use lib.Seq.{take_all}
 use borrow.Author.Tests.{eq-eqb, ne_eqb, lt-ltb, le-ltb, not-true, not-false}
-use Rattle.order.specs.Compare.{compareLists, isLess}
-use Rattle.utf8.specs.Utf8.{wellFormed}
-use Rattle.checks.specs.Checks.{firstRefusal}
-use Rattle.names.specs.Names.{nameChecks, checkName}
+use Rattle.order.specs.Compare.{compare_lists, is_less}
+use Rattle.utf8.specs.Utf8.{well_formed}
+use Rattle.checks.specs.Checks.{first_refusal}
+use Rattle.names.specs.Names.{name_checks, check_name}
 use Rattle.names.proofs.check_name.Statement.{statement}
 use Rattle.names.proofs.check_name.Tie as tie
 
 -- ---- the chain, by what the code has found
 
 module _ (last name : List ℕ) (count total : ℕ) where
-  empty : length name ≡ 0 → checkName last name count total ≡ 3
-  unfolding checkName nameChecks firstRefusal
+  empty : length name ≡ 0 → check_name last name count total ≡ 3
+  unfolding check_name name_checks first_refusal
   empty h = rw (eq-eqb (length name) 0 h)
 
-  long : 255 < length name → checkName last name count total ≡ 3
-  unfolding checkName nameChecks firstRefusal
+  long : 255 < length name → check_name last name count total ≡ 3
+  unfolding check_name name_checks first_refusal
   long h = rw (ne_eqb (length name) 0 (λ e. omega arith), lt-ltb 255 (length name) h)
 
   -- of 1 to 255 bytes: whether they are well-formed, not above the last, and without room
   sized : (formed low full : Bool) → (length name ≡ 0 → ⊥) → length name ≤ 255
-      → formed ≡ wellFormed (take (length name - 0) (drop 0 name))
-      → low ≡ (ltb 0 count && not (isLess (compareLists last name)))
+      → formed ≡ well_formed (take (length name - 0) (drop 0 name))
+      → low ≡ (ltb 0 count && not (is_less (compare_lists last name)))
       → full ≡ (leb 1024 count || ltb 24576 (total + length name))
-      → cond (not formed) 10 (cond low 5 (cond full 8 0)) ≡ checkName last name count total
-  unfolding checkName nameChecks firstRefusal
+      → cond (not formed) 10 (cond low 5 (cond full 8 0)) ≡ check_name last name count total
+  unfolding check_name name_checks first_refusal
   sized formed low full z h f l u =
-      rw (ne_eqb (length name) 0 z, le-ltb 255 (length name) h, ← l, ← u, ← (f ∙ ap wellFormed (take_all (length name - 0) name (omega arith))))
+      rw (ne_eqb (length name) 0 z, le-ltb 255 (length name) h, ← l, ← u, ← (f ∙ ap well_formed (take_all (length name - 0) name (omega arith))))
 
 -- past the third test the name is well-formed, past the fourth it is above the last
-formed : (c : tie.Else3) → let n = c.before.before.before.before.before.before.args.name.now in true ≡ wellFormed (take (length n - 0) (drop 0 n))
+formed : (c : tie.Else3) → let n = c.before.before.before.before.before.before.args.name.now in true ≡ well_formed (take (length n - 0) (drop 0 n))
 formed c = sym (not-false c.before.is-well-formed.result c.if3.false) ∙ c.before.is-well-formed.ensures
 
 above : (c : tie.Else4)
-    → let a = c.before.before.before.before.before.before.before.before.args in false ≡ (ltb 0 a.count && not (isLess (compareLists a.last.now a.name.now)))
+    → let a = c.before.before.before.before.before.before.before.before.args in false ≡ (ltb 0 a.count && not (is_less (compare_lists a.last.now a.name.now)))
 above c = sym c.if4.false ∙ c.before.is-not-above.ensures
 
 returns : tie.Need-returns

@@ -9,7 +9,7 @@ use lib.ListN.{length, get_or, drop, drop_of_length-le}
 use lib.Seq.{drop-cons}
 use borrow.Author.Tests.{eq-eqb, ne_eqb}
 use Rattle.checks.specs.Checks.{or_else, else-none, else-some}
-use Rattle.names.specs.Names.{name_of, checkRow, checkRows, checkNames}
+use Rattle.names.specs.Names.{name_of, check_row, check_rows, check_names}
 use Rattle.names.specs.Table.{GoodRow, row-checked}
 use Rattle.names.proofs.check_names.Statement.{statement}
 use Rattle.names.proofs.check_names.Tie as tie
@@ -18,30 +18,30 @@ use Rattle.names.proofs.check_names.Tie as tie
 
 module _ (bytes ats lens last : List ℕ) (i total : ℕ) where
   -- row i, then the others
-  rows_at : i < length ats → i < length lens
-      → checkRows bytes (drop i ats) (drop i lens) last i total
-      ≡ or_else (checkRow bytes (get_or ats i 0) (get_or lens i 0) last i total)
-      (checkRows bytes (drop (i + 1) ats) (drop (i + 1) lens) (name_of bytes (get_or ats i 0) (get_or lens i 0)) (i + 1) (total + get_or lens i 0))
-  unfolding checkRows
-  rows_at h k = rw (add-one, drop-cons ats i 0, drop-cons lens i 0)
+  rows-at : i < length ats → i < length lens
+      → check_rows bytes (drop i ats) (drop i lens) last i total
+      ≡ or_else (check_row bytes (get_or ats i 0) (get_or lens i 0) last i total)
+      (check_rows bytes (drop (i + 1) ats) (drop (i + 1) lens) (name_of bytes (get_or ats i 0) (get_or lens i 0)) (i + 1) (total + get_or lens i 0))
+  unfolding check_rows
+  rows-at h k = rw (add-one, drop-cons ats i 0, drop-cons lens i 0)
 
-  row-refused : (r : ℕ) → i < length ats → i < length lens → r ≡ checkRow bytes (get_or ats i 0) (get_or lens i 0) last i total → (r ≡ 0 → ⊥)
-      → checkRows bytes (drop i ats) (drop i lens) last i total ≡ r
-  row-refused r h k e z = rw (rows_at h k, ← e) (else-some r _ z)
+  row-refused : (r : ℕ) → i < length ats → i < length lens → r ≡ check_row bytes (get_or ats i 0) (get_or lens i 0) last i total → (r ≡ 0 → ⊥)
+      → check_rows bytes (drop i ats) (drop i lens) last i total ≡ r
+  row-refused r h k e z = rw (rows-at h k, ← e) (else-some r _ z)
 
-  row-passed : (r : ℕ) → i < length ats → i < length lens → r ≡ checkRow bytes (get_or ats i 0) (get_or lens i 0) last i total → r ≡ 0
-      → checkRows bytes (drop i ats) (drop i lens) last i total
-      ≡ checkRows bytes (drop (i + 1) ats) (drop (i + 1) lens) (name_of bytes (get_or ats i 0) (get_or lens i 0)) (i + 1) (total + get_or lens i 0)
-  row-passed r h k e z = rw (rows_at h k, ← e) (else-none r _ z)
+  row-passed : (r : ℕ) → i < length ats → i < length lens → r ≡ check_row bytes (get_or ats i 0) (get_or lens i 0) last i total → r ≡ 0
+      → check_rows bytes (drop i ats) (drop i lens) last i total
+      ≡ check_rows bytes (drop (i + 1) ats) (drop (i + 1) lens) (name_of bytes (get_or ats i 0) (get_or lens i 0)) (i + 1) (total + get_or lens i 0)
+  row-passed r h k e z = rw (rows-at h k, ← e) (else-none r _ z)
 
-  rows_end : length ats ≤ i → checkRows bytes (drop i ats) (drop i lens) last i total ≡ 0
-  unfolding checkRows
-  rows_end h = rw (drop_of_length-le ats {i = i} h)
+  rows-end : length ats ≤ i → check_rows bytes (drop i ats) (drop i lens) last i total ≡ 0
+  unfolding check_rows
+  rows-end h = rw (drop_of_length-le ats {i = i} h)
 
 abbrev invariant-loop : tie.invariant-loop
 invariant-loop names ats lens last₀ span₀ total₀ i₀ last span total i =
     (i ≤ length ats) × (length ats ≡ length lens) × (last ≤ length names) × (span ≤ length names - last) × (total ≤ 24576)
-    × (checkNames names ats lens ≡ checkRows names (drop i ats) (drop i lens) (name_of names last span) i total)
+    × (check_names names ats lens ≡ check_rows names (drop i ats) (drop i lens) (name_of names last span) i total)
 
 abbrev decreases-loop : tie.decreases-loop
 decreases-loop names ats lens last₀ span₀ total₀ i₀ last span total i = length ats - i
@@ -54,15 +54,15 @@ good : (c : tie.Else2 invariant-loop decreases-loop) → let a = c.before.before
 good c = row-checked _ _ _ _ _ _ (sym c.before.check-row.ensures ∙ c.if2.false)
 
 returns : tie.Need-returns invariant-loop decreases-loop
-unfolding checkNames
+unfolding check_names
 returns c = rw (ne_eqb _ _ c.if1.true)
 
 loop-holds : tie.Need-loop-init invariant-loop decreases-loop
-unfolding checkNames
+unfolding check_names
 loop-holds c = (omega arith, c.if1.false, omega arith, omega arith, omega arith, rw (eq-eqb _ _ c.if1.false))
 
-mul_at : tie.Need-overflow-mul-at invariant-loop decreases-loop
-mul_at c = search rules
+mul-at : tie.Need-overflow-mul-at invariant-loop decreases-loop
+mul-at c = search rules
 
 shared-slice-read-at : tie.Need-shared-slice-read-at invariant-loop decreases-loop
 shared-slice-read-at c = search rules
@@ -84,8 +84,8 @@ returns-2 c =
     let r = c.before.check-row in
     sym (l.invariant.5 ∙ row-refused s a.name-at.now a.name-len.now (name_of s l.last l.span) l.i l.total r.result (omega arith) (omega arith) r.ensures c.if2.true)
 
-add_total : tie.Need-overflow-add-total invariant-loop decreases-loop
-add_total c = let g = good c in omega arith
+add-total : tie.Need-overflow-add-total invariant-loop decreases-loop
+add-total c = let g = good c in omega arith
 
 add-i : tie.Need-overflow-add-i invariant-loop decreases-loop
 add-i c = search rules
@@ -113,7 +113,7 @@ returns-3 c =
     let a = c.before.before.before.before.before.before.args in
     let l = c.before.loop in
     let s = a.names.now in
-    sym (l.invariant.5 ∙ rows_end s a.name-at.now a.name-len.now (name_of s l.last l.span) l.i l.total (omega arith))
+    sym (l.invariant.5 ∙ rows-end s a.name-at.now a.name-len.now (name_of s l.last l.span) l.i l.total (omega arith))
 
 pub check-names-spec : {M : Type 1} → statement M
 check-names-spec =
@@ -123,13 +123,13 @@ check-names-spec =
     decreases-loop
     returns
     loop-holds
-    mul_at
+    mul-at
     shared-slice-read-at
     mul-len
     shared-slice-read-len
     check-row-requires
     returns-2
-    add_total
+    add-total
     add-i
     loop-less
     loop-again

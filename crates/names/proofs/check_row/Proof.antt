@@ -7,17 +7,17 @@ use Prim.Native.Nat.{ℕ}
 use native.Mathlib.Omega.{arith}
 use lib.ListN.{length}
 use borrow.Author.Tests.{not-true, not-false}
-use Rattle.names.specs.Names.{placeGood, name_of, checkName}
-use Rattle.names.specs.Table.{Inside, place_inside, part-is, row-misplaced, row-placed}
+use Rattle.names.specs.Names.{place_good, name_of, check_name}
+use Rattle.names.specs.Table.{Inside, place-inside, part-is, row-misplaced, row-placed}
 use Rattle.names.proofs.check_row.Statement.{statement}
 use Rattle.names.proofs.check_row.Tie as tie
 
 -- past the test, the place is good
-placed : (c : tie.Else1) → placeGood (length c.before.before.before.args.names.now) c.before.before.before.args.at c.before.before.before.args.len ≡ true
+placed : (c : tie.Else1) → place_good (length c.before.before.before.args.names.now) c.before.before.before.args.at c.before.before.before.args.len ≡ true
 placed c = sym c.before.is-place.ensures ∙ not-false c.before.is-place.result c.if1.false
 
 inside : (c : tie.Else1) → Inside (length c.before.before.before.args.names.now) c.before.before.before.args.at c.before.before.before.args.len
-inside c = let a = c.before.before.before.args in place_inside (length a.names.now) a.at a.len (placed c)
+inside c = let a = c.before.before.before.args in place-inside (length a.names.now) a.at a.len (placed c)
 
 is-place-requires : tie.Need-is-place-requires
 is-place-requires c κs = search rules
@@ -63,7 +63,7 @@ returns-2 c =
     let a = c.before.before.before.before.before.before.args in
     let s = a.names.now in
     c.check-name.ensures
-    ∙ ap₂ (λ (l m : List ℕ). checkName l m a.count a.total) (part-is s a.last a.span) (part-is s a.at a.len)
+    ∙ ap₂ (λ (l m : List ℕ). check_name l m a.count a.total) (part-is s a.last a.span) (part-is s a.at a.len)
     ∙ sym (row-placed s a.at a.len (name_of s a.last a.span) a.count a.total (placed c.before.before.before))
 
 pub check-row-spec : {M : Type 1} → statement M

@@ -3,7 +3,7 @@ use borrow.Author.Rules.{rules}
 use mathlib.Core.Path.{ap, ◌∙◌}
 use mathlib.Core.List.{List}
 use Prim.Native.Nat.{ℕ}
-use Rattle.order.specs.Compare.{compareLists}
+use Rattle.order.specs.Compare.{compare_lists}
 use Rattle.names.specs.Table.{part-is}
 use Rattle.names.proofs.compare_at.Statement.{statement}
 use Rattle.names.proofs.compare_at.Tie as tie
@@ -26,7 +26,7 @@ compare-names-requires c κs = search rules
 returns : tie.Need-returns
 returns c =
     let a = c.before.before.before.before.args in
-    c.compare-names.ensures ∙ ap (λ (l : List ℕ). compareLists l a.key.now) (part-is a.names.now a.at a.len)
+    c.compare-names.ensures ∙ ap (λ (l : List ℕ). compare_lists l a.key.now) (part-is a.names.now a.at a.len)
 
 pub compare-at-spec : {M : Type 1} → statement M
 compare-at-spec =

@@ -44,11 +44,11 @@ compare-at-requires c κs =
     let l = c.before.before.before.loop in
     let i = l.invariant.table.inside (l.low + (l.high - l.low) / 2) (omega arith) in (i.starts, i.ends)
 
-enum_told : tie.Need-enum-told invariant-loop decreases-loop
-enum_told c = search rules
+enum-told : tie.Need-enum-told invariant-loop decreases-loop
+enum-told c = search rules
 
-add_low : tie.Need-overflow-add-low invariant-loop decreases-loop
-add_low c = search rules
+add-low : tie.Need-overflow-add-low invariant-loop decreases-loop
+add-low c = search rules
 
 loop-less : tie.Need-loop-smaller invariant-loop decreases-loop
 loop-less c = search rules
@@ -57,7 +57,7 @@ loop-again : tie.Need-loop-preserved invariant-loop decreases-loop
 loop-again c =
     let l = c.before.before.before.before.before.before.loop in
     bracket-up l.invariant (l.low + (l.high - l.low) / 2) (omega arith) (omega arith)
-    (sym c.before.before.compare-at.ensures ∙ c.enum_told.given.1)
+    (sym c.before.before.compare-at.ensures ∙ c.enum-told.given.1)
 
 enum-told-2 : tie.Need-enum-told-2 invariant-loop decreases-loop
 enum-told-2 c = search rules
@@ -98,8 +98,8 @@ search-spec =
     mul-compare-at-2
     shared-slice-read-compare-at-2
     compare-at-requires
-    enum_told
-    add_low
+    enum-told
+    add-low
     loop-less
     loop-again
     enum-told-2

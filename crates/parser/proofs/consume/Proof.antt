@@ -40,7 +40,7 @@ use denote.Triple.Table.{entered, cited}
 use denote.Triple.Walked.{says, Stays, stay_none, walk_of, Goes-none, Walks, ends_at, walked, walk_Meets}
 use denote.Exit.{yes}
 use denote.Triple.Clauses.{ensured, lasts}
-use Rattle.parser.specs.Offsets.{consumeAt}
+use Rattle.parser.specs.Offsets.{consume_at}
 use Rattle.parser.specs.declared.DescriptorParser.{DescriptorParser}
 use Rattle.parser.specs.contracts.DescriptorParser as T
 use Rattle.parser.proofs.DescriptorParser.TheLaws as T'
@@ -76,7 +76,7 @@ module _ {M : Type 1} {𝓤 : Ura M} (𝓛 : Logic 𝓤) (mem : Memory → SProp
   v = slice_val d.bytes.ref_ptr (length d.bytes.now)
 
   abbrev found : ℕ
-  found = consumeAt d.bytes.now d.offset t
+  found = consume_at d.bytes.now d.offset t
 
   abbrev Post : Val → SProp 𝓤
   Post = (walk_of 𝓛 consume.ended stayed (consume.clauses 𝓛 mem run)).post (((κ, tt), (q, tt), tt, (d, (t, tt)), (mach ∷ [], (vint w8 t ∷ [], tt))), tt)

@@ -40,7 +40,7 @@ use denote.Triple.Table.{entered, cited}
 use denote.Triple.Walked.{says, Stays, stay_none, walk_of, Goes-none, Walks, ends_at, walked, walk_Meets}
 use denote.Exit.{yes}
 use denote.Triple.Clauses.{ensured, lasts}
-use Rattle.parser.specs.Offsets.{finishAt}
+use Rattle.parser.specs.Offsets.{finish_at}
 use Rattle.parser.specs.declared.DescriptorParser.{DescriptorParser}
 use Rattle.parser.specs.contracts.DescriptorParser as T
 use Rattle.parser.proofs.DescriptorParser.TheLaws as T'
@@ -76,7 +76,7 @@ module _ {M : Type 1} {𝓤 : Ura M} (𝓛 : Logic 𝓤) (mem : Memory → SProp
   v = slice_val d.bytes.ref_ptr (length d.bytes.now)
 
   abbrev found : ℕ
-  found = finishAt d.bytes.now d.offset
+  found = finish_at d.bytes.now d.offset
 
   abbrev Post : Val → SProp 𝓤
   Post = (walk_of 𝓛 finish.ended stayed (finish.clauses 𝓛 mem run)).post (((κ, tt), (q, tt), tt, (d, tt), (mach ∷ [], tt)), tt)
@@ -155,9 +155,9 @@ finish-meets : {M : Type 1} {𝓤 : Ura M} (𝓛 : Logic 𝓤) (mem : Memory →
 finish-meets {𝓤 = 𝓤} 𝓛 mem run 𝓣 known-work = walk_Meets 𝓛 finish.ended stayed (Goes-none 𝓛 1 B yes (λ κs x f. refl), tt) (finish.clauses 𝓛 mem run) (WpFn 𝓤 𝓛.H 𝓣.C 𝓣.Λ code.function) (WpFn-mono 𝓤 𝓛.H 𝓛.laws 𝓣 code.function)
     (finish-walks 𝓛 mem run 𝓣.C 𝓣.Λ (fm_of 𝓤 𝓛.H 𝓛.laws 𝓣) known-work)
 
-pub finish_spec : {M : Type 1} → stated.statement M
+pub finish-spec : {M : Type 1} → stated.statement M
 unfolding code.routine tables_of
-finish_spec 𝓤 𝓛 𝓜 𝓡 =
+finish-spec 𝓤 𝓛 𝓜 𝓡 =
     entered 𝓤 𝓛.H (triple_of 𝓛 finish.signature (finish.spec 𝓛 𝓜.mem 𝓡.run))
     (tables 𝓤 𝓛.H 𝓜 𝓡 code.env).C (tables 𝓤 𝓛.H 𝓜 𝓡 code.env).Λ #parser·finish code.function (code.unfolded 𝓤 𝓛.H 𝓜 𝓡)
     (finish-meets 𝓛 𝓜.mem 𝓡.run (tables_of 𝓤 𝓛.H 𝓜 (tables 𝓤 𝓛.H 𝓜 𝓡 code.env))

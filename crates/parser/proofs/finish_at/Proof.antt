@@ -1,4 +1,4 @@
--- `parser::finish_at` meets its contract: the test says which case of `finishAt` holds.
+-- `parser::finish_at` meets its contract: the test says which case of `finish_at` holds.
 use borrow.Author.Tests.{eq-eqb, ne_eqb}
 use Rattle.parser.proofs.finish_at.Statement.{statement}
 use Rattle.parser.proofs.finish_at.Tie as tie

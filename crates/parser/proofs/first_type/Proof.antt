@@ -38,7 +38,7 @@ use denote.Triple.Walked.{says, Stays, stay_none_slice, walk_of, Goes-none_slice
 use denote.Exit.{yes}
 use denote.Triple.Clauses.{ensured, lasts}
 use mathlib.Core.Bool.{true}
-use Rattle.descriptor.specs.Read.{readType}
+use Rattle.descriptor.specs.Read.{read_type}
 use Rattle.parser.specs.declared.DescriptorParser.{DescriptorParser}
 use Rattle.descriptor.specs.declared.Read.{Read}
 use Rattle.parser.specs.contracts.DescriptorParser as T
@@ -81,7 +81,7 @@ module _ {M : Type 1} {𝓤 : Ura M} (𝓛 : Logic 𝓤) (mem : Memory → SProp
   v = slice_val s.ref_ptr (length s.now)
 
   abbrev found : Read
-  found = readType (drop 0 s.now) 0 true 0
+  found = read_type (drop 0 s.now) 0 true 0
 
   -- the struct's type as a local of a body has it
   abbrev αᵉ : NamedLft
@@ -113,8 +113,8 @@ module _ {M : Type 1} {𝓤 : Ura M} (𝓛 : Logic 𝓤) (mem : Memory → SProp
   goes-ty : (r : DescriptorParser) (u : Val) → ent 𝓤 (⋆ 𝓛 (‵ ((B (κ, tt)).own r (u ∷ [])) ∷ (‵ (flft κ q) ⊛ ‵ ftrue) ∷ [])) ((Ty 𝓛 mem run).pre (to-ty r u))
   goes-ty r u = qed 𝓛 (‵ ((B (κ, tt)).own r (u ∷ [])) ∷ (‵ (flft κ q) ⊛ ‵ ftrue) ∷ []) ∵ nothing ! $ owned ! bool (Is bool) (bool_Makes 𝓛) true _ refl $ fjoin ! $ move ! (1 ∷ 0 ∷ []) $ fjoin ! $ move ! (1 ∷ 0 ∷ []) $ join ! $ frame ! $ done !
 
-  ty-said : (r : DescriptorParser) (t : Read) → ent 𝓤 (ensured 𝓛 ty.ended (ty.clauses 𝓛 mem run) (κ, tt) (r, (true, tt)) tt t) (fact 𝓤 (t ≡ readType (drop r.offset r.bytes.now) r.offset true 0))
-  ty-said r t = ex_e 𝓤 _ (λ ws. snd∗ 𝓤 (sem 𝓛 (lasts ty.ended (κ, tt) (r, (true, tt)) ws)) (fact 𝓤 (t ≡ readType (drop r.offset r.bytes.now) r.offset true 0)))
+  ty-said : (r : DescriptorParser) (t : Read) → ent 𝓤 (ensured 𝓛 ty.ended (ty.clauses 𝓛 mem run) (κ, tt) (r, (true, tt)) tt t) (fact 𝓤 (t ≡ read_type (drop r.offset r.bytes.now) r.offset true 0))
+  ty-said r t = ex_e 𝓤 _ (λ ws. snd∗ 𝓤 (sem 𝓛 (lasts ty.ended (κ, tt) (r, (true, tt)) ws)) (fact 𝓤 (t ≡ read_type (drop r.offset r.bytes.now) r.offset true 0)))
 
   exits : (t : Read) (u : Val) → t ≡ found → ent 𝓤 (⋆ 𝓛 (‵ ((S.the_row).own_val t (u ∷ [])) ∷ (‵ (flft κ q) ⊛ ‵ ftrue) ∷ ‵ Own ∷ [])) (Post u)
   exits t u e =
@@ -137,26 +137,26 @@ module _ {M : Type 1} {𝓤 : Ura M} (𝓛 : Logic 𝓤) (mem : Memory → SProp
         use2 𝓛 (raw ((Ty 𝓛 mem run).pre (to-ty r u))) (goes-ty r u) $
         calls_at ! fm (Ty 𝓛 mem run) known-ty (to-ty r u) (and_then ! (load ! (from ! (stop !)) (look ! 2 refl)) (and_then ! (true_lit !) (no_more !))) (λ u'.
         use1 𝓛 (later (some (λ (t : Read). ((‵ (flft κ q) ⊛ ‵ ftrue) ⊛ ‵ ((S.the_row).own_val t (u' ∷ []))) ⊛ raw (ensured 𝓛 ty.ended (ty.clauses 𝓛 mem run) (κ, tt) (r, (true, tt)) tt t)))) (id⊢ 𝓤 _) $ await ! tt $ pick ! (λ t.
-        split ! $ move ! (1 ∷ []) $ use1 𝓛 (raw (fact 𝓤 (t ≡ readType (drop r.offset r.bytes.now) r.offset true 0))) (ty-said r t) $ heard ! (t ≡ readType (drop r.offset r.bytes.now) r.offset true 0) (λ e'. split ! $ move ! (1 ∷ []) $
+        split ! $ move ! (1 ∷ []) $ use1 𝓛 (raw (fact 𝓤 (t ≡ read_type (drop r.offset r.bytes.now) r.offset true 0))) (ty-said r t) $ heard ! (t ≡ read_type (drop r.offset r.bytes.now) r.offset true 0) (λ e'. split ! $ move ! (1 ∷ []) $
         -- [the result; the token; what s owns; _2; …; _1; …; room for _0; …]
         peeks ! S.the_row (Is S.the_row) (shows 𝓛 S.the_row) t (u' ∷ []) (λ is'.
         land ! (from ! (stop !)) (init ! 7 refl ((EL.lawful S.the_type S'.the_laws 𝓛 tt).typed t _ is').0) $
         returns ! (look ! 7 refl) $ forget ! 3 refl $ forget ! 5 refl $ forget ! 7 refl $ move ! (7 ∷ 8 ∷ []) $ free1 ! $ move ! (5 ∷ 6 ∷ []) $ free1 ! $ move ! (3 ∷ 4 ∷ []) $ free1 ! $ free0 ! $
-        by ! (exits t u' (e' ∙ (ap (λ (x : Bor (List ℕ)). readType (drop r.offset x.now) r.offset true 0) e.0 ∙ ap (λ (n : ℕ). readType (drop n s.now) n true 0) e.1))))))))))))))
+        by ! (exits t u' (e' ∙ (ap (λ (x : Bor (List ℕ)). read_type (drop r.offset x.now) r.offset true 0) e.0 ∙ ap (λ (n : ℕ). read_type (drop n s.now) n true 0) e.1))))))))))))))
 
 module _ {M : Type 1} {𝓤 : Ura M} (𝓛 : Logic 𝓤) (mem : Memory → SProp 𝓤) (run : Routine → Fun 𝓤) where
   open 𝓛 use {H}
 
-  first_walks : (C : Calls 𝓤 H) (Λ : Loops 𝓤 H) → FmC 𝓤 H 𝓛.laws C → Triple 𝓤 (C #parser·new) (New 𝓛 mem run) → Triple 𝓤 (C #parser·ty) (Ty 𝓛 mem run)
+  first-walks : (C : Calls 𝓤 H) (Λ : Loops 𝓤 H) → FmC 𝓤 H 𝓛.laws C → Triple 𝓤 (C #parser·new) (New 𝓛 mem run) → Triple 𝓤 (C #parser·ty) (Ty 𝓛 mem run)
       → Walks 𝓛 first_type.ended stayed (WpFn 𝓤 H C Λ code.function) (first_type.clauses 𝓛 mem run)
-  first_walks C Λ fm known-new known-ty = walked 𝓛 first_type.ended stayed (first_type.clauses 𝓛 mem run) (WpFn 𝓤 H C Λ code.function) (λ κs. (shr_slice_vals, tt)) (λ κs. (shr_slice_Tells (named 0) κs.0 u8, tt))
+  first-walks C Λ fm known-new known-ty = walked 𝓛 first_type.ended stayed (first_type.clauses 𝓛 mem run) (WpFn 𝓤 H C Λ code.function) (λ κs. (shr_slice_vals, tt)) (λ κs. (shr_slice_Tells (named 0) κs.0 u8, tt))
       (λ κs qs bounds a g are. via 𝓤 _ (fst∗ 𝓤 _ (emp 𝓤)) (walk 𝓛 mem run κs.0 qs.0 a.0 C Λ fm known-new known-ty are.0))
 
 first-meets : {M : Type 1} {𝓤 : Ura M} (𝓛 : Logic 𝓤) (mem : Memory → SProp 𝓤) (run : Routine → Fun 𝓤) (𝓣 : Tables 𝓤 𝓛.H)
     → Triple 𝓤 (𝓣.C #parser·new) (New 𝓛 mem run) → Triple 𝓤 (𝓣.C #parser·ty) (Ty 𝓛 mem run)
     → Meets 𝓛 first_type.signature (WpFn 𝓤 𝓛.H 𝓣.C 𝓣.Λ code.function) (first_type.spec 𝓛 mem run)
 first-meets {𝓤 = 𝓤} 𝓛 mem run 𝓣 known-new known-ty = walk_Meets 𝓛 first_type.ended stayed (Goes-none_slice 𝓛 1 (0 ∷ []) tt (plain (λ _. u8)) yes, tt) (first_type.clauses 𝓛 mem run) (WpFn 𝓤 𝓛.H 𝓣.C 𝓣.Λ code.function) (WpFn-mono 𝓤 𝓛.H 𝓛.laws 𝓣 code.function)
-    (first_walks 𝓛 mem run 𝓣.C 𝓣.Λ (fm_of 𝓤 𝓛.H 𝓛.laws 𝓣) known-new known-ty)
+    (first-walks 𝓛 mem run 𝓣.C 𝓣.Λ (fm_of 𝓤 𝓛.H 𝓛.laws 𝓣) known-new known-ty)
 
 pub first-type-spec : {M : Type 1} → stated.statement M
 unfolding code.routine tables_of

@@ -86,17 +86,17 @@ module _ {M : Type 1} {𝓤 : Ura M} (𝓛 : Logic 𝓤) (mem : Memory → SProp
 module _ {M : Type 1} {𝓤 : Ura M} (𝓛 : Logic 𝓤) (mem : Memory → SProp 𝓤) (run : Routine → Fun 𝓤) where
   open 𝓛 use {H}
 
-  new_walks : (C : Calls 𝓤 H) (Λ : Loops 𝓤 H) → Walks 𝓛 new.ended stayed (WpFn 𝓤 H C Λ code.function) (new.clauses 𝓛 mem run)
-  new_walks C Λ = walked 𝓛 new.ended stayed (new.clauses 𝓛 mem run) (WpFn 𝓤 H C Λ code.function) (λ κs. (shr_slice_vals, tt)) (λ κs. (shr_slice_Tells (named 0) κs.0 u8, tt))
+  new-walks : (C : Calls 𝓤 H) (Λ : Loops 𝓤 H) → Walks 𝓛 new.ended stayed (WpFn 𝓤 H C Λ code.function) (new.clauses 𝓛 mem run)
+  new-walks C Λ = walked 𝓛 new.ended stayed (new.clauses 𝓛 mem run) (WpFn 𝓤 H C Λ code.function) (λ κs. (shr_slice_vals, tt)) (λ κs. (shr_slice_Tells (named 0) κs.0 u8, tt))
       (λ κs qs bounds a g are. via 𝓤 _ (fst∗ 𝓤 _ (emp 𝓤)) (walk 𝓛 mem run κs.0 qs.0 a.0 C Λ are.0))
 
-new_meets : {M : Type 1} {𝓤 : Ura M} (𝓛 : Logic 𝓤) → (mem : Memory → SProp 𝓤) (run : Routine → Fun 𝓤) (𝓣 : Tables 𝓤 𝓛.H)
+new-meets : {M : Type 1} {𝓤 : Ura M} (𝓛 : Logic 𝓤) → (mem : Memory → SProp 𝓤) (run : Routine → Fun 𝓤) (𝓣 : Tables 𝓤 𝓛.H)
     → Meets 𝓛 new.signature (WpFn 𝓤 𝓛.H 𝓣.C 𝓣.Λ code.function) (new.spec 𝓛 mem run)
-new_meets {𝓤 = 𝓤} 𝓛 mem run 𝓣 = walk_Meets 𝓛 new.ended stayed (Goes-none_slice 𝓛 1 (0 ∷ []) tt (plain (λ _. u8)) yes, tt) (new.clauses 𝓛 mem run) (WpFn 𝓤 𝓛.H 𝓣.C 𝓣.Λ code.function) (WpFn-mono 𝓤 𝓛.H 𝓛.laws 𝓣 code.function) (new_walks 𝓛 mem run 𝓣.C 𝓣.Λ)
+new-meets {𝓤 = 𝓤} 𝓛 mem run 𝓣 = walk_Meets 𝓛 new.ended stayed (Goes-none_slice 𝓛 1 (0 ∷ []) tt (plain (λ _. u8)) yes, tt) (new.clauses 𝓛 mem run) (WpFn 𝓤 𝓛.H 𝓣.C 𝓣.Λ code.function) (WpFn-mono 𝓤 𝓛.H 𝓛.laws 𝓣 code.function) (new-walks 𝓛 mem run 𝓣.C 𝓣.Λ)
 
-pub new_spec : {M : Type 1} → stated.statement M
+pub new-spec : {M : Type 1} → stated.statement M
 unfolding code.routine tables_of
-new_spec 𝓤 𝓛 𝓜 𝓡 =
+new-spec 𝓤 𝓛 𝓜 𝓡 =
     entered 𝓤 𝓛.H (triple_of 𝓛 new.signature (new.spec 𝓛 𝓜.mem 𝓡.run))
     (tables 𝓤 𝓛.H 𝓜 𝓡 code.env).C (tables 𝓤 𝓛.H 𝓜 𝓡 code.env).Λ #parser·new code.function (code.unfolded 𝓤 𝓛.H 𝓜 𝓡)
-    (new_meets 𝓛 𝓜.mem 𝓡.run (tables_of 𝓤 𝓛.H 𝓜 (tables 𝓤 𝓛.H 𝓜 𝓡 code.env)))
+    (new-meets 𝓛 𝓜.mem 𝓡.run (tables_of 𝓤 𝓛.H 𝓜 (tables 𝓤 𝓛.H 𝓜 𝓡 code.env)))

@@ -41,7 +41,7 @@ use denote.Triple.Table.{entered, cited}
 use denote.Triple.Walked.{says, Stays, stay_none, walk_of, Goes-none, Walks, ends_at, walked, walk_Meets}
 use denote.Exit.{yes}
 use denote.Triple.Clauses.{ensured, lasts}
-use Rattle.parser.specs.Offsets.{byteAt}
+use Rattle.parser.specs.Offsets.{byte_at}
 use Rattle.parser.specs.declared.DescriptorParser.{DescriptorParser}
 use Rattle.parser.specs.declared.Next.{Next}
 use Rattle.parser.specs.contracts.DescriptorParser as T
@@ -80,7 +80,7 @@ module _ {M : Type 1} {𝓤 : Ura M} (𝓛 : Logic 𝓤) (mem : Memory → SProp
   v = slice_val d.bytes.ref_ptr (length d.bytes.now)
 
   abbrev found : Next
-  found = byteAt d.bytes.now d.offset
+  found = byte_at d.bytes.now d.offset
 
   abbrev Post : Val → SProp 𝓤
   Post = (walk_of 𝓛 peek.ended stayed (peek.clauses 𝓛 mem run)).post (((κ, tt), (q, tt), tt, (d, tt), (mach ∷ [], tt)), tt)
@@ -148,20 +148,20 @@ module _ {M : Type 1} {𝓤 : Ura M} (𝓛 : Logic 𝓤) (mem : Memory → SProp
 module _ {M : Type 1} {𝓤 : Ura M} (𝓛 : Logic 𝓤) (mem : Memory → SProp 𝓤) (run : Routine → Fun 𝓤) where
   open 𝓛 use {H}
 
-  peek_walks : (C : Calls 𝓤 H) (Λ : Loops 𝓤 H) → FmC 𝓤 H 𝓛.laws C → Triple 𝓤 (C #parser·byte-at) (Work 𝓛 mem run)
+  peek-walks : (C : Calls 𝓤 H) (Λ : Loops 𝓤 H) → FmC 𝓤 H 𝓛.laws C → Triple 𝓤 (C #parser·byte-at) (Work 𝓛 mem run)
       → Walks 𝓛 peek.ended stayed (WpFn 𝓤 H C Λ code.function) (peek.clauses 𝓛 mem run)
-  peek_walks C Λ fm known = walked 𝓛 peek.ended stayed (peek.clauses 𝓛 mem run) (WpFn 𝓤 H C Λ code.function) (λ κs. (LL.vals (T.the_type (named_lft 1 0 tt κs)) (T'.the_laws (named_lft 1 0 tt κs)), tt)) (λ κs. (LL.tells (T.the_type (named_lft 1 0 tt κs)) (T'.the_laws (named_lft 1 0 tt κs)), tt))
+  peek-walks C Λ fm known = walked 𝓛 peek.ended stayed (peek.clauses 𝓛 mem run) (WpFn 𝓤 H C Λ code.function) (λ κs. (LL.vals (T.the_type (named_lft 1 0 tt κs)) (T'.the_laws (named_lft 1 0 tt κs)), tt)) (λ κs. (LL.tells (T.the_type (named_lft 1 0 tt κs)) (T'.the_laws (named_lft 1 0 tt κs)), tt))
       (λ κs qs bounds a g are. via 𝓤 _ (fst∗ 𝓤 _ (emp 𝓤)) (walk 𝓛 mem run κs.0 qs.0 a.0 C Λ fm known ((LL.lawful (T.the_type (named_lft 1 0 tt κs)) (T'.the_laws (named_lft 1 0 tt κs)) 𝓛).typed a.0 _ are.0).0))
 
 peek-meets : {M : Type 1} {𝓤 : Ura M} (𝓛 : Logic 𝓤) (mem : Memory → SProp 𝓤) (run : Routine → Fun 𝓤) (𝓣 : Tables 𝓤 𝓛.H)
     → Triple 𝓤 (𝓣.C #parser·byte-at) (Work 𝓛 mem run)
     → Meets 𝓛 peek.signature (WpFn 𝓤 𝓛.H 𝓣.C 𝓣.Λ code.function) (peek.spec 𝓛 mem run)
 peek-meets {𝓤 = 𝓤} 𝓛 mem run 𝓣 known-work = walk_Meets 𝓛 peek.ended stayed (Goes-none 𝓛 1 B yes (λ κs x f. refl), tt) (peek.clauses 𝓛 mem run) (WpFn 𝓤 𝓛.H 𝓣.C 𝓣.Λ code.function) (WpFn-mono 𝓤 𝓛.H 𝓛.laws 𝓣 code.function)
-    (peek_walks 𝓛 mem run 𝓣.C 𝓣.Λ (fm_of 𝓤 𝓛.H 𝓛.laws 𝓣) known-work)
+    (peek-walks 𝓛 mem run 𝓣.C 𝓣.Λ (fm_of 𝓤 𝓛.H 𝓛.laws 𝓣) known-work)
 
-pub peek_spec : {M : Type 1} → stated.statement M
+pub peek-spec : {M : Type 1} → stated.statement M
 unfolding code.routine tables_of
-peek_spec 𝓤 𝓛 𝓜 𝓡 =
+peek-spec 𝓤 𝓛 𝓜 𝓡 =
     entered 𝓤 𝓛.H (triple_of 𝓛 peek.signature (peek.spec 𝓛 𝓜.mem 𝓡.run))
     (tables 𝓤 𝓛.H 𝓜 𝓡 code.env).C (tables 𝓤 𝓛.H 𝓜 𝓡 code.env).Λ #parser·peek code.function (code.unfolded 𝓤 𝓛.H 𝓜 𝓡)
     (peek-meets 𝓛 𝓜.mem 𝓡.run (tables_of 𝓤 𝓛.H 𝓜 (tables 𝓤 𝓛.H 𝓜 𝓡 code.env))

@@ -42,7 +42,7 @@ use denote.Triple.Walked.{says, Stays, stay_none, walk_of, Goes-none, Walks, end
 use denote.Exit.{yes}
 use denote.Triple.Clauses.{ensured, lasts}
 use mathlib.Core.Bool.{Bool}
-use Rattle.descriptor.specs.Read.{readType}
+use Rattle.descriptor.specs.Read.{read_type}
 use Rattle.parser.specs.declared.DescriptorParser.{DescriptorParser}
 use Rattle.descriptor.specs.declared.Read.{Read}
 use Rattle.parser.specs.contracts.DescriptorParser as T
@@ -81,7 +81,7 @@ module _ {M : Type 1} {𝓤 : Ura M} (𝓛 : Logic 𝓤) (mem : Memory → SProp
   v = slice_val d.bytes.ref_ptr (length d.bytes.now)
 
   abbrev found : Read
-  found = readType (dropped d.offset d.bytes.now) d.offset t 0
+  found = read_type (dropped d.offset d.bytes.now) d.offset t 0
 
   abbrev Post : Val → SProp 𝓤
   Post = (walk_of 𝓛 ty.ended stayed (ty.clauses 𝓛 mem run)).post (((κ, tt), (q, tt), tt, (d, (t, tt)), (mach ∷ [], (vbool t ∷ [], tt))), tt)

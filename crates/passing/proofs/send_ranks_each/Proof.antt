@@ -6,7 +6,7 @@ use Prim.Native.Nat.{◌+◌, ◌-◌, ◌%◌, ◌^◌, ◌≤◌, ◌<◌}
 use native.Mathlib.Omega.{arith}
 use lib.ListN.{length, drop, get_or}
 use Rattle.keys.specs.Rank.{unrank}
-use Rattle.solving.specs.Solving.{toOne, toEach}
+use Rattle.solving.specs.Solving.{to_one, to_each}
 use Rattle.inserting.specs.Store.{store, put_all, Ready}
 use Rattle.inserting.specs.Laws.{all-stopped}
 use Rattle.passing.specs.Passes.{seconds}
@@ -17,7 +17,7 @@ use Rattle.passing.proofs.send_ranks_each.Tie as tie
 abbrev invariant-loop : tie.invariant-loop
 invariant-loop a₀ ring₀ links kind ranks state₀ i₀ a ring state i =
     (i ≤ length links) × (length a ≡ length a₀) × (length ring ≡ length ring₀) × Ready (store a ring state)
-    × (put_all (toEach 0 kind (map unrank ranks) (seconds links)) (store a₀ ring₀ state₀) ≡ put_all (toEach 0 kind (map unrank ranks) (drop i (seconds links))) (store a ring state)) × (length links < 2 ^ 64)
+    × (put_all (to_each 0 kind (map unrank ranks) (seconds links)) (store a₀ ring₀ state₀) ≡ put_all (to_each 0 kind (map unrank ranks) (drop i (seconds links))) (store a ring state)) × (length links < 2 ^ 64)
 
 abbrev decreases-loop : tie.decreases-loop
 decreases-loop a₀ ring₀ links kind ranks state₀ i₀ a ring state i = length links - i
@@ -38,8 +38,8 @@ send-ranks-to-requires c κs =
     let l = c.before.before.before.before.loop in
     (l.invariant.3, omega arith, p.1, p.2)
 
-same_length : tie.Need-same-length invariant-loop decreases-loop
-same_length c = search rules
+same-length : tie.Need-same-length invariant-loop decreases-loop
+same-length c = search rules
 
 same-length-2 : tie.Need-same-length-2 invariant-loop decreases-loop
 same-length-2 c = search rules
@@ -51,8 +51,8 @@ returns c =
     let o = c.before.before.before.before.before.before.send-ranks-to in
     sym
     (l.invariant.4 ∙ each-put x.kind (map unrank x.ranks.now) x.links.now l.i (store l.a l.ring l.state) (omega arith)
-    ∙ ap (put_all (toEach 0 x.kind (map unrank x.ranks.now) (drop (l.i + 1) (seconds x.links.now)))) (sym o.ensures)
-    ∙ all-stopped (toEach 0 x.kind (map unrank x.ranks.now) (drop (l.i + 1) (seconds x.links.now))) (store o.new.0 o.new.1.0 o.result) c.if1.true)
+    ∙ ap (put_all (to_each 0 x.kind (map unrank x.ranks.now) (drop (l.i + 1) (seconds x.links.now)))) (sym o.ensures)
+    ∙ all-stopped (to_each 0 x.kind (map unrank x.ranks.now) (drop (l.i + 1) (seconds x.links.now))) (store o.new.0 o.new.1.0 o.result) c.if1.true)
 
 add-i : tie.Need-overflow-add-i invariant-loop decreases-loop
 add-i c = search rules
@@ -69,9 +69,9 @@ loop-again c =
       omega arith,
       o.auto.0 ∙ l.invariant.1,
       o.auto.1.0 ∙ l.invariant.2,
-      next-ready (toOne 0 x.kind (map unrank x.ranks.now) (get_or x.links.now l.i 0 % 512)) (store l.a l.ring l.state) (store o.new.0 o.new.1.0 o.result) (one-given x.kind (get_or x.links.now l.i 0 % 512) (map unrank x.ranks.now) p.1 (omega arith) (ranked-base x.ranks.now p.2)) l.invariant.3 o.ensures c.if1.false,
+      next-ready (to_one 0 x.kind (map unrank x.ranks.now) (get_or x.links.now l.i 0 % 512)) (store l.a l.ring l.state) (store o.new.0 o.new.1.0 o.result) (one-given x.kind (get_or x.links.now l.i 0 % 512) (map unrank x.ranks.now) p.1 (omega arith) (ranked-base x.ranks.now p.2)) l.invariant.3 o.ensures c.if1.false,
       l.invariant.4 ∙ each-put x.kind (map unrank x.ranks.now) x.links.now l.i (store l.a l.ring l.state) (omega arith)
-          ∙ ap (put_all (toEach 0 x.kind (map unrank x.ranks.now) (drop (l.i + 1) (seconds x.links.now)))) (sym o.ensures),
+          ∙ ap (put_all (to_each 0 x.kind (map unrank x.ranks.now) (drop (l.i + 1) (seconds x.links.now)))) (sym o.ensures),
       l.invariant.5,
     )
 
@@ -97,7 +97,7 @@ send-ranks-each-spec =
     mul-send-ranks-to
     shared-slice-read-send-ranks-to
     send-ranks-to-requires
-    same_length
+    same-length
     same-length-2
     returns
     add-i

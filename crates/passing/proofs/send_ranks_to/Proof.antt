@@ -6,7 +6,7 @@ use Prim.Native.Nat.{◌+◌, ◌-◌, ◌≤◌}
 use native.Mathlib.Omega.{arith}
 use lib.ListN.{length, drop, get_or}
 use Rattle.keys.specs.Rank.{unrank}
-use Rattle.solving.specs.Solving.{toOne}
+use Rattle.solving.specs.Solving.{to_one}
 use Rattle.inserting.specs.Store.{store, put_all, Ready}
 use Rattle.inserting.specs.Laws.{all-stopped}
 use Rattle.passing.specs.Steps.{one-given, next-ready, ranked-at, ranked-one, one-bound, ranks-put, ranks-done}
@@ -16,7 +16,7 @@ use Rattle.passing.proofs.send_ranks_to.Tie as tie
 abbrev invariant-loop : tie.invariant-loop
 invariant-loop a₀ ring₀ ranks component kind state₀ i₀ a ring state i =
     (i ≤ length ranks) × (length a ≡ length a₀) × (length ring ≡ length ring₀) × Ready (store a ring state)
-    × (put_all (toOne 0 kind (map unrank ranks) component) (store a₀ ring₀ state₀) ≡ put_all (toOne 0 kind (drop i (map unrank ranks)) component) (store a ring state))
+    × (put_all (to_one 0 kind (map unrank ranks) component) (store a₀ ring₀ state₀) ≡ put_all (to_one 0 kind (drop i (map unrank ranks)) component) (store a ring state))
 
 abbrev decreases-loop : tie.decreases-loop
 decreases-loop a₀ ring₀ ranks component kind state₀ i₀ a ring state i = length ranks - i
@@ -37,8 +37,8 @@ insert-bound-requires c κs =
     let l = c.before.before.before.before.loop in
     (l.invariant.3, p.1, p.2, ranked-at x.ranks.now l.i p.3 (omega arith))
 
-same_length : tie.Need-same-length invariant-loop decreases-loop
-same_length c = search rules
+same-length : tie.Need-same-length invariant-loop decreases-loop
+same-length c = search rules
 
 same-length-2 : tie.Need-same-length-2 invariant-loop decreases-loop
 same-length-2 c = search rules
@@ -50,8 +50,8 @@ returns c =
     let o = c.before.before.before.before.before.before.insert-bound in
     sym
     (l.invariant.4 ∙ ranks-put x.kind x.component x.ranks.now l.i (store l.a l.ring l.state) (omega arith) l.invariant.3.good.going
-    ∙ ap (put_all (toOne 0 x.kind (drop (l.i + 1) (map unrank x.ranks.now)) x.component)) (sym o.ensures)
-    ∙ all-stopped (toOne 0 x.kind (drop (l.i + 1) (map unrank x.ranks.now)) x.component) (store o.new.0 o.new.1.0 o.result) c.if1.true)
+    ∙ ap (put_all (to_one 0 x.kind (drop (l.i + 1) (map unrank x.ranks.now)) x.component)) (sym o.ensures)
+    ∙ all-stopped (to_one 0 x.kind (drop (l.i + 1) (map unrank x.ranks.now)) x.component) (store o.new.0 o.new.1.0 o.result) c.if1.true)
 
 add-i : tie.Need-overflow-add-i invariant-loop decreases-loop
 add-i c = search rules
@@ -68,9 +68,9 @@ loop-again c =
       omega arith,
       o.auto.0 ∙ l.invariant.1,
       o.auto.1.0 ∙ l.invariant.2,
-      next-ready (toOne 0 x.kind (unrank (get_or x.ranks.now l.i 0) ∷ []) x.component) (store l.a l.ring l.state) (store o.new.0 o.new.1.0 o.result) (one-given x.kind x.component (unrank (get_or x.ranks.now l.i 0) ∷ []) p.2 p.1 (ranked-one (get_or x.ranks.now l.i 0) (ranked-at x.ranks.now l.i p.3 (omega arith)))) l.invariant.3 (o.ensures ∙ one-bound x.kind x.component (unrank (get_or x.ranks.now l.i 0)) (store l.a l.ring l.state) l.invariant.3.good.going) c.if1.false,
+      next-ready (to_one 0 x.kind (unrank (get_or x.ranks.now l.i 0) ∷ []) x.component) (store l.a l.ring l.state) (store o.new.0 o.new.1.0 o.result) (one-given x.kind x.component (unrank (get_or x.ranks.now l.i 0) ∷ []) p.2 p.1 (ranked-one (get_or x.ranks.now l.i 0) (ranked-at x.ranks.now l.i p.3 (omega arith)))) l.invariant.3 (o.ensures ∙ one-bound x.kind x.component (unrank (get_or x.ranks.now l.i 0)) (store l.a l.ring l.state) l.invariant.3.good.going) c.if1.false,
       l.invariant.4 ∙ ranks-put x.kind x.component x.ranks.now l.i (store l.a l.ring l.state) (omega arith) l.invariant.3.good.going
-          ∙ ap (put_all (toOne 0 x.kind (drop (l.i + 1) (map unrank x.ranks.now)) x.component)) (sym o.ensures),
+          ∙ ap (put_all (to_one 0 x.kind (drop (l.i + 1) (map unrank x.ranks.now)) x.component)) (sym o.ensures),
     )
 
 same-length-3 : tie.Need-same-length-3 invariant-loop decreases-loop
@@ -95,7 +95,7 @@ send-ranks-to-spec =
     mul-insert-bound
     shared-slice-read-insert-bound
     insert-bound-requires
-    same_length
+    same-length
     same-length-2
     returns
     add-i

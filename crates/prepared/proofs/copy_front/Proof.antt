@@ -5,7 +5,7 @@ use Prim.Native.Nat.{ℕ, ◌-◌, ◌≤◌}
 use native.Mathlib.Omega.{arith}
 use lib.ListN.{length}
 use lib.Seq.{paste, paste-zero}
-use Rattle.prepared.specs.Prepared.{paste_more}
+use Rattle.prepared.specs.Prepared.{paste-more}
 use Rattle.prepared.proofs.copy_front.Statement.{statement}
 use Rattle.prepared.proofs.copy_front.Tie as tie
 
@@ -40,11 +40,11 @@ loop-again : tie.Need-loop-preserved invariant-loop decreases-loop
 loop-again c =
     let a = c.before.before.before.args in
     let l = c.before.before.loop in
-    let m = paste_more a.into.now l.into a.from.now l.i (omega arith) (omega arith) l.invariant.3 l.invariant.4 in
+    let m = paste-more a.into.now l.into a.from.now l.i (omega arith) (omega arith) l.invariant.3 l.invariant.4 in
     (omega arith, l.invariant.1, l.invariant.2, m.0, m.1)
 
-same_length : tie.Need-same-length invariant-loop decreases-loop
-same_length c = search rules
+same-length : tie.Need-same-length invariant-loop decreases-loop
+same-length c = search rules
 
 returns : tie.Need-returns invariant-loop decreases-loop
 returns c =
@@ -66,5 +66,5 @@ copy-front-spec =
     add-i
     loop-less
     loop-again
-    same_length
+    same-length
     returns)

@@ -6,8 +6,8 @@ use Prim.Native.Nat.{ℕ}
 use native.Mathlib.Omega.{arith}
 use lib.Seq.{paste}
 use borrow.Rule.Slice.PartMut.{put_mid}
-use Rattle.tables.specs.Table.{pairsRoom, view_of, view-good}
-use Rattle.ancestry.specs.Rows.{rowsRoom}
+use Rattle.tables.specs.Table.{pairs_room, view_of, view-good}
+use Rattle.ancestry.specs.Rows.{rows_room}
 use Rattle.prepared.specs.Prepared.{above-inside, above-closed, part-zero, put-length, zeros-length-of}
 use Rattle.prepared.proofs.prepare.Statement.{statement}
 use Rattle.prepared.proofs.prepare.Tie as tie
@@ -50,8 +50,8 @@ copy-front-requires c κs =
     let n = s.requires.2 in
     (s.requires.3, omega arith)
 
-same_length : tie.Need-same-length
-same_length c = search rules
+same-length : tie.Need-same-length
+same-length c = search rules
 
 returns : tie.Need-returns
 returns c =
@@ -65,7 +65,7 @@ returns c =
       spread = b.ensures;
       rows = r;
       are = f.ensures;
-      is = c.before.before.copy-front.ensures ∙ ap (λ (x : List ℕ). paste (put_mid pairsRoom rowsRoom x r) 0 a.pairs.now a.t.pairs) s.requires.5;
+      is = c.before.before.copy-front.ensures ∙ ap (λ (x : List ℕ). paste (put_mid pairs_room rows_room x r) 0 a.pairs.now a.t.pairs) s.requires.5;
     }
 
 pub prepare-spec : {M : Type 1} → statement M
@@ -78,5 +78,5 @@ prepare-spec =
     part-fill-end
     fill-requires
     copy-front-requires
-    same_length
+    same-length
     returns)

@@ -2,7 +2,7 @@
 use borrow.Author.Rules.{rules}
 use mathlib.Core.Path.{sym, ◌∙◌, refl}
 use native.Mathlib.Omega.{arith}
-use Rattle.prepared.specs.Prepared.{rowsIn, rows-length, row-there, row-tells}
+use Rattle.prepared.specs.Prepared.{rows_in, rows-length, row-there, row-tells}
 use Rattle.ancestry.specs.Rows.{row}
 use Rattle.prepared.proofs.reaches.Statement.{statement}
 use Rattle.prepared.proofs.reaches.Tie as tie
@@ -35,7 +35,7 @@ returns c =
     let s = c.before.before.before.before.before.before in
     let a = s.args in
     sym
-    (row-tells a.pairs.now a.marks.now a.t s.requires.0 a.x (sym c.before.before.before.has-row.ensures ∙ c.before.before.if1.true) (row (rowsIn a.pairs.now) a.x) refl a.y c.is-in.result c.is-in.ensures)
+    (row-tells a.pairs.now a.marks.now a.t s.requires.0 a.x (sym c.before.before.before.has-row.ensures ∙ c.before.before.if1.true) (row (rows_in a.pairs.now) a.x) refl a.y c.is-in.result c.is-in.ensures)
 
 reaches-requires : tie.Need-reaches-requires
 reaches-requires c κs = search rules

@@ -6,7 +6,7 @@ use Prim.Native.Nat.{ℕ}
 use native.Mathlib.Omega.{arith}
 use Rattle.sets.specs.Sets.{subtract}
 use Rattle.hierarchy.proofs.Answers.{relation-equal, relation-object, relation-reached, relation-no, relation-unknown}
-use Rattle.prepared.specs.Prepared.{rows-length, row-there, row_is, row-tells}
+use Rattle.prepared.specs.Prepared.{rows-length, row-there, row-is, row-tells}
 use Rattle.prepared.proofs.relation_by_row.Statement.{statement}
 use Rattle.prepared.proofs.relation_by_row.Tie as tie
 
@@ -68,7 +68,7 @@ returns-4 c =
     relation-no a.pairs.now a.marks.now a.t a.value a.expected c.before.before.before.before.before.before.before.before.before.before.if1.false c.before.before.before.before.before.before.before.before.if2.false s.requires.0.long
     (row-tells a.pairs.now a.marks.now a.t s.requires.0 a.value s.requires.1 r.result.words r.ensures a.expected h.has.result h.has.ensures ∙ c.before.before.before.before.if3.false)
     d.result.words
-    (d.ensures ∙ ap₂ (λ (x k : List ℕ). subtract x k) (row_is a.pairs.now a.marks.now a.t s.requires.0 a.value s.requires.1 r.result.words r.ensures) c.before.before.before.recorded.ensures)
+    (d.ensures ∙ ap₂ (λ (x k : List ℕ). subtract x k) (row-is a.pairs.now a.marks.now a.t s.requires.0 a.value s.requires.1 r.result.words r.ensures) c.before.before.before.recorded.ensures)
     (sym c.before.lowest.ensures ∙ c.if4.true)
 
 returns-5 : tie.Need-returns-5
@@ -81,7 +81,7 @@ returns-5 c =
     relation-unknown a.pairs.now a.marks.now a.t a.value a.expected c.before.before.before.before.before.before.before.before.before.before.if1.false c.before.before.before.before.before.before.before.before.if2.false s.requires.0.long
     (row-tells a.pairs.now a.marks.now a.t s.requires.0 a.value s.requires.1 r.result.words r.ensures a.expected h.has.result h.has.ensures ∙ c.before.before.before.before.if3.false)
     d.result.words
-    (d.ensures ∙ ap₂ (λ (x k : List ℕ). subtract x k) (row_is a.pairs.now a.marks.now a.t s.requires.0 a.value s.requires.1 r.result.words r.ensures) c.before.before.before.recorded.ensures)
+    (d.ensures ∙ ap₂ (λ (x k : List ℕ). subtract x k) (row-is a.pairs.now a.marks.now a.t s.requires.0 a.value s.requires.1 r.result.words r.ensures) c.before.before.before.recorded.ensures)
     (λ e. c.if4.false (c.before.lowest.ensures ∙ e))
 
 pub relation-by-row-spec : {M : Type 1} → statement M

@@ -8,9 +8,9 @@ use lib.ListN.{length, take, drop, get_or}
 use lib.Seq.{length-take-le}
 use Rattle.sorted.specs.Sorted.{Sorted}
 use Rattle.rows.specs.Rows.{filled}
-use Rattle.problemrows.specs.ProblemRows.{boundRow}
+use Rattle.problemrows.specs.ProblemRows.{bound_row}
 use Rattle.problemrows.specs.Laws.{adds-by}
-use Rattle.problemcolumns.specs.Runs.{boundRun}
+use Rattle.problemcolumns.specs.Runs.{bound_run}
 use Rattle.problemcolumns.specs.Steps.{bounds-end, bounds-stop, bounds-step, bound-stays, adds-last, turned, adds-end}
 use Rattle.problemcolumns.proofs.add_bounds.Statement.{statement}
 use Rattle.problemcolumns.proofs.add_bounds.Tie as tie
@@ -19,7 +19,7 @@ abbrev invariant-loop : tie.invariant-loop
 invariant-loop names components bnd-comp bnd-kind bnd-type bounds₀ n₀ i₀ bounds n i =
     (i ≤ length bnd-comp) × (length bnd-comp ≡ length bnd-kind) × (length bnd-comp ≡ length bnd-type) × (n ≤ 4096) × (4096 ≤ length bounds) × (length bounds ≡ length bounds₀)
     × Sorted (take n bounds) × (bounds ≡ filled (take n bounds) bounds₀)
-    × (boundRun names components bnd-comp bnd-kind bnd-type [] ≡ boundRun names components (drop i bnd-comp) (drop i bnd-kind) (drop i bnd-type) (take n bounds))
+    × (bound_run names components bnd-comp bnd-kind bnd-type [] ≡ bound_run names components (drop i bnd-comp) (drop i bnd-kind) (drop i bnd-type) (take n bounds))
 
 abbrev decreases-loop : tie.decreases-loop
 decreases-loop names components bnd-comp bnd-kind bnd-type bounds₀ n₀ i₀ bounds n i = length bnd-comp - i
@@ -51,17 +51,17 @@ add-bound-requires c κs =
     let v = c.before.before.before.before.before.loop.invariant in
     (p.0, p.1, v.3, v.4, v.6)
 
-same_length : tie.Need-same-length invariant-loop decreases-loop
-same_length c =
+same-length : tie.Need-same-length invariant-loop decreases-loop
+same-length c =
     let s = c.before.before.before.before.before.before.before.before.before.before.before.before.before.before.before in
     let a = s.args in
     let l = c.before.before.before.before.before.before.before.before.before.before.loop in
     let row = c.before.before.before.before.add-bound in
     let i = l.i in
     let e = take l.n l.bounds in
-    let one = boundRow a.names a.components (get_or a.bnd-comp.now i 0) (get_or a.bnd-kind.now i 0) (get_or a.bnd-type.now i 0) e in
+    let one = bound_row a.names a.components (get_or a.bnd-comp.now i 0) (get_or a.bnd-kind.now i 0) (get_or a.bnd-type.now i 0) e in
     let stays = bound-stays a.names a.components (get_or a.bnd-comp.now i 0) (get_or a.bnd-kind.now i 0) (get_or a.bnd-type.now i 0) e l.invariant.6 (let t = length-take-le l.n l.bounds (omega (arith, l.invariant.3, l.invariant.4)) in omega (arith, t, l.invariant.3)) in
-    (turned 4096 l.n a.bounds.now l.bounds _ one row.result l.invariant.3 l.invariant.4 l.invariant.5 l.invariant.7 stays row.ensures).as_long
+    (turned 4096 l.n a.bounds.now l.bounds _ one row.result l.invariant.3 l.invariant.4 l.invariant.5 l.invariant.7 stays row.ensures).as-long
 
 returns : tie.Need-returns invariant-loop decreases-loop
 returns c =
@@ -72,7 +72,7 @@ returns c =
     let row = c.before.before.before.before.add-bound in
     let i = l.i in
     let e = take l.n l.bounds in
-    let one = boundRow a.names a.components (get_or a.bnd-comp.now i 0) (get_or a.bnd-kind.now i 0) (get_or a.bnd-type.now i 0) e in
+    let one = bound_row a.names a.components (get_or a.bnd-comp.now i 0) (get_or a.bnd-kind.now i 0) (get_or a.bnd-type.now i 0) e in
     let stays = bound-stays a.names a.components (get_or a.bnd-comp.now i 0) (get_or a.bnd-kind.now i 0) (get_or a.bnd-type.now i 0) e l.invariant.6 (let t = length-take-le l.n l.bounds (omega (arith, l.invariant.3, l.invariant.4)) in omega (arith, t, l.invariant.3)) in
     adds-by (l.invariant.8 ∙ bounds-stop a.names a.components a.bnd-comp.now a.bnd-kind.now a.bnd-type.now i e h (omega (arith, h, l.invariant.1)) (omega (arith, h, l.invariant.2)) _ _ row.result row.ensures c.if1.true)
     (adds-last 4096 l.n a.bounds.now l.bounds _ one row.result l.invariant.3 l.invariant.4 l.invariant.5 l.invariant.7 stays row.ensures)
@@ -92,19 +92,19 @@ loop-again c =
     let row = c.before.before.before.before.add-bound in
     let i = l.i in
     let e = take l.n l.bounds in
-    let one = boundRow a.names a.components (get_or a.bnd-comp.now i 0) (get_or a.bnd-kind.now i 0) (get_or a.bnd-type.now i 0) e in
+    let one = bound_row a.names a.components (get_or a.bnd-comp.now i 0) (get_or a.bnd-kind.now i 0) (get_or a.bnd-type.now i 0) e in
     let stays = bound-stays a.names a.components (get_or a.bnd-comp.now i 0) (get_or a.bnd-kind.now i 0) (get_or a.bnd-type.now i 0) e l.invariant.6 (let t = length-take-le l.n l.bounds (omega (arith, l.invariant.3, l.invariant.4)) in omega (arith, t, l.invariant.3)) in
     let turn = turned 4096 l.n a.bounds.now l.bounds _ one row.result l.invariant.3 l.invariant.4 l.invariant.5 l.invariant.7 stays row.ensures in (
       omega (arith, h),
       l.invariant.1,
       l.invariant.2,
       turn.within,
-      omega (arith, turn.as_long, l.invariant.5, l.invariant.4),
-      turn.as_long,
+      omega (arith, turn.as-long, l.invariant.5, l.invariant.4),
+      turn.as-long,
       turn.ordered,
       turn.front,
       l.invariant.8 ∙ bounds-step a.names a.components a.bnd-comp.now a.bnd-kind.now a.bnd-type.now i e h (omega (arith, h, l.invariant.1)) (omega (arith, h, l.invariant.2)) _ _ row.result row.ensures c.if1.false
-          ∙ ap (boundRun a.names a.components (drop (i + 1) a.bnd-comp.now) (drop (i + 1) a.bnd-kind.now) (drop (i + 1) a.bnd-type.now)) (sym turn.entries),
+          ∙ ap (bound_run a.names a.components (drop (i + 1) a.bnd-comp.now) (drop (i + 1) a.bnd-kind.now) (drop (i + 1) a.bnd-type.now)) (sym turn.entries),
     )
 
 same-length-2 : tie.Need-same-length-2 invariant-loop decreases-loop
@@ -131,7 +131,7 @@ add-bounds-spec =
     mul-add-bound-3
     shared-slice-read-add-bound-3
     add-bound-requires
-    same_length
+    same-length
     returns
     add-i
     loop-less

@@ -8,10 +8,10 @@ use lib.ListN.{length, take, drop, get_or}
 use lib.Seq.{length-take-le}
 use Rattle.sorted.specs.Sorted.{Sorted}
 use Rattle.rows.specs.Rows.{filled}
-use Rattle.problemrows.specs.ProblemRows.{pairRow}
+use Rattle.problemrows.specs.ProblemRows.{pair_row}
 use Rattle.problemrows.specs.Laws.{adds-by}
-use Rattle.problemcolumns.specs.Runs.{pairRun}
-use Rattle.problemcolumns.specs.Steps.{pairs_end, pairs-stop, pairs-step, pair-stays, adds-last, turned, adds-end}
+use Rattle.problemcolumns.specs.Runs.{pair_run}
+use Rattle.problemcolumns.specs.Steps.{pairs-end, pairs-stop, pairs-step, pair-stays, adds-last, turned, adds-end}
 use Rattle.problemcolumns.proofs.add_pairs.Statement.{statement}
 use Rattle.problemcolumns.proofs.add_pairs.Tie as tie
 
@@ -19,7 +19,7 @@ abbrev invariant-loop : tie.invariant-loop
 invariant-loop components firsts seconds pairs₀ room n₀ i₀ pairs n i =
     (i ≤ length firsts) × (length firsts ≡ length seconds) × (n ≤ room) × (room ≤ length pairs) × (length pairs ≡ length pairs₀)
     × Sorted (take n pairs) × (pairs ≡ filled (take n pairs) pairs₀)
-    × (pairRun components room firsts seconds [] ≡ pairRun components room (drop i firsts) (drop i seconds) (take n pairs))
+    × (pair_run components room firsts seconds [] ≡ pair_run components room (drop i firsts) (drop i seconds) (take n pairs))
 
 abbrev decreases-loop : tie.decreases-loop
 decreases-loop components firsts seconds pairs₀ room n₀ i₀ pairs n i = length firsts - i
@@ -45,17 +45,17 @@ add-pair-requires c κs =
     let v = c.before.before.before.before.loop.invariant in
     (p.0, v.2, v.3, v.5)
 
-same_length : tie.Need-same-length invariant-loop decreases-loop
-same_length c =
+same-length : tie.Need-same-length invariant-loop decreases-loop
+same-length c =
     let s = c.before.before.before.before.before.before.before.before.before.before.before.before.before in
     let a = s.args in
     let l = c.before.before.before.before.before.before.before.before.before.loop in
     let row = c.before.before.before.before.add-pair in
     let i = l.i in
     let e = take l.n l.pairs in
-    let one = pairRow a.components a.room (get_or a.firsts.now i 0) (get_or a.seconds.now i 0) e in
+    let one = pair_row a.components a.room (get_or a.firsts.now i 0) (get_or a.seconds.now i 0) e in
     let stays = pair-stays a.room e l.invariant.5 (let t = length-take-le l.n l.pairs (omega (arith, l.invariant.2, l.invariant.3)) in omega (arith, t, l.invariant.2)) a.components (get_or a.firsts.now i 0) (get_or a.seconds.now i 0) in
-    (turned a.room l.n a.pairs.now l.pairs _ one row.result l.invariant.2 l.invariant.3 l.invariant.4 l.invariant.6 stays row.ensures).as_long
+    (turned a.room l.n a.pairs.now l.pairs _ one row.result l.invariant.2 l.invariant.3 l.invariant.4 l.invariant.6 stays row.ensures).as-long
 
 returns : tie.Need-returns invariant-loop decreases-loop
 returns c =
@@ -66,7 +66,7 @@ returns c =
     let row = c.before.before.before.before.add-pair in
     let i = l.i in
     let e = take l.n l.pairs in
-    let one = pairRow a.components a.room (get_or a.firsts.now i 0) (get_or a.seconds.now i 0) e in
+    let one = pair_row a.components a.room (get_or a.firsts.now i 0) (get_or a.seconds.now i 0) e in
     let stays = pair-stays a.room e l.invariant.5 (let t = length-take-le l.n l.pairs (omega (arith, l.invariant.2, l.invariant.3)) in omega (arith, t, l.invariant.2)) a.components (get_or a.firsts.now i 0) (get_or a.seconds.now i 0) in
     adds-by (l.invariant.7 ∙ pairs-stop a.components a.room a.firsts.now a.seconds.now i e h (omega (arith, h, l.invariant.1)) _ _ row.result row.ensures c.if1.true)
     (adds-last a.room l.n a.pairs.now l.pairs _ one row.result l.invariant.2 l.invariant.3 l.invariant.4 l.invariant.6 stays row.ensures)
@@ -86,18 +86,18 @@ loop-again c =
     let row = c.before.before.before.before.add-pair in
     let i = l.i in
     let e = take l.n l.pairs in
-    let one = pairRow a.components a.room (get_or a.firsts.now i 0) (get_or a.seconds.now i 0) e in
+    let one = pair_row a.components a.room (get_or a.firsts.now i 0) (get_or a.seconds.now i 0) e in
     let stays = pair-stays a.room e l.invariant.5 (let t = length-take-le l.n l.pairs (omega (arith, l.invariant.2, l.invariant.3)) in omega (arith, t, l.invariant.2)) a.components (get_or a.firsts.now i 0) (get_or a.seconds.now i 0) in
     let turn = turned a.room l.n a.pairs.now l.pairs _ one row.result l.invariant.2 l.invariant.3 l.invariant.4 l.invariant.6 stays row.ensures in (
       omega (arith, h),
       l.invariant.1,
       turn.within,
-      omega (arith, turn.as_long, l.invariant.4, l.invariant.3),
-      turn.as_long,
+      omega (arith, turn.as-long, l.invariant.4, l.invariant.3),
+      turn.as-long,
       turn.ordered,
       turn.front,
       l.invariant.7 ∙ pairs-step a.components a.room a.firsts.now a.seconds.now i e h (omega (arith, h, l.invariant.1)) _ _ row.result row.ensures c.if1.false
-          ∙ ap (pairRun a.components a.room (drop (i + 1) a.firsts.now) (drop (i + 1) a.seconds.now)) (sym turn.entries),
+          ∙ ap (pair_run a.components a.room (drop (i + 1) a.firsts.now) (drop (i + 1) a.seconds.now)) (sym turn.entries),
     )
 
 same-length-2 : tie.Need-same-length-2 invariant-loop decreases-loop
@@ -107,7 +107,7 @@ returns-2 : tie.Need-returns-2 invariant-loop decreases-loop
 returns-2 c =
     let a = c.before.before.before.before.before.args in
     let l = c.before.loop in
-    adds-by (l.invariant.7 ∙ pairs_end a.components a.room a.firsts.now a.seconds.now l.i (take l.n l.pairs) (omega arith))
+    adds-by (l.invariant.7 ∙ pairs-end a.components a.room a.firsts.now a.seconds.now l.i (take l.n l.pairs) (omega arith))
     (adds-end l.n a.pairs.now l.pairs (omega (arith, l.invariant.2, l.invariant.3)) l.invariant.6)
 
 pub add-pairs-spec : {M : Type 1} → statement M
@@ -122,7 +122,7 @@ add-pairs-spec =
     mul-add-pair-2
     shared-slice-read-add-pair-2
     add-pair-requires
-    same_length
+    same-length
     returns
     add-i
     loop-less

@@ -2,7 +2,7 @@
 use borrow.Author.Rules.{rules}
 use native.Mathlib.Omega.{arith}
 use Rattle.problems.specs.Problems.{Columns}
-use Rattle.problemcolumns.specs.ProblemColumns.{columnsIn}
+use Rattle.problemcolumns.specs.ProblemColumns.{columns_in}
 use Rattle.problemcolumns.specs.Steps.{evens, reads-few, entered}
 use Rattle.problemcolumns.proofs.build_entries.Statement.{statement}
 use Rattle.problemcolumns.proofs.build_entries.Tie as tie
@@ -10,7 +10,7 @@ use Rattle.problemcolumns.proofs.build_entries.Tie as tie
 abbrev columns : tie.Start → Columns
 columns s =
     let a = s.args in
-    columnsIn a.components a.var-comp.now a.bnd-comp.now a.bnd-kind.now a.bnd-type.now a.flow-src.now a.flow-dst.now a.up-src.now a.up-dst.now a.read-arr.now a.read-res.now a.write-arr.now a.write-val.now
+    columns_in a.components a.var-comp.now a.bnd-comp.now a.bnd-kind.now a.bnd-type.now a.flow-src.now a.flow-dst.now a.up-src.now a.up-dst.now a.read-arr.now a.read-res.now a.write-arr.now a.write-val.now
 
 add-bounds-requires : tie.Need-add-bounds-requires
 add-bounds-requires c κs =
@@ -33,8 +33,8 @@ sub-room c = let d = c.before.before.before.add-pairs-after3 in reads-few _ _ _ 
 add-pairs-after-requires-4 : tie.Need-add-pairs-after-requires-4
 add-pairs-after-requires-4 c κs = let s = c.before.before.before.before.before.before.before.before.before.before.before.before.before.before.before.before.before.before.before.before.before.before.before.before.before.before.before.before.before.before.before.before.before.before.before in (s.requires.1, (evens (columns s) s.requires.2).writes, omega (arith, s.requires.3.4))
 
-same_length : tie.Need-same-length
-same_length c = c.before.before.before.before.before.before.before.before.before.before.before.before.before.before.before.before.before.before.before.add-bounds.auto.1.1.1.1.1.0
+same-length : tie.Need-same-length
+same-length c = c.before.before.before.before.before.before.before.before.before.before.before.before.before.before.before.before.before.before.before.add-bounds.auto.1.1.1.1.1.0
 
 same-length-2 : tie.Need-same-length-2
 same-length-2 c = search rules
@@ -70,7 +70,7 @@ build-entries-spec =
     add-pairs-after-requires-3
     sub-room
     add-pairs-after-requires-4
-    same_length
+    same-length
     same-length-2
     same-length-3
     same-length-4

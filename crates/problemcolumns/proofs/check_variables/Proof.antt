@@ -6,13 +6,13 @@ use Prim.Native.Nat.{◌-◌, ◌≤◌}
 use native.Mathlib.Omega.{arith}
 use lib.ListN.{length, take, drop}
 use Rattle.problemrows.specs.ProblemRows.{Ran}
-use Rattle.problemcolumns.specs.Runs.{variableRun}
+use Rattle.problemcolumns.specs.Runs.{variable_run}
 use Rattle.problemcolumns.specs.Steps.{variables-end, variables-stop, variables-step}
 use Rattle.problemcolumns.proofs.check_variables.Statement.{statement}
 use Rattle.problemcolumns.proofs.check_variables.Tie as tie
 
 abbrev invariant-loop : tie.invariant-loop
-invariant-loop components var-comp i₀ i = (i ≤ length var-comp) × (variableRun components var-comp [] ≡ variableRun components (drop i var-comp) (take i var-comp))
+invariant-loop components var-comp i₀ i = (i ≤ length var-comp) × (variable_run components var-comp [] ≡ variable_run components (drop i var-comp) (take i var-comp))
 
 abbrev decreases-loop : tie.decreases-loop
 decreases-loop components var-comp i₀ i = length var-comp - i

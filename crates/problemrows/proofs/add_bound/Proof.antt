@@ -32,8 +32,8 @@ put-bound-requires c κs =
     let legal = sym c.before.before.is-legal.ensures ∙ c.before.if3.true in
     (omega (arith, s.requires.1), omega arith, legal-more a.names 1024 a.word s.requires.0 legal, s.requires.2, s.requires.3, s.requires.4)
 
-same_length : tie.Need-same-length
-same_length c = search rules
+same-length : tie.Need-same-length
+same-length c = search rules
 
 returns-3 : tie.Need-returns-3
 returns-3 c =
@@ -58,6 +58,6 @@ add-bound-spec =
     returns-2
     is-legal-requires
     put-bound-requires
-    same_length
+    same-length
     returns-3
     returns-4)

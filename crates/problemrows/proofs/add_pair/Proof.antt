@@ -2,7 +2,7 @@
 use borrow.Author.Rules.{rules}
 use native.Mathlib.Omega.{arith}
 use lib.ListN.{take}
-use Rattle.problemrows.specs.Laws.{adds-by, adds-refused, pair-first, pair-second, pair_inside}
+use Rattle.problemrows.specs.Laws.{adds-by, adds-refused, pair-first, pair-second, pair-inside}
 use Rattle.problemrows.proofs.add_pair.Statement.{statement}
 use Rattle.problemrows.proofs.add_pair.Tie as tie
 
@@ -29,14 +29,14 @@ add-put-entry c = search rules
 put-entry-requires : tie.Need-put-entry-requires
 put-entry-requires c κs = search rules
 
-same_length : tie.Need-same-length
-same_length c = search rules
+same-length : tie.Need-same-length
+same-length c = search rules
 
 returns-3 : tie.Need-returns-3
 returns-3 c =
     let s = c.before.before.before.before.before.before.before in
     let a = s.args in
-    adds-by (pair_inside a.components a.room a.first a.second (take a.n a.pairs.now) (omega (arith, c.before.before.before.before.before.if1.false)) (omega (arith, c.before.before.before.before.if2.false)))
+    adds-by (pair-inside a.components a.room a.first a.second (take a.n a.pairs.now) (omega (arith, c.before.before.before.before.before.if1.false)) (omega (arith, c.before.before.before.before.if2.false)))
     c.before.before.put-entry.ensures
 
 pub add-pair-spec : {M : Type 1} → statement M
@@ -48,5 +48,5 @@ add-pair-spec =
     mul-put-entry
     add-put-entry
     put-entry-requires
-    same_length
+    same-length
     returns-3)

@@ -28,8 +28,8 @@ slice-write-variables c =
 add-t7 : tie.Need-overflow-add-t7
 add-t7 c = search rules
 
-same_length : tie.Need-same-length
-same_length c = search rules
+same-length : tie.Need-same-length
+same-length c = search rules
 
 returns-2 : tie.Need-returns-2
 returns-2 c =
@@ -48,5 +48,5 @@ add-variable-spec =
     mul-variables
     slice-write-variables
     add-t7
-    same_length
+    same-length
     returns-2)

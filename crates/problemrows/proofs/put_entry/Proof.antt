@@ -20,8 +20,8 @@ part-insert-end c = search rules
 insert-requires : tie.Need-insert-requires
 insert-requires c κs = search rules
 
-enum_told : tie.Need-enum-told
-enum_told c = search rules
+enum-told : tie.Need-enum-told
+enum-told c = search rules
 
 enum-told-2 : tie.Need-enum-told-2
 enum-told-2 c = search rules
@@ -32,15 +32,15 @@ add-t11 c = search rules
 enum-told-3 : tie.Need-enum-told-3
 enum-told-3 c = search rules
 
-same_length : tie.Need-same-length
-same_length c = search rules
+same-length : tie.Need-same-length
+same-length c = search rules
 
 returns : tie.Need-returns
 returns c =
     let s = c.before.before.before.before.before.before.before in
     let a = s.args in
     let put = c.before.before.before.before.insert in
-    entry-adds a.room a.x a.n (a.room - 0) a.entries.now s.requires.0 s.requires.1 s.requires.2 (omega arith) Old (sym c.enum_told.given.1 ∙ put.ensures.0) _ put.ensures.1
+    entry-adds a.room a.x a.n (a.room - 0) a.entries.now s.requires.0 s.requires.1 s.requires.2 (omega arith) Old (sym c.enum-told.given.1 ∙ put.ensures.0) _ put.ensures.1
 
 same-length-2 : tie.Need-same-length-2
 same-length-2 c = search rules
@@ -70,11 +70,11 @@ put-entry-spec =
     part-insert-start
     part-insert-end
     insert-requires
-    enum_told
+    enum-told
     enum-told-2
     add-t11
     enum-told-3
-    same_length
+    same-length
     returns
     same-length-2
     returns-2

@@ -4,21 +4,21 @@ use mathlib.Core.List.{map}
 use Prim.Native.Nat.{◌+◌, ◌≤◌}
 use native.Mathlib.Omega.{arith}
 use lib.ListN.{length, take}
-use Rattle.lattice.specs.World.{worldOf}
+use Rattle.lattice.specs.World.{world_of}
 use Rattle.solving.specs.Solving.{propagate, room}
-use Rattle.solving.specs.TableKeys.{boundOf}
+use Rattle.solving.specs.TableKeys.{bound_of}
 use Rattle.inserting.specs.Store.{store}
-use Rattle.rules.specs.Rules.{linksIn}
+use Rattle.rules.specs.Rules.{links_in}
 use Rattle.running.specs.Running.{Running}
 use Rattle.running.specs.Laws.{ahead}
-use Rattle.propagating.specs.Propagating.{first_of, first-ahead, turnable, ends, fronted, small, less, goes, stops}
+use Rattle.propagating.specs.Propagating.{first-of, first-ahead, turnable, ends, fronted, small, less, goes, stops}
 use Rattle.propagating.proofs.propagate.Statement.{statement}
 use Rattle.propagating.proofs.propagate.Tie as tie
 
 abbrev invariant-loop : tie.invariant-loop
 invariant-loop pairs marks t a₀ count ring₀ words₀ fallbacks₀ uppers₀ flows incoming reads writes components state₀ turns₀ a ring words fallbacks uppers state turns =
     (length a ≡ length a₀) × (length ring ≡ 512) × (length words ≡ length words₀) × (length fallbacks ≡ length fallbacks₀) × (length uppers ≡ length uppers₀)
-    × Running (worldOf pairs marks t) (linksIn flows incoming reads writes) components (propagate (worldOf pairs marks t) (linksIn flows incoming reads writes) components (map boundOf (take count a₀))) turns (store a ring state)
+    × Running (world_of pairs marks t) (links_in flows incoming reads writes) components (propagate (world_of pairs marks t) (links_in flows incoming reads writes) components (map bound_of (take count a₀))) turns (store a ring state)
     × (turns + ahead state ≤ 512 + room)
 
 abbrev decreases-loop : tie.decreases-loop
@@ -35,7 +35,7 @@ loop-holds c =
     let x = c.before.before.before.before.before.before.before.before.before.before.before.before.before.before.before.args in
     let p = c.before.before.before.before.before.before.before.before.before.before.before.before.before.before.before.requires in
     let q = c.before.before.start in
-    (refl, q.auto.0 ∙ p.ring-room, refl, refl, refl, first_of x.pairs.now x.marks.now x.t x.a.now x.count x.ring.now x.words.now x.fallbacks.now x.uppers.now x.flows.now x.incoming.now x.reads.now x.writes.now x.components p q.new.0 q.result q.ensures.0 q.ensures.1, first-ahead x.pairs.now x.marks.now x.t x.a.now x.count x.ring.now x.words.now x.fallbacks.now x.uppers.now x.flows.now x.incoming.now x.reads.now x.writes.now x.components p q.result q.ensures.0)
+    (refl, q.auto.0 ∙ p.ring-room, refl, refl, refl, first-of x.pairs.now x.marks.now x.t x.a.now x.count x.ring.now x.words.now x.fallbacks.now x.uppers.now x.flows.now x.incoming.now x.reads.now x.writes.now x.components p q.new.0 q.result q.ensures.0 q.ensures.1, first-ahead x.pairs.now x.marks.now x.t x.a.now x.count x.ring.now x.words.now x.fallbacks.now x.uppers.now x.flows.now x.incoming.now x.reads.now x.writes.now x.components p q.result q.ensures.0)
 
 take-front-requires : tie.Need-take-front-requires invariant-loop decreases-loop
 take-front-requires c κs =
@@ -57,8 +57,8 @@ add-turns c =
     let l = c.before.before.before.before.before.before.before.before.before.before.before.before.before.before.before.before.before.before.before.before.before.loop in
     omega (arith, l.invariant.6)
 
-same_length : tie.Need-same-length invariant-loop decreases-loop
-same_length c =
+same-length : tie.Need-same-length invariant-loop decreases-loop
+same-length c =
     c.before.before.before.before.before.before.before.before.before.before.before.before.turn.auto.1.1.1.0 ∙ c.before.before.before.before.before.before.before.before.before.before.before.before.before.before.before.before.before.before.before.before.before.before.before.loop.invariant.0
 
 same-length-2 : tie.Need-same-length-2 invariant-loop decreases-loop
@@ -165,7 +165,7 @@ propagate-spec =
     take-front-requires
     turn-requires
     add-turns
-    same_length
+    same-length
     same-length-2
     same-length-3
     same-length-4

@@ -27,8 +27,8 @@ ask-layers-requires c κs = λ e. (refl, refl)
 clear-requires : tie.Need-clear-requires
 clear-requires c κs = search rules
 
-same_length : tie.Need-same-length
-same_length c = search rules
+same-length : tie.Need-same-length
+same-length c = search rules
 
 returns-2 : tie.Need-returns-2
 returns-2 c =
@@ -77,7 +77,7 @@ ancestors-of-spec =
     first-open-requires
     ask-layers-requires
     clear-requires
-    same_length
+    same-length
     returns-2
     sub-ancestors-over
     part-ancestors-over-start

@@ -11,8 +11,8 @@ open-table-requires c κs = search rules
 none-gathered-requires : tie.Need-none-gathered-requires
 none-gathered-requires c κs = search rules
 
-same_length : tie.Need-same-length
-same_length c = search rules
+same-length : tie.Need-same-length
+same-length c = search rules
 
 same-length-2 : tie.Need-same-length-2
 same-length-2 c = search rules
@@ -49,7 +49,7 @@ ancestors-over-spec =
     (tie.spec
     open-table-requires
     none-gathered-requires
-    same_length
+    same-length
     same-length-2
     returns
     ancestors-requires

@@ -1,7 +1,7 @@
 -- `ask_over` meets its contract: the refusal, or the answer over the table.
 use borrow.Author.Rules.{rules}
 use Rattle.columns.specs.Given.{Given, given}
-use Rattle.questions.specs.Laws.{no_rows, asked-none, numbers-asked, asked-value}
+use Rattle.questions.specs.Laws.{no-rows, asked-none, numbers-asked, asked-value}
 use Rattle.questions.proofs.ask_over.Statement.{statement}
 use Rattle.questions.proofs.ask_over.Tie as tie
 
@@ -11,8 +11,8 @@ of-types-requires c κs = search rules
 open-table-requires : tie.Need-open-table-requires
 open-table-requires c κs = search rules
 
-same_length : tie.Need-same-length
-same_length c = search rules
+same-length : tie.Need-same-length
+same-length c = search rules
 
 same-length-2 : tie.Need-same-length-2
 same-length-2 c = search rules
@@ -33,7 +33,7 @@ value-of-requires c κs =
     let g : Given = given a.names.now a.name-at.now a.name-len.now a.rec-flags.now a.rec-class.now a.rec-at.now a.rec-len.now a.parents.now in
     let z = c.before.before.if1.false in
     let r = o.ensures.ready z in
-    (r.wide, r.fits, numbers-asked g a.q s.of_types.result s.of_types.ensures a.a a.b _ _ o.result o.ensures z, no_rows _ _ o.new.1.1.1.1.1.1.1.1.1.1.1.0 s.before.before.before.before.before.before.before.before.before.before.before.requires.0 o.auto.1.1.1.1.1.1.1.1.1.1.1.0)
+    (r.wide, r.fits, numbers-asked g a.q s.of_types.result s.of_types.ensures a.a a.b _ _ o.result o.ensures z, no-rows _ _ o.new.1.1.1.1.1.1.1.1.1.1.1.0 s.before.before.before.before.before.before.before.before.before.before.before.requires.0 o.auto.1.1.1.1.1.1.1.1.1.1.1.0)
 
 same-length-3 : tie.Need-same-length-3
 same-length-3 c = search rules
@@ -55,7 +55,7 @@ ask-over-spec =
     (tie.spec
     of-types-requires
     open-table-requires
-    same_length
+    same-length
     same-length-2
     returns
     value-of-requires

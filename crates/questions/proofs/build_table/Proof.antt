@@ -3,7 +3,7 @@ use borrow.Author.Rules.{rules}
 use mathlib.Core.Path.{sym, ap, ◌∙◌}
 use lib.ListN.{length}
 use Rattle.columns.specs.Given.{given}
-use Rattle.columns.specs.GivenLaws.{even_is}
+use Rattle.columns.specs.GivenLaws.{even-is}
 use Rattle.questions.specs.Laws.{even-shows, uneven-shows}
 use Rattle.questions.proofs.build_table.Statement.{statement}
 use Rattle.questions.proofs.build_table.Tie as tie
@@ -15,11 +15,11 @@ build-shown-requires : tie.Need-build-shown-requires
 build-shown-requires c κs =
     let s = c.before.before.before.before.before.before.before.before.before.before.before.before.before.before in
     let a = s.args in
-    let e = even_is (length a.name-at.now) (length a.name-len.now) (length a.rec-flags.now) (length a.rec-class.now) (length a.rec-at.now) (length a.rec-len.now) (sym c.before.before.before.is-even.ensures ∙ c.before.before.if1.true) in
+    let e = even-is (length a.name-at.now) (length a.name-len.now) (length a.rec-flags.now) (length a.rec-class.now) (length a.rec-at.now) (length a.rec-len.now) (sym c.before.before.before.is-even.ensures ∙ c.before.before.if1.true) in
     (e.0, e.1, e.2, e.3, s.requires.0, ap length s.requires.1)
 
-same_length : tie.Need-same-length
-same_length c = search rules
+same-length : tie.Need-same-length
+same-length c = search rules
 
 same-length-2 : tie.Need-same-length-2
 same-length-2 c = search rules
@@ -45,7 +45,7 @@ build-table-spec =
     (tie.spec
     is-even-requires
     build-shown-requires
-    same_length
+    same-length
     same-length-2
     returns
     no-table-requires

@@ -1,20 +1,20 @@
 -- `is_even` meets its contract: the first columns that differ decide.
 use borrow.Author.Tests.{eq-eqb, ne_eqb}
-use Rattle.columns.specs.Given.{evenLengths}
+use Rattle.columns.specs.Given.{even_lengths}
 use Rattle.columns.specs.GivenLaws.{even-last}
 use Rattle.questions.proofs.is_even.Statement.{statement}
 use Rattle.questions.proofs.is_even.Tie as tie
 
 returns : tie.Need-returns
-unfolding evenLengths
+unfolding even_lengths
 returns c = simp (ne_eqb _ _ c.if1.true)
 
 returns-2 : tie.Need-returns-2
-unfolding evenLengths
+unfolding even_lengths
 returns-2 c = simp (eq-eqb _ _ c.before.if1.false, ne_eqb _ _ c.if2.true)
 
 returns-3 : tie.Need-returns-3
-unfolding evenLengths
+unfolding even_lengths
 returns-3 c = simp (eq-eqb _ _ c.before.before.if1.false, eq-eqb _ _ c.before.if2.false, ne_eqb _ _ c.if3.true)
 
 returns-4 : tie.Need-returns-4

@@ -11,8 +11,8 @@ build-table-requires c κs = search rules
 with-checks-requires : tie.Need-with-checks-requires
 with-checks-requires c κs = search rules
 
-same_length : tie.Need-same-length
-same_length c = search rules
+same-length : tie.Need-same-length
+same-length c = search rules
 
 same-length-2 : tie.Need-same-length-2
 same-length-2 c = search rules
@@ -27,4 +27,4 @@ returns c =
 pub open-table-spec : {M : Type 1} → statement M
 open-table-spec =
     tie.close
-    (tie.spec build-table-requires with-checks-requires same_length same-length-2 returns)
+    (tie.spec build-table-requires with-checks-requires same-length same-length-2 returns)

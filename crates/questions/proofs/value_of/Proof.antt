@@ -2,13 +2,13 @@
 use borrow.Author.Rules.{rules}
 use mathlib.Core.Path.{ap, ◌∙◌}
 use Rattle.prepared.specs.Prepared.{plain-prepared}
-use Rattle.questions.specs.Questions.{ofTypes}
+use Rattle.questions.specs.Questions.{of_types}
 use Rattle.questions.specs.Laws.{are-classes, are-types, legal-words, value-relation, value-distance, value-supertype, value-cast, value-join, value-assignable}
 use Rattle.questions.proofs.value_of.Statement.{statement}
 use Rattle.questions.proofs.value_of.Tie as tie
 
-enum_told : tie.Need-enum-told
-enum_told c = search rules
+enum-told : tie.Need-enum-told
+enum-told c = search rules
 
 subtype-relation-requires : tie.Need-subtype-relation-requires
 subtype-relation-requires c κs = search rules
@@ -29,7 +29,7 @@ supertype-requires : tie.Need-supertype-requires
 supertype-requires c κs =
     let s = c.before.before.before.before in
     let a = s.args in
-    let p = are-classes a.t.names a.a a.b (ofTypes a.q) (ap ofTypes c.enum-told3.given.1) s.requires.2 in
+    let p = are-classes a.t.names a.a a.b (of_types a.q) (ap of_types c.enum-told3.given.1) s.requires.2 in
     (s.requires.1.0, s.requires.1.1, p.0, p.1, plain-prepared a.pairs.now a.marks.now a.t s.requires.0 (λ e n. s.requires.3 e))
 
 enum-told-4 : tie.Need-enum-told-4
@@ -48,7 +48,7 @@ join-requires : tie.Need-join-requires
 join-requires c κs =
     let s = c.before.before.before.before in
     let a = s.args in
-    let p = are-types a.t.names a.a a.b (ofTypes a.q) (ap ofTypes c.enum-told5.given.1) s.requires.2 in
+    let p = are-types a.t.names a.a a.b (of_types a.q) (ap of_types c.enum-told5.given.1) s.requires.2 in
     (s.requires.1, p.0, p.1, plain-prepared a.pairs.now a.marks.now a.t s.requires.0 (λ e n. s.requires.3 e))
 
 number-requires : tie.Need-number-requires
@@ -61,7 +61,7 @@ is-assignable-requires : tie.Need-is-assignable-requires
 is-assignable-requires c κs =
     let s = c.before.before.before.before in
     let a = s.args in
-    let p = are-types a.t.names a.a a.b (ofTypes a.q) (ap ofTypes c.enum-told6.given.1) s.requires.2 in
+    let p = are-types a.t.names a.a a.b (of_types a.q) (ap of_types c.enum-told6.given.1) s.requires.2 in
     let l = legal-words a.t.names a.a a.b s.requires.1.0 p in
     (plain-prepared a.pairs.now a.marks.now a.t s.requires.0 (λ e n. s.requires.3 e), l.0, l.1)
 
@@ -71,7 +71,7 @@ flag-requires-2 c κs = search rules
 returns : tie.Need-returns
 returns c =
     let a = c.before.before.before.before.before.before.args in
-    value-relation a.pairs.now a.marks.now a.t a.q a.a a.b c.relation-number.result c.before.before.enum_told.given.1 c.before.subtype-relation.result c.relation-number.ensures c.before.subtype-relation.ensures
+    value-relation a.pairs.now a.marks.now a.t a.q a.a a.b c.relation-number.result c.before.before.enum-told.given.1 c.before.subtype-relation.result c.relation-number.ensures c.before.subtype-relation.ensures
 
 returns-2 : tie.Need-returns-2
 returns-2 c =
@@ -102,7 +102,7 @@ pub value-of-spec : {M : Type 1} → statement M
 value-of-spec =
     tie.close
     (tie.spec
-    enum_told
+    enum-told
     subtype-relation-requires
     relation-number-requires
     enum-told-2

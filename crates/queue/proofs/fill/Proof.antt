@@ -7,13 +7,13 @@ use native.Mathlib.Omega.{arith}
 use lib.ListN.{length, drop, set, length-set}
 use Rattle.sets.specs.Sets.{insert}
 use Rattle.view.specs.View.{numbers}
-use Rattle.queue.specs.Ring.{firstSet}
-use Rattle.queue.specs.Laws.{first_more, numbers_more}
+use Rattle.queue.specs.Ring.{first_set}
+use Rattle.queue.specs.Laws.{first-more, numbers-more}
 use Rattle.queue.proofs.fill.Statement.{statement}
 use Rattle.queue.proofs.fill.Tie as tie
 
 abbrev invariant-loop : tie.invariant-loop
-invariant-loop ring₀ n queued₀ i₀ ring queued i = (i ≤ n) × (length ring ≡ 512) × (queued.words ≡ firstSet i) × (ring ≡ numbers 0 i ++ drop i ring₀)
+invariant-loop ring₀ n queued₀ i₀ ring queued i = (i ≤ n) × (length ring ≡ 512) × (queued.words ≡ first_set i) × (ring ≡ numbers 0 i ++ drop i ring₀)
 
 abbrev decreases-loop : tie.decreases-loop
 decreases-loop ring₀ n queued₀ i₀ ring queued i = n - i
@@ -22,7 +22,7 @@ empty-requires : tie.Need-empty-requires invariant-loop decreases-loop
 empty-requires c κs = search rules
 
 loop-holds : tie.Need-loop-init invariant-loop decreases-loop
-unfolding numbers firstSet
+unfolding numbers first_set
 loop-holds c = (omega arith, c.before.before.requires.0, c.empty.ensures, refl)
 
 mul-ring : tie.Need-overflow-mul-ring invariant-loop decreases-loop
@@ -46,23 +46,23 @@ loop-again c =
     let l = c.before.before.loop in (
       omega arith,
       simp length-set l.invariant.1,
-      c.with.ensures ∙ ap (λ (ws : List ℕ). insert ws l.i) l.invariant.2 ∙ sym (first_more l.i),
+      c.with.ensures ∙ ap (λ (ws : List ℕ). insert ws l.i) l.invariant.2 ∙ sym (first-more l.i),
       ap (λ (r : List ℕ). set r l.i l.i) l.invariant.3
-          ∙ numbers_more l.i a.ring.now (omega (arith, c.before.before.before.before.before.requires.0, c.before.before.before.before.before.requires.1)),
+          ∙ numbers-more l.i a.ring.now (omega (arith, c.before.before.before.before.before.requires.0, c.before.before.before.before.before.requires.1)),
     )
 
-same_length : tie.Need-same-length invariant-loop decreases-loop
-same_length c = search rules
+same-length : tie.Need-same-length invariant-loop decreases-loop
+same-length c = search rules
 
 returns : tie.Need-returns invariant-loop decreases-loop
 returns c =
     let a = c.before.before.before.before.args in
     let l = c.before.loop in
     let e : l.i ≡ a.n = omega arith in
-    (λ k. record { head = 0; len = a.n; queued = record { words = (l.invariant.2 ∙ ap firstSet e) k } }, l.invariant.3 ∙ ap (λ (n : ℕ). numbers 0 n ++ drop n a.ring.now) e)
+    (λ k. record { head = 0; len = a.n; queued = record { words = (l.invariant.2 ∙ ap first_set e) k } }, l.invariant.3 ∙ ap (λ (n : ℕ). numbers 0 n ++ drop n a.ring.now) e)
 
-pub fill_spec : {M : Type 1} → statement M
-fill_spec =
+pub fill-spec : {M : Type 1} → statement M
+fill-spec =
     tie.close
     (tie.spec
     invariant-loop
@@ -75,5 +75,5 @@ fill_spec =
     add-i
     loop-less
     loop-again
-    same_length
+    same-length
     returns)

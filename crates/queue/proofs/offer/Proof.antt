@@ -16,8 +16,8 @@ returns c =
     let m = sym c.before.has.ensures ∙ c.if1.true in
     (sym (offered-old a.q a.c m), sym (ring-old a.q a.c a.ring.now m))
 
-add_at : tie.Need-overflow-add-at
-add_at c =
+add-at : tie.Need-overflow-add-at
+add-at c =
     let p = c.before.before.before.before.before.requires in
     let l = p.2 (sym c.before.before.has.ensures ∙ c.before.if1.false) in
     omega arith
@@ -37,8 +37,8 @@ add-t8 c =
     let l = p.2 (sym c.before.before.before.before.has.ensures ∙ c.before.before.before.if1.false) in
     omega arith
 
-same_length : tie.Need-same-length
-same_length c = search rules
+same-length : tie.Need-same-length
+same-length c = search rules
 
 returns-2 : tie.Need-returns-2
 returns-2 c =
@@ -53,10 +53,10 @@ offer-spec =
     (tie.spec
     has-requires
     returns
-    add_at
+    add-at
     mul-ring
     slice-write-ring
     with-requires
     add-t8
-    same_length
+    same-length
     returns-2)

@@ -26,5 +26,5 @@ returns c =
     let w = c.before.before.without.ensures in
     λ k. record { front = get_or a.ring.now a.q.head 0; rest = record { head = (a.q.head + 1) % 512; len = a.q.len - 1; queued = record { words = w k } } }
 
-pub pop_spec : {M : Type 1} → statement M
-pop_spec = tie.close (tie.spec mul-c shared-slice-read-c without-requires add-t9 sub-t11 returns)
+pub pop-spec : {M : Type 1} → statement M
+pop-spec = tie.close (tie.spec mul-c shared-slice-read-c without-requires add-t9 sub-t11 returns)

@@ -42,8 +42,8 @@ loop-less c = search rules
 loop-again : tie.Need-loop-preserved invariant-loop decreases-loop
 loop-again c = search rules
 
-same_length : tie.Need-same-length invariant-loop decreases-loop
-same_length c = search rules
+same-length : tie.Need-same-length invariant-loop decreases-loop
+same-length c = search rules
 
 same-length-2 : tie.Need-same-length-2 invariant-loop decreases-loop
 same-length-2 c = search rules
@@ -70,7 +70,7 @@ each-line-spec =
     add-i
     loop-less
     loop-again
-    same_length
+    same-length
     same-length-2
     same-length-3
     returns)

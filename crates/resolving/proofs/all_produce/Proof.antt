@@ -6,15 +6,15 @@ use Prim.Native.Nat.{◌-◌, ◌≤◌}
 use native.Mathlib.Omega.{arith}
 use lib.ListN.{length, get_or}
 use Rattle.ty.specs.Words.{type_of}
-use Rattle.lattice.specs.World.{worldOf}
-use Rattle.candidates.specs.Steps.{typesFrom}
-use Rattle.solving.specs.Resolve.{allProduce}
+use Rattle.lattice.specs.World.{world_of}
+use Rattle.candidates.specs.Steps.{types_from}
+use Rattle.solving.specs.Resolve.{all_produce}
 use Rattle.resolving.specs.Laws.{legal-word, each-later, each-not, each-end}
 use Rattle.resolving.proofs.all_produce.Statement.{statement}
 use Rattle.resolving.proofs.all_produce.Tie as tie
 
 abbrev invariant-loop : tie.invariant-loop
-invariant-loop pairs marks t bounds candidate i₀ i = (i ≤ length bounds) × (allProduce (worldOf pairs marks t) (map type_of bounds) (type_of candidate.word) ≡ allProduce (worldOf pairs marks t) (typesFrom i bounds) (type_of candidate.word))
+invariant-loop pairs marks t bounds candidate i₀ i = (i ≤ length bounds) × (all_produce (world_of pairs marks t) (map type_of bounds) (type_of candidate.word) ≡ all_produce (world_of pairs marks t) (types_from i bounds) (type_of candidate.word))
 
 abbrev decreases-loop : tie.decreases-loop
 decreases-loop pairs marks t bounds candidate i₀ i = length bounds - i
@@ -45,21 +45,21 @@ loop-again c =
     let s = c.before.before.before.before.before.before.before.before in
     let a = s.args in
     let l = c.before.before.before.before.loop in
-    (omega arith, l.invariant.1 ∙ each-later (worldOf a.pairs.now a.marks.now a.t) a.bounds.now l.i (type_of a.candidate.word) (omega arith) (sym c.before.producer-bound-compatible.ensures ∙ c.if1.true))
+    (omega arith, l.invariant.1 ∙ each-later (world_of a.pairs.now a.marks.now a.t) a.bounds.now l.i (type_of a.candidate.word) (omega arith) (sym c.before.producer-bound-compatible.ensures ∙ c.if1.true))
 
 returns : tie.Need-returns invariant-loop decreases-loop
 returns c =
     let s = c.before.before.before.before.before.before.before.before in
     let a = s.args in
     let l = c.before.before.before.before.loop in
-    sym (l.invariant.1 ∙ each-not (worldOf a.pairs.now a.marks.now a.t) a.bounds.now l.i (type_of a.candidate.word) (omega arith) (sym c.before.producer-bound-compatible.ensures ∙ c.if1.false))
+    sym (l.invariant.1 ∙ each-not (world_of a.pairs.now a.marks.now a.t) a.bounds.now l.i (type_of a.candidate.word) (omega arith) (sym c.before.producer-bound-compatible.ensures ∙ c.if1.false))
 
 returns-2 : tie.Need-returns-2 invariant-loop decreases-loop
 returns-2 c =
     let s = c.before.before.before.before.before in
     let a = s.args in
     let l = c.before.loop in
-    sym (l.invariant.1 ∙ each-end (worldOf a.pairs.now a.marks.now a.t) a.bounds.now l.i (type_of a.candidate.word) (omega arith))
+    sym (l.invariant.1 ∙ each-end (world_of a.pairs.now a.marks.now a.t) a.bounds.now l.i (type_of a.candidate.word) (omega arith))
 
 pub all-produce-spec : {M : Type 1} → statement M
 all-produce-spec =

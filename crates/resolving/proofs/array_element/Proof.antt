@@ -6,11 +6,11 @@ use mathlib.Core.Option.{Option}
 use native.Mathlib.Omega.{arith}
 use Rattle.ty.specs.Types.{ArgType}
 use Rattle.ty.specs.Words.{type_of}
-use Rattle.ty.specs.Answers.{maybeWord}
-use Rattle.lattice.specs.Lattice.{mostSpecificUpper}
-use Rattle.lattice.specs.World.{worldOf}
-use Rattle.solving.specs.Solving.{producedType, or_else, elementOf}
-use Rattle.resolving.specs.Bounds.{stateIn}
+use Rattle.ty.specs.Answers.{maybe_word}
+use Rattle.lattice.specs.Lattice.{most_specific_upper}
+use Rattle.lattice.specs.World.{world_of}
+use Rattle.solving.specs.Solving.{produced_type, or_else, element_of}
+use Rattle.resolving.specs.Bounds.{state_in}
 use Rattle.resolving.specs.Laws.{word-types, word-legal, element-whole, produced-option}
 use Rattle.resolving.proofs.array_element.Statement.{statement}
 use Rattle.resolving.proofs.array_element.Tie as tie
@@ -24,7 +24,7 @@ element-of-requires c κs =
     let a = s.args in
     let p = s.requires in
     let fits = p.0.1 in
-    (p.0, word-legal a.t fits (producedType (worldOf a.pairs.now a.marks.now a.t) (stateIn a.exact.now a.lower.now [] [] [])) (produced-option a.pairs.now a.marks.now a.t fits a.exact.now a.lower.now p.1.0 (λ i. omega (arith, (c.before.before.before.shared-slice-known3.given i).fits)) p.2.0 (λ i. omega (arith, (c.before.before.shared-slice-known4.given i).fits))) c.produced-type.result c.produced-type.ensures, p.3)
+    (p.0, word-legal a.t fits (produced_type (world_of a.pairs.now a.marks.now a.t) (state_in a.exact.now a.lower.now [] [] [])) (produced-option a.pairs.now a.marks.now a.t fits a.exact.now a.lower.now p.1.0 (λ i. omega (arith, (c.before.before.before.shared-slice-known3.given i).fits)) p.2.0 (λ i. omega (arith, (c.before.before.shared-slice-known4.given i).fits))) c.produced-type.result c.produced-type.ensures, p.3)
 
 returns : tie.Need-returns
 returns c =
@@ -32,10 +32,10 @@ returns c =
     let a = s.args in
     let p = s.requires in
     let fits = p.0.1 in
-    let w = worldOf a.pairs.now a.marks.now a.t in
+    let w = world_of a.pairs.now a.marks.now a.t in
     c.element-of.ensures
-    ∙ ap (λ (o : Option ArgType). maybeWord (elementOf (or_else o (mostSpecificUpper w (map type_of a.upper.now))))) (word-types a.t fits (producedType (worldOf a.pairs.now a.marks.now a.t) (stateIn a.exact.now a.lower.now [] [] [])) (produced-option a.pairs.now a.marks.now a.t fits a.exact.now a.lower.now p.1.0 (λ i. omega (arith, (c.before.before.before.before.shared-slice-known3.given i).fits)) p.2.0 (λ i. omega (arith, (c.before.before.before.shared-slice-known4.given i).fits))) c.before.produced-type.result c.before.produced-type.ensures)
-    ∙ ap maybeWord (element-whole w a.exact.now a.lower.now a.upper.now [] [])
+    ∙ ap (λ (o : Option ArgType). maybe_word (element_of (or_else o (most_specific_upper w (map type_of a.upper.now))))) (word-types a.t fits (produced_type (world_of a.pairs.now a.marks.now a.t) (state_in a.exact.now a.lower.now [] [] [])) (produced-option a.pairs.now a.marks.now a.t fits a.exact.now a.lower.now p.1.0 (λ i. omega (arith, (c.before.before.before.before.shared-slice-known3.given i).fits)) p.2.0 (λ i. omega (arith, (c.before.before.before.shared-slice-known4.given i).fits))) c.before.produced-type.result c.before.produced-type.ensures)
+    ∙ ap maybe_word (element-whole w a.exact.now a.lower.now a.upper.now [] [])
 
 pub array-element-spec : {M : Type 1} → statement M
 array-element-spec = tie.close (tie.spec produced-type-requires element-of-requires returns)

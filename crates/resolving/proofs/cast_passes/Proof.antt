@@ -3,10 +3,10 @@ use borrow.Author.Rules.{rules}
 use mathlib.Core.Path.{sym, ◌∙◌}
 use mathlib.Core.List.{map}
 use Rattle.ty.specs.Words.{type_of}
-use Rattle.lattice.specs.Lattice.{domainAccepts}
-use Rattle.lattice.specs.World.{worldOf}
-use Rattle.solving.specs.Resolve.{producesAll}
-use Rattle.resolving.specs.Laws.{legal-words, both_yes, both-no}
+use Rattle.lattice.specs.Lattice.{domain_accepts}
+use Rattle.lattice.specs.World.{world_of}
+use Rattle.solving.specs.Resolve.{produces_all}
+use Rattle.resolving.specs.Laws.{legal-words, both-yes, both-no}
 use Rattle.resolving.proofs.cast_passes.Statement.{statement}
 use Rattle.resolving.proofs.cast_passes.Tie as tie
 
@@ -25,14 +25,14 @@ returns c =
     let s = c.before.before.before.before.before.before.before in
     let a = s.args in
     let ty = type_of a.ty.word in
-    both_yes (producesAll (worldOf a.pairs.now a.marks.now a.t) ty (map type_of a.upper.now)) (domainAccepts (map type_of a.domain.now) ty) c.domain-accepts.result (sym c.before.before.produces-all.ensures ∙ c.before.if1.true) c.domain-accepts.ensures
+    both-yes (produces_all (world_of a.pairs.now a.marks.now a.t) ty (map type_of a.upper.now)) (domain_accepts (map type_of a.domain.now) ty) c.domain-accepts.result (sym c.before.before.produces-all.ensures ∙ c.before.if1.true) c.domain-accepts.ensures
 
 returns-2 : tie.Need-returns-2
 returns-2 c =
     let s = c.before.before.before.before.before.before in
     let a = s.args in
     let ty = type_of a.ty.word in
-    both-no (producesAll (worldOf a.pairs.now a.marks.now a.t) ty (map type_of a.upper.now)) (domainAccepts (map type_of a.domain.now) ty) (sym c.before.produces-all.ensures ∙ c.if1.false)
+    both-no (produces_all (world_of a.pairs.now a.marks.now a.t) ty (map type_of a.upper.now)) (domain_accepts (map type_of a.domain.now) ty) (sym c.before.produces-all.ensures ∙ c.if1.false)
 
 pub cast-passes-spec : {M : Type 1} → statement M
 cast-passes-spec =

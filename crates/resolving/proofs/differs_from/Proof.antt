@@ -13,8 +13,8 @@ returns c =
     let a = s.args in
     differs-not a.hint a.found c.before.before.before.before.found.given.0.0 c.before.before.before.before.found.given.1 c.if1.true
 
-enum_told : tie.Need-enum-told
-enum_told c = search rules
+enum-told : tie.Need-enum-told
+enum-told c = search rules
 
 returns-2 : tie.Need-returns-2
 returns-2 c =
@@ -26,4 +26,4 @@ returns-3 : tie.Need-returns-3
 returns-3 c = search rules
 
 pub differs-from-spec : {M : Type 1} → statement M
-differs-from-spec = tie.close (tie.spec enum-known-found returns enum_told returns-2 returns-3)
+differs-from-spec = tie.close (tie.spec enum-known-found returns enum-told returns-2 returns-3)

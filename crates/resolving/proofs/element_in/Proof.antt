@@ -11,8 +11,8 @@ enum-known-array c = search rules
 element-requires : tie.Need-element-requires
 element-requires c κs = search rules
 
-enum_told : tie.Need-enum-told
-enum_told c = search rules
+enum-told : tie.Need-enum-told
+enum-told c = search rules
 
 returns : tie.Need-returns
 returns c =
@@ -25,4 +25,4 @@ returns-2 c = search rules
 
 pub element-in-spec : {M : Type 1} → statement M
 element-in-spec =
-    tie.close (tie.spec enum-known-array element-requires enum_told returns returns-2)
+    tie.close (tie.spec enum-known-array element-requires enum-told returns returns-2)

@@ -2,9 +2,9 @@
 use mathlib.Core.Path.{sym, ◌∙◌}
 use mathlib.Core.List.{map}
 use Rattle.ty.specs.Words.{type_of}
-use Rattle.lattice.specs.Lattice.{domainAccepts, assignableToAll}
-use Rattle.lattice.specs.World.{worldOf}
-use Rattle.resolving.specs.Laws.{legal-words, both_yes, both-no}
+use Rattle.lattice.specs.Lattice.{domain_accepts, assignable_to_all}
+use Rattle.lattice.specs.World.{world_of}
+use Rattle.resolving.specs.Laws.{legal-words, both-yes, both-no}
 use Rattle.resolving.proofs.fallback_passes.Statement.{statement}
 use Rattle.resolving.proofs.fallback_passes.Tie as tie
 
@@ -27,14 +27,14 @@ returns c =
     let s = c.before.before.before.before.before.before.before in
     let a = s.args in
     let ty = type_of a.ty.word in
-    both_yes (assignableToAll (worldOf a.pairs.now a.marks.now a.t) ty (map type_of a.upper.now)) (domainAccepts (map type_of a.domain.now) ty) c.domain-accepts.result (sym c.before.before.is-assignable-to-all.ensures ∙ c.before.if1.true) c.domain-accepts.ensures
+    both-yes (assignable_to_all (world_of a.pairs.now a.marks.now a.t) ty (map type_of a.upper.now)) (domain_accepts (map type_of a.domain.now) ty) c.domain-accepts.result (sym c.before.before.is-assignable-to-all.ensures ∙ c.before.if1.true) c.domain-accepts.ensures
 
 returns-2 : tie.Need-returns-2
 returns-2 c =
     let s = c.before.before.before.before.before.before in
     let a = s.args in
     let ty = type_of a.ty.word in
-    both-no (assignableToAll (worldOf a.pairs.now a.marks.now a.t) ty (map type_of a.upper.now)) (domainAccepts (map type_of a.domain.now) ty) (sym c.before.is-assignable-to-all.ensures ∙ c.if1.false)
+    both-no (assignable_to_all (world_of a.pairs.now a.marks.now a.t) ty (map type_of a.upper.now)) (domain_accepts (map type_of a.domain.now) ty) (sym c.before.is-assignable-to-all.ensures ∙ c.if1.false)
 
 pub fallback-passes-spec : {M : Type 1} → statement M
 fallback-passes-spec =

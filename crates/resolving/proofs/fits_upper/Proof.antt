@@ -3,8 +3,8 @@ use borrow.Author.Rules.{rules}
 use mathlib.Core.Path.{◌∙◌}
 use mathlib.Core.List.{map}
 use Rattle.ty.specs.Words.{type_of}
-use Rattle.lattice.specs.Lattice.{assignableToAll}
-use Rattle.lattice.specs.World.{worldOf}
+use Rattle.lattice.specs.Lattice.{assignable_to_all}
+use Rattle.lattice.specs.World.{world_of}
 use Rattle.resolving.specs.Bounds.{fitting}
 use Rattle.resolving.specs.Laws.{legal-words, is-legal, pass-is, pass-none}
 use Rattle.resolving.proofs.fits_upper.Statement.{statement}
@@ -25,8 +25,8 @@ is-assignable-to-all-requires c κs =
 kept-requires : tie.Need-kept-requires
 kept-requires c κs = search rules
 
-enum_told : tie.Need-enum-told
-enum_told c = search rules
+enum-told : tie.Need-enum-told
+enum-told c = search rules
 
 returns : tie.Need-returns
 unfolding fitting
@@ -35,14 +35,14 @@ returns c =
     let a = s.args in
     let u = c.before.before.before.candidate.given.0.0 in
     let e = c.before.before.before.candidate.given.1 in
-    c.kept.ensures ∙ pass-is a.candidate u e c.before.is-assignable-to-all.result (λ ty. assignableToAll (worldOf a.pairs.now a.marks.now a.t) ty (map type_of a.upper.now)) s.requires.1 c.before.is-assignable-to-all.ensures
+    c.kept.ensures ∙ pass-is a.candidate u e c.before.is-assignable-to-all.result (λ ty. assignable_to_all (world_of a.pairs.now a.marks.now a.t) ty (map type_of a.upper.now)) s.requires.1 c.before.is-assignable-to-all.ensures
 
 returns-2 : tie.Need-returns-2
 unfolding fitting
 returns-2 c =
     let s = c.before.before.before.before.before in
     let a = s.args in
-    pass-none a.candidate c.enum_told.given.1 (λ ty. assignableToAll (worldOf a.pairs.now a.marks.now a.t) ty (map type_of a.upper.now))
+    pass-none a.candidate c.enum-told.given.1 (λ ty. assignable_to_all (world_of a.pairs.now a.marks.now a.t) ty (map type_of a.upper.now))
 
 pub fits-upper-spec : {M : Type 1} → statement M
 fits-upper-spec =
@@ -51,6 +51,6 @@ fits-upper-spec =
     enum-known-candidate
     is-assignable-to-all-requires
     kept-requires
-    enum_told
+    enum-told
     returns
     returns-2)

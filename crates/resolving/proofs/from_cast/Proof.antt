@@ -3,9 +3,9 @@ use borrow.Author.Rules.{rules}
 use mathlib.Core.Path.{◌∙◌}
 use mathlib.Core.List.{map}
 use Rattle.ty.specs.Words.{type_of}
-use Rattle.lattice.specs.World.{worldOf}
-use Rattle.candidates.specs.Maybe.{maybeType}
-use Rattle.resolving.specs.Bounds.{byCast, fromFallback, fromCast}
+use Rattle.lattice.specs.World.{world_of}
+use Rattle.candidates.specs.Maybe.{maybe_type}
+use Rattle.resolving.specs.Bounds.{by_cast, from_fallback, from_cast}
 use Rattle.resolving.specs.Laws.{way-is, way-none}
 use Rattle.resolving.proofs.from_cast.Statement.{statement}
 use Rattle.resolving.proofs.from_cast.Tie as tie
@@ -16,29 +16,29 @@ evidence-cast-requires c κs = search rules
 enum-known-ty : tie.Need-enum-known-ty
 enum-known-ty c = search rules
 
-enum_told : tie.Need-enum-told
-enum_told c = search rules
+enum-told : tie.Need-enum-told
+enum-told c = search rules
 
 from-fallback-requires : tie.Need-from-fallback-requires
 from-fallback-requires c κs = search rules
 
 returns : tie.Need-returns
-unfolding fromCast
+unfolding from_cast
 returns c =
     let s = c.before.before.before.before.before.before.before.before.before in
     let a = s.args in
     let m = c.before.before.before.evidence-cast in
-    let w = worldOf a.pairs.now a.marks.now a.t in
-    way-is m.result c.before.ty.given.0.0 c.before.ty.given.1 (byCast w (maybeType a.evidence) (map type_of a.upper.now) (map type_of a.domain.now)) (fromFallback w (map type_of a.upper.now) (map type_of a.domain.now) (map type_of a.fallback.now)) m.ensures
+    let w = world_of a.pairs.now a.marks.now a.t in
+    way-is m.result c.before.ty.given.0.0 c.before.ty.given.1 (by_cast w (maybe_type a.evidence) (map type_of a.upper.now) (map type_of a.domain.now)) (from_fallback w (map type_of a.upper.now) (map type_of a.domain.now) (map type_of a.fallback.now)) m.ensures
 
 returns-2 : tie.Need-returns-2
-unfolding fromCast
+unfolding from_cast
 returns-2 c =
     let s = c.before.before.before.before.before.before.before.before.before in
     let a = s.args in
     let m = c.before.before.before.evidence-cast in
-    let w = worldOf a.pairs.now a.marks.now a.t in
-    c.from-fallback.ensures ∙ way-none m.result c.before.enum_told.given.1 (byCast w (maybeType a.evidence) (map type_of a.upper.now) (map type_of a.domain.now)) (fromFallback w (map type_of a.upper.now) (map type_of a.domain.now) (map type_of a.fallback.now)) m.ensures
+    let w = world_of a.pairs.now a.marks.now a.t in
+    c.from-fallback.ensures ∙ way-none m.result c.before.enum-told.given.1 (by_cast w (maybe_type a.evidence) (map type_of a.upper.now) (map type_of a.domain.now)) (from_fallback w (map type_of a.upper.now) (map type_of a.domain.now) (map type_of a.fallback.now)) m.ensures
 
 pub from-cast-spec : {M : Type 1} → statement M
 from-cast-spec =
@@ -46,7 +46,7 @@ from-cast-spec =
     (tie.spec
     evidence-cast-requires
     enum-known-ty
-    enum_told
+    enum-told
     from-fallback-requires
     returns
     returns-2)

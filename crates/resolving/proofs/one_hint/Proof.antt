@@ -9,17 +9,17 @@ use lib.ListN.{length, get_or}
 use Rattle.ty.specs.declared.MaybeType.{MaybeType}
 use Rattle.ty.specs.Types.{ArgType}
 use Rattle.ty.specs.Words.{type_of}
-use Rattle.candidates.specs.Maybe.{LegalMaybe, maybeType, hint-type, hint-word}
-use Rattle.candidates.specs.Steps.{typesFrom}
-use Rattle.solving.specs.Solving.{list_of, hintOf, hintsOf}
+use Rattle.candidates.specs.Maybe.{LegalMaybe, maybe_type, hint-type, hint-word}
+use Rattle.candidates.specs.Steps.{types_from}
+use Rattle.solving.specs.Solving.{list_of, hint_of, hints_of}
 use Rattle.solving.specs.Resolve.{single}
 use Rattle.resolving.specs.Laws.{legal-word, object-small}
-use Rattle.resolving.specs.Hints.{hints-end, hints-step, either-legal, hint-same, Two, hint-other, hints-two, two-single, one_single}
+use Rattle.resolving.specs.Hints.{hints-end, hints-step, either-legal, hint-same, Two, hint-other, hints-two, two-single, one-single}
 use Rattle.resolving.proofs.one_hint.Statement.{statement}
 use Rattle.resolving.proofs.one_hint.Tie as tie
 
 abbrev invariant-loop : tie.invariant-loop
-invariant-loop domain object found₀ i₀ found i = (i ≤ length domain) × LegalMaybe found × (hintsOf object (typesFrom i domain) ≡ list_of (maybeType found))
+invariant-loop domain object found₀ i₀ found i = (i ≤ length domain) × LegalMaybe found × (hints_of object (types_from i domain) ≡ list_of (maybe_type found))
 
 abbrev decreases-loop : tie.decreases-loop
 decreases-loop domain object found₀ i₀ found i = i
@@ -59,12 +59,12 @@ returns c =
     let f : x < 2 ^ 64 = omega (arith, (c.before.before.before.shared-slice-known2.given (l.i - 1)).fits) in
     let legal = legal-word a.t s.requires.0 x (s.requires.1 (l.i - 1) (omega arith)) in
     let small = object-small a.t s.requires.0 in
-    let step : hintsOf object (typesFrom (l.i - 1) a.domain.now) ≡ hintOf (maybeType h.result) (list_of (maybeType l.found)) =
+    let step : hints_of object (types_from (l.i - 1) a.domain.now) ≡ hint_of (maybe_type h.result) (list_of (maybe_type l.found)) =
     hints-step object a.domain.now l.i (omega arith) (omega arith)
-    ∙ ap (λ (o : Option ArgType). hintOf o (hintsOf object (typesFrom l.i a.domain.now))) (sym (hint-type object x h.result small f legal h.ensures))
-    ∙ ap (hintOf (maybeType h.result)) l.invariant.2 in
+    ∙ ap (λ (o : Option ArgType). hint_of o (hints_of object (types_from l.i a.domain.now))) (sym (hint-type object x h.result small f legal h.ensures))
+    ∙ ap (hint_of (maybe_type h.result)) l.invariant.2 in
     let known = hint-word object x h.result small f legal h.ensures in
-    (tt, two-single (hintsOf object (map type_of a.domain.now)) (hints-two object (l.i - 1) a.domain.now (subst Two (sym step) (hint-other h.result l.found known l.invariant.1 (sym c.before.both-differ.ensures ∙ c.if1.true)))))
+    (tt, two-single (hints_of object (map type_of a.domain.now)) (hints-two object (l.i - 1) a.domain.now (subst Two (sym step) (hint-other h.result l.found known l.invariant.1 (sym c.before.both-differ.ensures ∙ c.if1.true)))))
 
 either-requires : tie.Need-either-requires invariant-loop decreases-loop
 either-requires c κs = tt
@@ -83,19 +83,19 @@ loop-again c =
     let f : x < 2 ^ 64 = omega (arith, (c.before.before.before.before.shared-slice-known2.given (l.i - 1)).fits) in
     let legal = legal-word a.t s.requires.0 x (s.requires.1 (l.i - 1) (omega arith)) in
     let small = object-small a.t s.requires.0 in
-    let step : hintsOf object (typesFrom (l.i - 1) a.domain.now) ≡ hintOf (maybeType h.result) (list_of (maybeType l.found)) =
+    let step : hints_of object (types_from (l.i - 1) a.domain.now) ≡ hint_of (maybe_type h.result) (list_of (maybe_type l.found)) =
     hints-step object a.domain.now l.i (omega arith) (omega arith)
-    ∙ ap (λ (o : Option ArgType). hintOf o (hintsOf object (typesFrom l.i a.domain.now))) (sym (hint-type object x h.result small f legal h.ensures))
-    ∙ ap (hintOf (maybeType h.result)) l.invariant.2 in
+    ∙ ap (λ (o : Option ArgType). hint_of o (hints_of object (types_from l.i a.domain.now))) (sym (hint-type object x h.result small f legal h.ensures))
+    ∙ ap (hint_of (maybe_type h.result)) l.invariant.2 in
     let known = hint-word object x h.result small f legal h.ensures in
-    (omega arith, subst LegalMaybe (sym c.either.ensures) (either-legal h.result l.found known l.invariant.1), step ∙ hint-same h.result l.found (sym c.before.before.both-differ.ensures ∙ c.before.if1.false) ∙ ap (λ (m : MaybeType). list_of (maybeType m)) (sym c.either.ensures))
+    (omega arith, subst LegalMaybe (sym c.either.ensures) (either-legal h.result l.found known l.invariant.1), step ∙ hint-same h.result l.found (sym c.before.before.both-differ.ensures ∙ c.before.if1.false) ∙ ap (λ (m : MaybeType). list_of (maybe_type m)) (sym c.either.ensures))
 
 returns-2 : tie.Need-returns-2 invariant-loop decreases-loop
 returns-2 c =
     let s = c.before.before.before in
     let a = s.args in
     let l = c.before.loop in
-    (l.invariant.1, sym (one_single (maybeType l.found)) ∙ ap single (sym l.invariant.2) ∙ ap (λ (k : ℕ). single (hintsOf a.t.object (typesFrom k a.domain.now))) (let q : l.i ≡ 0 = omega arith in q))
+    (l.invariant.1, sym (one-single (maybe_type l.found)) ∙ ap single (sym l.invariant.2) ∙ ap (λ (k : ℕ). single (hints_of a.t.object (types_from k a.domain.now))) (let q : l.i ≡ 0 = omega arith in q))
 
 pub one-hint-spec : {M : Type 1} → statement M
 one-hint-spec =

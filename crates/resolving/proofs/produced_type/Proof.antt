@@ -2,8 +2,8 @@
 use borrow.Author.Rules.{rules}
 use mathlib.Core.Path.{ap, ◌∙◌}
 use mathlib.Core.List.{[]}
-use Rattle.ty.specs.Answers.{maybeWord}
-use Rattle.lattice.specs.World.{worldOf}
+use Rattle.ty.specs.Answers.{maybe_word}
+use Rattle.lattice.specs.World.{world_of}
 use Rattle.resolving.specs.Laws.{produced-lower, produced-exact}
 use Rattle.resolving.proofs.produced_type.Statement.{statement}
 use Rattle.resolving.proofs.produced_type.Tie as tie
@@ -15,7 +15,7 @@ returns : tie.Need-returns
 returns c =
     let s = c.before.before.before.before.before.before in
     let a = s.args in
-    c.join-all.ensures ∙ ap maybeWord (produced-lower (worldOf a.pairs.now a.marks.now a.t) a.exact.now a.lower.now [] [] [] c.before.if1.true)
+    c.join-all.ensures ∙ ap maybe_word (produced-lower (world_of a.pairs.now a.marks.now a.t) a.exact.now a.lower.now [] [] [] c.before.if1.true)
 
 join-all-requires-2 : tie.Need-join-all-requires-2
 join-all-requires-2 c κs = search rules
@@ -24,7 +24,7 @@ returns-2 : tie.Need-returns-2
 returns-2 c =
     let s = c.before.before.before.before.before.before in
     let a = s.args in
-    c.join-all2.ensures ∙ ap maybeWord (produced-exact (worldOf a.pairs.now a.marks.now a.t) a.exact.now a.lower.now [] [] [] c.before.if1.false)
+    c.join-all2.ensures ∙ ap maybe_word (produced-exact (world_of a.pairs.now a.marks.now a.t) a.exact.now a.lower.now [] [] [] c.before.if1.false)
 
 pub produced-type-spec : {M : Type 1} → statement M
 produced-type-spec = tie.close (tie.spec join-all-requires returns join-all-requires-2 returns-2)

@@ -6,15 +6,15 @@ use Prim.Native.Nat.{◌-◌, ◌≤◌}
 use native.Mathlib.Omega.{arith}
 use lib.ListN.{length, get_or}
 use Rattle.ty.specs.Words.{type_of}
-use Rattle.lattice.specs.World.{worldOf}
-use Rattle.candidates.specs.Steps.{typesFrom}
-use Rattle.solving.specs.Resolve.{producesAll}
-use Rattle.resolving.specs.Laws.{legal-word, all-later, all-not, all_end}
+use Rattle.lattice.specs.World.{world_of}
+use Rattle.candidates.specs.Steps.{types_from}
+use Rattle.solving.specs.Resolve.{produces_all}
+use Rattle.resolving.specs.Laws.{legal-word, all-later, all-not, all-end}
 use Rattle.resolving.proofs.produces_all.Statement.{statement}
 use Rattle.resolving.proofs.produces_all.Tie as tie
 
 abbrev invariant-loop : tie.invariant-loop
-invariant-loop pairs marks t ty upper i₀ i = (i ≤ length upper) × (producesAll (worldOf pairs marks t) (type_of ty.word) (map type_of upper) ≡ producesAll (worldOf pairs marks t) (type_of ty.word) (typesFrom i upper))
+invariant-loop pairs marks t ty upper i₀ i = (i ≤ length upper) × (produces_all (world_of pairs marks t) (type_of ty.word) (map type_of upper) ≡ produces_all (world_of pairs marks t) (type_of ty.word) (types_from i upper))
 
 abbrev decreases-loop : tie.decreases-loop
 decreases-loop pairs marks t ty upper i₀ i = length upper - i
@@ -45,21 +45,21 @@ loop-again c =
     let s = c.before.before.before.before.before.before.before.before in
     let a = s.args in
     let l = c.before.before.before.before.loop in
-    (omega arith, l.invariant.1 ∙ all-later (worldOf a.pairs.now a.marks.now a.t) a.upper.now l.i (type_of a.ty.word) (omega arith) (sym c.before.producer-bound-compatible.ensures ∙ c.if1.true))
+    (omega arith, l.invariant.1 ∙ all-later (world_of a.pairs.now a.marks.now a.t) a.upper.now l.i (type_of a.ty.word) (omega arith) (sym c.before.producer-bound-compatible.ensures ∙ c.if1.true))
 
 returns : tie.Need-returns invariant-loop decreases-loop
 returns c =
     let s = c.before.before.before.before.before.before.before.before in
     let a = s.args in
     let l = c.before.before.before.before.loop in
-    sym (l.invariant.1 ∙ all-not (worldOf a.pairs.now a.marks.now a.t) a.upper.now l.i (type_of a.ty.word) (omega arith) (sym c.before.producer-bound-compatible.ensures ∙ c.if1.false))
+    sym (l.invariant.1 ∙ all-not (world_of a.pairs.now a.marks.now a.t) a.upper.now l.i (type_of a.ty.word) (omega arith) (sym c.before.producer-bound-compatible.ensures ∙ c.if1.false))
 
 returns-2 : tie.Need-returns-2 invariant-loop decreases-loop
 returns-2 c =
     let s = c.before.before.before.before.before in
     let a = s.args in
     let l = c.before.loop in
-    sym (l.invariant.1 ∙ all_end (worldOf a.pairs.now a.marks.now a.t) a.upper.now l.i (type_of a.ty.word) (omega arith))
+    sym (l.invariant.1 ∙ all-end (world_of a.pairs.now a.marks.now a.t) a.upper.now l.i (type_of a.ty.word) (omega arith))
 
 pub produces-all-spec : {M : Type 1} → statement M
 produces-all-spec =

@@ -1,6 +1,6 @@
 -- `bound_frame` meets its contract.
 use borrow.Author.Rules.{rules}
-use Rattle.framestate.specs.FrameState.{boundNumbers}
+use Rattle.framestate.specs.FrameState.{bound_numbers}
 use Rattle.rowframes.specs.RowFrames.{row-frames, same-bound}
 use Rattle.rowframes.proofs.bound_frame.Statement.{statement}
 use Rattle.rowframes.proofs.bound_frame.Tie as tie
@@ -23,13 +23,13 @@ with-bounds-requires c κs = search rules
 finish-requires : tie.Need-finish-requires
 finish-requires c κs = search rules
 
-same_length : tie.Need-same-length
-same_length c = search rules
+same-length : tie.Need-same-length
+same-length c = search rules
 
 returns : tie.Need-returns
 returns c =
     let a = c.before.before.before.before.before.before.before.before.before.before.before.before.before.args in
-    row-frames _ _ _ _ a.n (boundNumbers a.n) _ _ _ (same-bound _ _ _ _ _ _ _ _ _ c.before.before.before.before.before.before.before.before.before.before.number_at.ensures.0 c.before.before.before.before.before.before.before.before.before.byte_at.ensures.0 c.before.before.before.before.before.before.before.before.word-at-3.ensures.0)
+    row-frames _ _ _ _ a.n (bound_numbers a.n) _ _ _ (same-bound _ _ _ _ _ _ _ _ _ c.before.before.before.before.before.before.before.before.before.before.number_at.ensures.0 c.before.before.before.before.before.before.before.before.before.byte_at.ensures.0 c.before.before.before.before.before.before.before.before.word-at-3.ensures.0)
     c.before.before.before.before.add-bound.ensures c.before.with-bounds.ensures c.finish.ensures
 
 pub bound-frame-spec : {M : Type 1} → statement M
@@ -42,5 +42,5 @@ bound-frame-spec =
     add-bound-requires
     with-bounds-requires
     finish-requires
-    same_length
+    same-length
     returns)

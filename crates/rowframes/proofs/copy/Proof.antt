@@ -7,7 +7,7 @@ use native.Mathlib.Omega.{arith}
 use native.Mathlib.Numerals.{add-one}
 use lib.ListN.{length, drop, get_or, drop_of_length-le}
 use lib.Seq.{drop-cons}
-use Rattle.hexline.specs.Laws.{Filling, fill_start, fill_step, fill_end}
+use Rattle.hexline.specs.Laws.{Filling, fill-start, fill-step, fill-end}
 use Rattle.rowframes.proofs.copy.Statement.{statement}
 use Rattle.rowframes.proofs.copy.Tie as tie
 
@@ -18,7 +18,7 @@ abbrev decreases-loop : tie.decreases-loop
 decreases-loop from to₀ k₀ to k = length from - k
 
 loop-holds : tie.Need-loop-init invariant-loop decreases-loop
-loop-holds c = let a = c.args in (omega arith, c.requires, fill_start a.from.now a.to.now)
+loop-holds c = let a = c.args in (omega arith, c.requires, fill-start a.from.now a.to.now)
 
 shared-slice-read-to : tie.Need-shared-slice-read-to invariant-loop decreases-loop
 shared-slice-read-to c = search rules
@@ -39,11 +39,11 @@ loop-again c =
     let e = drop-cons a.from.now l.k 0 (omega arith) ∙ ap (λ (m : ℕ). get_or a.from.now l.k 0 ∷ drop m a.from.now) (sym (add-one l.k)) in
     let f = subst (λ (m : List ℕ). Filling a.from.now m a.to.now l.to l.k) e l.invariant.2 in
     let s = l.invariant.2.same in
-    let g = fill_step a.from.now a.to.now l.to l.k (get_or a.from.now l.k 0) (drop (l.k + 1) a.from.now) (omega arith) f in
+    let g = fill-step a.from.now a.to.now l.to l.k (get_or a.from.now l.k 0) (drop (l.k + 1) a.from.now) (omega arith) f in
     (omega arith, l.invariant.1, g)
 
-same_length : tie.Need-same-length invariant-loop decreases-loop
-same_length c = c.before.loop.invariant.2.same
+same-length : tie.Need-same-length invariant-loop decreases-loop
+same-length c = c.before.loop.invariant.2.same
 
 returns : tie.Need-returns invariant-loop decreases-loop
 returns c =
@@ -51,10 +51,10 @@ returns c =
     let a = c.before.before.args in
     let s = l.invariant.2.same in
     let j = l.invariant.1 in
-    fill_end a.from.now a.to.now l.to l.k (omega arith) (subst (λ (m : List ℕ). Filling a.from.now m a.to.now l.to l.k) (drop_of_length-le a.from.now (let z : length a.from.now ≤ l.k = omega arith in z)) l.invariant.2)
+    fill-end a.from.now a.to.now l.to l.k (omega arith) (subst (λ (m : List ℕ). Filling a.from.now m a.to.now l.to l.k) (drop_of_length-le a.from.now (let z : length a.from.now ≤ l.k = omega arith in z)) l.invariant.2)
 
-pub copy_spec : {M : Type 1} → statement M
-copy_spec =
+pub copy-spec : {M : Type 1} → statement M
+copy-spec =
     tie.close
     (tie.spec
     invariant-loop
@@ -65,5 +65,5 @@ copy_spec =
     add-k
     loop-less
     loop-again
-    same_length
+    same-length
     returns)

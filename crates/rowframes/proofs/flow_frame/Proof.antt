@@ -1,6 +1,6 @@
 -- `flow_frame` meets its contract.
 use borrow.Author.Rules.{rules}
-use Rattle.framestate.specs.FrameState.{flowNumbers}
+use Rattle.framestate.specs.FrameState.{flow_numbers}
 use Rattle.rowframes.specs.RowFrames.{row-frames, same-pair}
 use Rattle.rowframes.proofs.flow_frame.Statement.{statement}
 use Rattle.rowframes.proofs.flow_frame.Tie as tie
@@ -20,13 +20,13 @@ with-flows-requires c κs = search rules
 finish-requires : tie.Need-finish-requires
 finish-requires c κs = search rules
 
-same_length : tie.Need-same-length
-same_length c = search rules
+same-length : tie.Need-same-length
+same-length c = search rules
 
 returns : tie.Need-returns
 returns c =
     let a = c.before.before.before.before.before.before.before.before.before.before.args in
-    row-frames _ _ _ _ a.n (flowNumbers a.n) _ _ _ (same-pair _ _ _ _ _ _ _ c.before.before.before.before.before.before.before.number_at.ensures.0 c.before.before.before.before.before.before.number-at2.ensures.0) c.before.before.before.before.add-pair.ensures c.before.with-flows.ensures c.finish.ensures
+    row-frames _ _ _ _ a.n (flow_numbers a.n) _ _ _ (same-pair _ _ _ _ _ _ _ c.before.before.before.before.before.before.before.number_at.ensures.0 c.before.before.before.before.before.before.number-at2.ensures.0) c.before.before.before.before.add-pair.ensures c.before.with-flows.ensures c.finish.ensures
 
 pub flow-frame-spec : {M : Type 1} → statement M
 flow-frame-spec =
@@ -37,5 +37,5 @@ flow-frame-spec =
     add-pair-requires
     with-flows-requires
     finish-requires
-    same_length
+    same-length
     returns)

@@ -4,7 +4,7 @@ use mathlib.Core.Path.{ap, ◌∙◌}
 use mathlib.Core.List.{List}
 use Prim.Native.Nat.{ℕ}
 use native.Mathlib.Omega.{arith}
-use Rattle.rows.specs.Rows.{nameRow}
+use Rattle.rows.specs.Rows.{name_row}
 use Rattle.rowframes.specs.RowFrames.{name-none, name-all, part-front}
 use Rattle.rowframes.proofs.name_frame.Statement.{statement}
 use Rattle.rowframes.proofs.name_frame.Tie as tie
@@ -24,13 +24,13 @@ add-name-requires c κs = search rules
 refuse-requires : tie.Need-refuse-requires
 refuse-requires c κs = search rules
 
-same_length : tie.Need-same-length
-same_length c = search rules
+same-length : tie.Need-same-length
+same-length c = search rules
 
 returns : tie.Need-returns
 returns c =
     let a = c.before.before.before.before.before.before.before.before.before.before.args in
-    name-none _ _ a.body.now a.last.now a.n (c.before.before.before.add-name.ensures ∙ ap (λ (l : List ℕ). nameRow l a.body.now a.n.stack.tables) (part-front a.n.last a.last.now)) _ c.refuse.ensures c.before.if1.true
+    name-none _ _ a.body.now a.last.now a.n (c.before.before.before.add-name.ensures ∙ ap (λ (l : List ℕ). name_row l a.body.now a.n.stack.tables) (part-front a.n.last a.last.now)) _ c.refuse.ensures c.before.if1.true
 
 copy-requires : tie.Need-copy-requires
 copy-requires c κs = search rules
@@ -47,7 +47,7 @@ same-length-2 c = search rules
 returns-2 : tie.Need-returns-2
 returns-2 c =
     let a = c.before.before.before.before.before.before.before.before.before.before.before.before.before.before.before.before.args in
-    name-all _ _ a.body.now a.last.now a.n (c.before.before.before.before.before.before.before.before.before.add-name.ensures ∙ ap (λ (l : List ℕ). nameRow l a.body.now a.n.stack.tables) (part-front a.n.last a.last.now)) _ _ _ c.accept.ensures c.before.named.ensures (omega arith) c.before.before.before.before.before.copy.ensures
+    name-all _ _ a.body.now a.last.now a.n (c.before.before.before.before.before.before.before.before.before.add-name.ensures ∙ ap (λ (l : List ℕ). name_row l a.body.now a.n.stack.tables) (part-front a.n.last a.last.now)) _ _ _ c.accept.ensures c.before.named.ensures (omega arith) c.before.before.before.before.before.copy.ensures
 
 pub name-frame-spec : {M : Type 1} → statement M
 name-frame-spec =
@@ -58,7 +58,7 @@ name-frame-spec =
     part-add-name-end
     add-name-requires
     refuse-requires
-    same_length
+    same-length
     returns
     copy-requires
     named-requires

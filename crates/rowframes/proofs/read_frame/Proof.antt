@@ -1,6 +1,6 @@
 -- `read_frame` meets its contract.
 use borrow.Author.Rules.{rules}
-use Rattle.framestate.specs.FrameState.{readNumbers}
+use Rattle.framestate.specs.FrameState.{read_numbers}
 use Rattle.rowframes.specs.RowFrames.{row-frames, same-pair}
 use Rattle.rowframes.proofs.read_frame.Statement.{statement}
 use Rattle.rowframes.proofs.read_frame.Tie as tie
@@ -23,13 +23,13 @@ with-reads-requires c κs = search rules
 finish-requires : tie.Need-finish-requires
 finish-requires c κs = search rules
 
-same_length : tie.Need-same-length
-same_length c = search rules
+same-length : tie.Need-same-length
+same-length c = search rules
 
 returns : tie.Need-returns
 returns c =
     let a = c.before.before.before.before.before.before.before.before.before.before.before.args in
-    row-frames _ _ _ _ a.n (readNumbers a.n) _ _ _ (same-pair _ _ _ _ _ _ _ c.before.before.before.before.before.before.before.before.number_at.ensures.0 c.before.before.before.before.before.before.before.number-at2.ensures.0) c.before.before.before.before.add-pair.ensures c.before.with-reads.ensures c.finish.ensures
+    row-frames _ _ _ _ a.n (read_numbers a.n) _ _ _ (same-pair _ _ _ _ _ _ _ c.before.before.before.before.before.before.before.before.number_at.ensures.0 c.before.before.before.before.before.before.before.number-at2.ensures.0) c.before.before.before.before.add-pair.ensures c.before.with-reads.ensures c.finish.ensures
 
 pub read-frame-spec : {M : Type 1} → statement M
 read-frame-spec =
@@ -41,5 +41,5 @@ read-frame-spec =
     add-pair-requires
     with-reads-requires
     finish-requires
-    same_length
+    same-length
     returns)

@@ -7,7 +7,7 @@ use native.Mathlib.Omega.{arith}
 use lib.ListN.{length, take, drop, length-drop}
 use lib.Seq.{take_all}
 use Rattle.rows.specs.Keys.{take-filled}
-use Rattle.hexline.specs.Hex.{numbersIn}
+use Rattle.hexline.specs.Hex.{numbers_in}
 use Rattle.hexline.specs.Laws.{numbers-length}
 use Rattle.rowframes.specs.RowFrames.{record-frames, same-record, part-front}
 use Rattle.rowframes.proofs.record_frame.Statement.{statement}
@@ -45,7 +45,7 @@ part-add-to-stack-end c =
     let b = c.before.before.before.before.before.before.before.before.before.before.before.args.body.now in
     let l = length-drop 3 b in
     let e = take_all (length b - 3) (drop 3 b) (omega arith) in
-    let q = c.before.before.before.before.before.put-numbers.ensures.0 ∙ ap (λ (x : List ℕ). length (numbersIn x)) e in
+    let q = c.before.before.before.before.before.put-numbers.ensures.0 ∙ ap (λ (x : List ℕ). length (numbers_in x)) e in
     let m = numbers-length (drop 3 b) (omega arith) in
     let k = c.before.before.before.before.before.put-numbers.auto.1.0 in
     omega arith
@@ -59,8 +59,8 @@ recorded-requires c κs = search rules
 finish-requires : tie.Need-finish-requires
 finish-requires c κs = search rules
 
-same_length : tie.Need-same-length
-same_length c = search rules
+same-length : tie.Need-same-length
+same-length c = search rules
 
 same-length-2 : tie.Need-same-length-2
 same-length-2 c = search rules
@@ -72,7 +72,7 @@ returns c =
     let e = take_all (length b - 3) (drop 3 b) (omega arith) in
     let p = c.before.before.before.before.before.before.before.before.before.before.before.before.before.before.before.before.put-numbers in
     record-frames _ _ _ _ _ c.before.before.before.before.before.before.before.before.before.before.before.before.before.before.before.before.before.before.before.before.before.before.args.n _ _ _
-    (same-record _ _ _ _ _ _ _ c.before.before.before.before.before.before.before.before.before.before.before.before.before.before.byte_at.ensures.0 c.before.before.before.before.before.before.before.before.before.before.before.before.before.number_at.ensures.0 (part-front p.result _ ∙ ap (take p.result) p.ensures.1 ∙ take-filled _ _ p.result p.ensures.0 ∙ ap numbersIn e))
+    (same-record _ _ _ _ _ _ _ c.before.before.before.before.before.before.before.before.before.before.before.before.before.before.byte_at.ensures.0 c.before.before.before.before.before.before.before.before.before.before.before.before.before.number_at.ensures.0 (part-front p.result _ ∙ ap (take p.result) p.ensures.1 ∙ take-filled _ _ p.result p.ensures.0 ∙ ap numbers_in e))
     c.before.before.before.before.before.before.before.add-to-stack.ensures c.before.recorded.ensures c.finish.ensures
 
 pub record-frame-spec : {M : Type 1} → statement M
@@ -92,6 +92,6 @@ record-frame-spec =
     add-to-stack-requires
     recorded-requires
     finish-requires
-    same_length
+    same-length
     same-length-2
     returns)

@@ -1,6 +1,6 @@
 -- `write_frame` meets its contract.
 use borrow.Author.Rules.{rules}
-use Rattle.framestate.specs.FrameState.{writeNumbers}
+use Rattle.framestate.specs.FrameState.{write_numbers}
 use Rattle.rowframes.specs.RowFrames.{row-frames, same-pair}
 use Rattle.rowframes.proofs.write_frame.Statement.{statement}
 use Rattle.rowframes.proofs.write_frame.Tie as tie
@@ -23,13 +23,13 @@ with-writes-requires c κs = search rules
 finish-requires : tie.Need-finish-requires
 finish-requires c κs = search rules
 
-same_length : tie.Need-same-length
-same_length c = search rules
+same-length : tie.Need-same-length
+same-length c = search rules
 
 returns : tie.Need-returns
 returns c =
     let a = c.before.before.before.before.before.before.before.before.before.before.before.args in
-    row-frames _ _ _ _ a.n (writeNumbers a.n) _ _ _ (same-pair _ _ _ _ _ _ _ c.before.before.before.before.before.before.before.before.number_at.ensures.0 c.before.before.before.before.before.before.before.number-at2.ensures.0) c.before.before.before.before.add-pair.ensures c.before.with-writes.ensures c.finish.ensures
+    row-frames _ _ _ _ a.n (write_numbers a.n) _ _ _ (same-pair _ _ _ _ _ _ _ c.before.before.before.before.before.before.before.before.number_at.ensures.0 c.before.before.before.before.before.before.before.number-at2.ensures.0) c.before.before.before.before.add-pair.ensures c.before.with-writes.ensures c.finish.ensures
 
 pub write-frame-spec : {M : Type 1} → statement M
 write-frame-spec =
@@ -41,5 +41,5 @@ write-frame-spec =
     add-pair-requires
     with-writes-requires
     finish-requires
-    same_length
+    same-length
     returns)

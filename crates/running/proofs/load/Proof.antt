@@ -46,8 +46,8 @@ loop-again c =
       ap (λ (r : List ℕ). set r l.i (get_or x.given.now l.i 0)) l.invariant.2 ∙ load-more x.given.now x.a.now l.i (omega arith) c.before.before.before.requires,
     )
 
-same_length : tie.Need-same-length invariant-loop decreases-loop
-same_length c = search rules
+same-length : tie.Need-same-length invariant-loop decreases-loop
+same-length c = search rules
 
 returns : tie.Need-returns invariant-loop decreases-loop
 returns c =
@@ -56,8 +56,8 @@ returns c =
     l.invariant.2 ∙ ap (λ (n : ℕ). take n x.given.now ++ drop n x.a.now) (let e : l.i ≡ length x.given.now = omega arith in e)
     ∙ ap (λ (m : List ℕ). m ++ drop (length x.given.now) x.a.now) (take-length x.given.now)
 
-pub load_spec : {M : Type 1} → statement M
-load_spec =
+pub load-spec : {M : Type 1} → statement M
+load-spec =
     tie.close
     (tie.spec
     invariant-loop
@@ -70,5 +70,5 @@ load_spec =
     add-i
     loop-less
     loop-again
-    same_length
+    same-length
     returns)

@@ -6,8 +6,8 @@ use Rattle.running.proofs.start.Tie as tie
 fill-requires : tie.Need-fill-requires
 fill-requires c κs = search rules
 
-same_length : tie.Need-same-length
-same_length c = search rules
+same-length : tie.Need-same-length
+same-length c = search rules
 
 returns : tie.Need-returns
 returns c =
@@ -15,5 +15,5 @@ returns c =
     let f = c.before.before.fill in
     (λ i. record { refusal = 0; count = x.count; queue = f.ensures.0 i }, f.ensures.1)
 
-pub start_spec : {M : Type 1} → statement M
-start_spec = tie.close (tie.spec fill-requires same_length returns)
+pub start-spec : {M : Type 1} → statement M
+start-spec = tie.close (tie.spec fill-requires same-length returns)

@@ -1,12 +1,12 @@
 -- `put_said` meets its contract: by what is said.
 use borrow.Author.Rules.{rules}
-use Rattle.lineout.specs.Laws.{puts_none, puts-as}
+use Rattle.lineout.specs.Laws.{puts-none, puts-as}
 use Rattle.saying.specs.Printing.{text-accepted, text-solved, text-related, text-supertyped, text-castable, text-refused}
 use Rattle.saying.proofs.put_said.Statement.{statement}
 use Rattle.saying.proofs.put_said.Tie as tie
 
-enum_told : tie.Need-enum-told
-enum_told c = search rules
+enum-told : tie.Need-enum-told
+enum-told c = search rules
 
 enum-told-2 : tie.Need-enum-told-2
 enum-told-2 c = search rules
@@ -39,10 +39,10 @@ put-refusal-requires : tie.Need-put-refusal-requires
 put-refusal-requires c κs = search rules
 
 returns : tie.Need-returns
-returns c = puts-as _ _ _ _ _ _ (text-accepted c.before.before.before.before.args.line c.before.before.before.before.args.said c.before.before.before.before.args.answers.now c.enum_told.given.1) (puts_none c.before.before.before.before.args.filled c.before.before.before.before.args.out.now)
+returns c = puts-as _ _ _ _ _ _ (text-accepted c.before.before.before.before.args.line c.before.before.before.before.args.said c.before.before.before.before.args.answers.now c.enum-told.given.1) (puts-none c.before.before.before.before.args.filled c.before.before.before.before.args.out.now)
 
-same_length : tie.Need-same-length
-same_length c = search rules
+same-length : tie.Need-same-length
+same-length c = search rules
 
 returns-2 : tie.Need-returns-2
 returns-2 c = puts-as _ _ _ _ _ _ (text-solved c.before.before.before.before.before.before.before.before.args.line c.before.before.before.before.before.before.before.before.args.said c.before.before.before.before.before.before.before.before.args.answers.now c.before.before.before.before.enum-told2.given.1) c.before.before.put-variables.ensures
@@ -75,7 +75,7 @@ pub put-said-spec : {M : Type 1} → statement M
 put-said-spec =
     tie.close
     (tie.spec
-    enum_told
+    enum-told
     enum-told-2
     put-variables-requires
     enum-known-said
@@ -87,7 +87,7 @@ put-said-spec =
     enum-known-said-4
     put-refusal-requires
     returns
-    same_length
+    same-length
     returns-2
     same-length-2
     returns-3

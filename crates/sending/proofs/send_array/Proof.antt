@@ -5,8 +5,8 @@ use mathlib.Core.Bool.{Bool, cond}
 use Rattle.ty.specs.Types.{Array}
 use Rattle.ty.specs.Words.{type_of}
 use Rattle.inserting.specs.declared.Sent.TheVariants.{Nothing}
-use Rattle.inserting.specs.Store.{sentOf}
-use Rattle.sending.specs.Sending.{LegalMaybe, sentArray}
+use Rattle.inserting.specs.Store.{sent_of}
+use Rattle.sending.specs.Sending.{LegalMaybe, sent_array}
 use Rattle.sending.proofs.send_array.Statement.{statement}
 use Rattle.sending.proofs.send_array.Tie as tie
 
@@ -19,16 +19,16 @@ is-concrete-requires c κs = search rules
 send-array-of-requires : tie.Need-send-array-of-requires
 send-array-of-requires c κs = subst LegalMaybe c.before.before.before.m.given.1 c.before.before.before.before.before.requires
 
-enum_told : tie.Need-enum-told
-enum_told c = search rules
+enum-told : tie.Need-enum-told
+enum-told c = search rules
 
 returns : tie.Need-returns
 returns c =
     c.send-array-of.ensures
-    ∙ sym (ap sentArray c.before.before.before.before.m.given.1 ∙ ap (λ (b : Bool). cond b (sentOf (Array (type_of c.before.before.before.before.m.given.0.0.word))) Nothing) (sym c.before.before.is-concrete.ensures ∙ c.before.if1.true))
+    ∙ sym (ap sent_array c.before.before.before.before.m.given.1 ∙ ap (λ (b : Bool). cond b (sent_of (Array (type_of c.before.before.before.before.m.given.0.0.word))) Nothing) (sym c.before.before.is-concrete.ensures ∙ c.before.if1.true))
 
 returns-2 : tie.Need-returns-2
-returns-2 c = sym (ap sentArray c.before.before.before.m.given.1 ∙ ap (λ (b : Bool). cond b (sentOf (Array (type_of c.before.before.before.m.given.0.0.word))) Nothing) (sym c.before.is-concrete.ensures ∙ c.if1.false))
+returns-2 c = sym (ap sent_array c.before.before.before.m.given.1 ∙ ap (λ (b : Bool). cond b (sent_of (Array (type_of c.before.before.before.m.given.0.0.word))) Nothing) (sym c.before.is-concrete.ensures ∙ c.if1.false))
 
 returns-3 : tie.Need-returns-3
 returns-3 c = search rules
@@ -40,7 +40,7 @@ send-array-spec =
     enum-known-m
     is-concrete-requires
     send-array-of-requires
-    enum_told
+    enum-told
     returns
     returns-2
     returns-3)

@@ -18,8 +18,8 @@ rank-of-requires c κs =
     let w = c.before.before.before.before.args.t.word in
     (array-of w (omega arith) c.before.before.before.before.requires c.before.a.given.0.0 (sym c.before.before.before.array.ensures ∙ c.before.a.given.1)).0
 
-enum_told : tie.Need-enum-told
-enum_told c = search rules
+enum-told : tie.Need-enum-told
+enum-told c = search rules
 
 returns : tie.Need-returns
 returns c =
@@ -29,8 +29,8 @@ returns c =
 returns-2 : tie.Need-returns-2
 returns-2 c =
     let w = c.before.before.before.args.t.word in
-    sym (array-none w (omega arith) c.before.before.before.requires (sym c.before.before.array.ensures ∙ c.enum_told.given.1))
+    sym (array-none w (omega arith) c.before.before.before.requires (sym c.before.before.array.ensures ∙ c.enum-told.given.1))
 
 pub send-array-of-spec : {M : Type 1} → statement M
 send-array-of-spec =
-    tie.close (tie.spec array-requires enum-known-a rank-of-requires enum_told returns returns-2)
+    tie.close (tie.spec array-requires enum-known-a rank-of-requires enum-told returns returns-2)

@@ -1,7 +1,7 @@
 -- `lengths_refusal` meets its contract: too short, even, uneven.
 use borrow.Author.Rules.{rules}
 use mathlib.Core.Path.{sym, ◌∙◌}
-use Rattle.solvechecks.specs.Steps.{lengths_short, lengths-even, lengths-uneven}
+use Rattle.solvechecks.specs.Steps.{lengths-short, lengths-even, lengths-uneven}
 use Rattle.solvechecks.proofs.lengths_refusal.Statement.{statement}
 use Rattle.solvechecks.proofs.lengths_refusal.Tie as tie
 
@@ -9,7 +9,7 @@ is-short-requires : tie.Need-is-short-requires
 is-short-requires c κs = search rules
 
 returns : tie.Need-returns
-returns c = lengths_short _ _ (sym c.before.is-short.ensures ∙ c.if1.true)
+returns c = lengths-short _ _ (sym c.before.is-short.ensures ∙ c.if1.true)
 
 is-even-problem-requires : tie.Need-is-even-problem-requires
 is-even-problem-requires c κs = search rules

@@ -16,8 +16,8 @@ returns c =
 refuse-requires : tie.Need-refuse-requires
 refuse-requires c κs = search rules
 
-same_length : tie.Need-same-length
-same_length c = search rules
+same-length : tie.Need-same-length
+same-length c = search rules
 
 returns-2 : tie.Need-returns-2
 returns-2 c =
@@ -26,4 +26,4 @@ returns-2 c =
     (f.0, f.1 ∙ work-cleared a.code a.work.now c.before.before.before.before.if1.false)
 
 pub refuse-lengths-spec : {M : Type 1} → statement M
-refuse-lengths-spec = tie.close (tie.spec refused-requires returns refuse-requires same_length returns-2)
+refuse-lengths-spec = tie.close (tie.spec refused-requires returns refuse-requires same-length returns-2)

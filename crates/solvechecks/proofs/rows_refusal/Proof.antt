@@ -1,5 +1,5 @@
 -- `rows_refusal` meets its contract: the rows' refusal, no Object, or none.
-use Rattle.solvechecks.specs.Steps.{rows-refused, rows-object, rows_none}
+use Rattle.solvechecks.specs.Steps.{rows-refused, rows-object, rows-none}
 use Rattle.solvechecks.proofs.rows_refusal.Statement.{statement}
 use Rattle.solvechecks.proofs.rows_refusal.Tie as tie
 
@@ -16,7 +16,7 @@ returns-2 c =
 returns-3 : tie.Need-returns-3
 returns-3 c =
     let a = c.before.before.args in
-    rows_none a.refusal a.object c.before.if1.false c.if2.false
+    rows-none a.refusal a.object c.before.if1.false c.if2.false
 
 pub rows-refusal-spec : {M : Type 1} → statement M
 rows-refusal-spec = tie.close (tie.spec returns returns-2 returns-3)

@@ -15,8 +15,8 @@ solve-over-requires c κs =
     let p = c.before.before.before.before.before.before.before.before.before.before.before.before.before.before.before.before.before.before.before.before.before.before.before.before.before.before.before.before.before.before.before.before.requires in
     (room-layers _ _ (search rules), search rules, p.0, p.1)
 
-same_length : tie.Need-same-length
-same_length c = search rules
+same-length : tie.Need-same-length
+same-length c = search rules
 
 same-length-2 : tie.Need-same-length-2
 same-length-2 c = search rules
@@ -40,7 +40,7 @@ solve-layers-spec =
     slice-aggregate-solve-over
     slice-aggregate-solve-over-2
     solve-over-requires
-    same_length
+    same-length
     same-length-2
     same-length-3
     same-length-4

@@ -2,7 +2,7 @@
 use borrow.Author.Rules.{rules}
 use Rattle.columns.specs.Given.{Given, given}
 use Rattle.problems.specs.Problems.{Columns}
-use Rattle.problemcolumns.specs.ProblemColumns.{columnsIn}
+use Rattle.problemcolumns.specs.ProblemColumns.{columns_in}
 use Rattle.questions.specs.Laws.{stands}
 use Rattle.solvedoor.specs.Laws.{refused-of, table-refused, table-solved}
 use Rattle.solvedoor.proofs.solve_over.Statement.{statement}
@@ -16,7 +16,7 @@ table s =
 abbrev columns : tie.Start → Columns
 columns s =
     let a = s.args in
-    columnsIn a.components a.var-comp.now a.bnd-comp.now a.bnd-kind.now a.bnd-type.now a.flow-src.now a.flow-dst.now a.up-src.now a.up-dst.now a.read-arr.now a.read-res.now a.write-arr.now a.write-val.now
+    columns_in a.components a.var-comp.now a.bnd-comp.now a.bnd-kind.now a.bnd-type.now a.flow-src.now a.flow-dst.now a.up-src.now a.up-dst.now a.read-arr.now a.read-res.now a.write-arr.now a.write-val.now
 
 build-table-requires : tie.Need-build-table-requires
 build-table-requires c κs =
@@ -26,8 +26,8 @@ build-table-requires c κs =
 refuse-requires : tie.Need-refuse-requires
 refuse-requires c κs = search rules
 
-same_length : tie.Need-same-length
-same_length c = search rules
+same-length : tie.Need-same-length
+same-length c = search rules
 
 same-length-2 : tie.Need-same-length-2
 same-length-2 c = search rules
@@ -84,7 +84,7 @@ solve-over-spec =
     (tie.spec
     build-table-requires
     refuse-requires
-    same_length
+    same-length
     same-length-2
     same-length-3
     returns

@@ -2,7 +2,7 @@
 use borrow.Author.Rules.{rules}
 use Rattle.columns.specs.Given.{Given, given}
 use Rattle.problems.specs.Problems.{Columns}
-use Rattle.problemcolumns.specs.ProblemColumns.{columnsIn}
+use Rattle.problemcolumns.specs.ProblemColumns.{columns_in}
 use Rattle.layercolumns.specs.Laws.{room-plain}
 use Rattle.solves.specs.SolveResult.{Lent, lent}
 use Rattle.solvedoor.specs.Laws.{roomy, door-long, lengths-refused, lengths-good, door-lengths}
@@ -17,7 +17,7 @@ table s =
 abbrev columns : tie.Start → Columns
 columns s =
     let a = s.args in
-    columnsIn a.components a.var-comp.now a.bnd-comp.now a.bnd-kind.now a.bnd-type.now a.flow-src.now a.flow-dst.now a.up-src.now a.up-dst.now a.read-arr.now a.read-res.now a.write-arr.now a.write-val.now
+    columns_in a.components a.var-comp.now a.bnd-comp.now a.bnd-kind.now a.bnd-type.now a.flow-src.now a.flow-dst.now a.up-src.now a.up-dst.now a.read-arr.now a.read-res.now a.write-arr.now a.write-val.now
 
 abbrev slices : tie.Start → Lent
 slices s =
@@ -30,8 +30,8 @@ lengths-refusal-requires c κs = search rules
 refuse-lengths-requires : tie.Need-refuse-lengths-requires
 refuse-lengths-requires c κs = search rules
 
-same_length : tie.Need-same-length
-same_length c = search rules
+same-length : tie.Need-same-length
+same-length c = search rules
 
 returns : tie.Need-returns
 returns c =
@@ -115,7 +115,7 @@ solve-slices-spec =
     (tie.spec
     lengths-refusal-requires
     refuse-lengths-requires
-    same_length
+    same-length
     returns
     first-open-requires
     solve-layers-requires

@@ -18,8 +18,8 @@ slice-aggregate-solve-problem-4 c = search rules
 solve-problem-requires : tie.Need-solve-problem-requires
 solve-problem-requires c κs = let s = c.before.before.before.before.before.before.before.before.before.before.before.before.before.before in (s.requires.0, s.requires.1, record { answers = s.requires.2; components = search rules; kinds = search rules; types = search rules; work = search rules })
 
-same_length : tie.Need-same-length
-same_length c = search rules
+same-length : tie.Need-same-length
+same-length c = search rules
 
 returns : tie.Need-returns
 returns c = search rules
@@ -33,5 +33,5 @@ solve-alone-spec =
     slice-aggregate-solve-problem-3
     slice-aggregate-solve-problem-4
     solve-problem-requires
-    same_length
+    same-length
     returns)

@@ -1,6 +1,6 @@
 -- `solve_rows` meets its contract: what it cuts out are the entries that count.
 use borrow.Author.Rules.{rules}
-use Rattle.solveframe.specs.Parts.{cut_keeps, cut-variables}
+use Rattle.solveframe.specs.Parts.{cut-keeps, cut-variables}
 use Rattle.solveframe.specs.Leaving.{alone-cut}
 use Rattle.solveframe.proofs.solve_rows.Statement.{statement}
 use Rattle.solveframe.proofs.solve_rows.Tie as tie
@@ -14,8 +14,8 @@ add-f c = search rules
 add-u : tie.Need-overflow-add-u
 add-u c = let h = c.before.before.before.before.before.before.before.before.before.requires.2.uppers in search rules
 
-add_r : tie.Need-overflow-add-r
-add_r c = let h = c.before.before.before.before.before.before.before.before.before.before.requires.2.reads in search rules
+add-r : tie.Need-overflow-add-r
+add-r c = let h = c.before.before.before.before.before.before.before.before.before.before.requires.2.reads in search rules
 
 add-w : tie.Need-overflow-add-w
 add-w c = let h = c.before.before.before.before.before.before.before.before.before.before.before.requires.2.writes in search rules
@@ -75,10 +75,10 @@ part-solve-alone-end-6 : tie.Need-slice-bounds-solve-alone-end-6
 part-solve-alone-end-6 c = let h = c.before.before.before.before.before.before.before.before.before.before.before.before.before.before.before.before.requires.2.writes in let e = c.before.before.before.before.before.before.before.before.before.before.before.before.before.before.before.before.requires.3 in search rules
 
 solve-alone-requires : tie.Need-solve-alone-requires
-solve-alone-requires c κs = let s = c.before.before.before.before.before.before.before.before.before.before.before.before.before.before.before.before.before.before in let e = cut-variables s.args.rows.now s.args.n s.requires.2 s.requires.3 in (s.requires.0, cut_keeps s.args.rows.now s.args.n s.requires.2 s.requires.1, search rules)
+solve-alone-requires c κs = let s = c.before.before.before.before.before.before.before.before.before.before.before.before.before.before.before.before.before.before in let e = cut-variables s.args.rows.now s.args.n s.requires.2 s.requires.3 in (s.requires.0, cut-keeps s.args.rows.now s.args.n s.requires.2 s.requires.1, search rules)
 
-same_length : tie.Need-same-length
-same_length c = search rules
+same-length : tie.Need-same-length
+same-length c = search rules
 
 returns : tie.Need-returns
 returns c = let s = c.before.before.before.before.before.before.before.before.before.before.before.before.before.before.before.before.before.before.before.before.before in alone-cut s.args.pairs.now s.args.marks.now s.args.rows.now s.args.n s.requires.2 s.args.answers.now _ _ c.before.before.solve-alone.ensures
@@ -90,7 +90,7 @@ solve-rows-spec =
     add-b
     add-f
     add-u
-    add_r
+    add-r
     add-w
     sub-solve-alone
     part-solve-alone-start
@@ -111,5 +111,5 @@ solve-rows-spec =
     part-solve-alone-start-6
     part-solve-alone-end-6
     solve-alone-requires
-    same_length
+    same-length
     returns)

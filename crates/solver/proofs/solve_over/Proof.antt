@@ -20,8 +20,8 @@ propagate-requires c κs =
 counts-of-requires : tie.Need-counts-of-requires
 counts-of-requires c κs = search rules
 
-same_length : tie.Need-same-length
-same_length c = search rules
+same-length : tie.Need-same-length
+same-length c = search rules
 
 same-length-2 : tie.Need-same-length-2
 same-length-2 c = search rules
@@ -50,7 +50,7 @@ solve-over-spec =
     load-requires
     propagate-requires
     counts-of-requires
-    same_length
+    same-length
     same-length-2
     same-length-3
     same-length-4

@@ -1,17 +1,17 @@
 -- `solve_rows` meets its contract: the refusal of the rows, the lack of Object, or the solve of what the arrays keep.
 use borrow.Author.Rules.{rules}
-use Rattle.lattice.specs.World.{worldOf}
+use Rattle.lattice.specs.World.{world_of}
 use Rattle.problems.specs.Problems.{Columns}
-use Rattle.problemcolumns.specs.ProblemColumns.{columnsIn}
+use Rattle.problemcolumns.specs.ProblemColumns.{columns_in}
 use Rattle.problemcolumns.specs.Laws.{taken-counts}
-use Rattle.solverows.specs.Laws.{refused-rows, refusal_is, object-there, parts-keep, parts_are, rows-solved}
+use Rattle.solverows.specs.Laws.{refused-rows, refusal-is, object-there, parts-keep, parts-are, rows-solved}
 use Rattle.solverows.proofs.solve_rows.Statement.{statement}
 use Rattle.solverows.proofs.solve_rows.Tie as tie
 
 abbrev columns : tie.Start → Columns
 columns s =
     let a = s.args in
-    columnsIn a.components a.var-comp.now a.bnd-comp.now a.bnd-kind.now a.bnd-type.now a.flow-src.now a.flow-dst.now a.up-src.now a.up-dst.now a.read-arr.now a.read-res.now a.write-arr.now a.write-val.now
+    columns_in a.components a.var-comp.now a.bnd-comp.now a.bnd-kind.now a.bnd-type.now a.flow-src.now a.flow-dst.now a.up-src.now a.up-dst.now a.read-arr.now a.read-res.now a.write-arr.now a.write-val.now
 
 slice-aggregate-build-problem : tie.Need-slice-aggregate-build-problem
 slice-aggregate-build-problem c = search rules
@@ -39,8 +39,8 @@ rows-refusal-requires c κs = search rules
 refuse-requires : tie.Need-refuse-requires
 refuse-requires c κs = search rules
 
-same_length : tie.Need-same-length
-same_length c = search rules
+same-length : tie.Need-same-length
+same-length c = search rules
 
 returns : tie.Need-returns
 returns c =
@@ -49,8 +49,8 @@ returns c =
     let b = c.before.before.before.before.before.before.before.before.before.before.before.build-problem in
     let k = c.before.before.before.before.before.rows-refusal in
     let f = c.before.before.refuse in
-    let e = refusal_is a.t.names (columns s) _ _ _ _ _ _ _ _ _ _ b.result b.ensures a.t.object k.result k.ensures in
-    refused-rows a.answers.now a.out-comp.now a.out-kind.now a.out-type.now a.work.now _ f.result k.result f.ensures.0 f.ensures.1 (worldOf a.pairs.now a.marks.now a.t) a.t (columns s) c.before.before.before.before.if1.true e
+    let e = refusal-is a.t.names (columns s) _ _ _ _ _ _ _ _ _ _ b.result b.ensures a.t.object k.result k.ensures in
+    refused-rows a.answers.now a.out-comp.now a.out-kind.now a.out-type.now a.work.now _ f.result k.result f.ensures.0 f.ensures.1 (world_of a.pairs.now a.marks.now a.t) a.t (columns s) c.before.before.before.before.if1.true e
 
 slice-aggregate-solve-kept : tie.Need-slice-aggregate-solve-kept
 slice-aggregate-solve-kept c = search rules
@@ -103,9 +103,9 @@ returns-2 c =
     let b = c.before.before.before.before.before.before.before.before.before.before.before.before.before.before.before.before.before.before.before.before.before.before.before.before.before.before.before.before.build-problem in
     let k = c.before.before.before.before.before.before.before.before.before.before.before.before.before.before.before.before.before.before.before.before.before.before.rows-refusal in
     let z = c.before.before.before.before.before.before.before.before.before.before.before.before.before.before.before.before.before.before.before.before.before.if1.false in
-    let e = refusal_is a.t.names (columns s) _ _ _ _ _ _ _ _ _ _ b.result b.ensures a.t.object k.result k.ensures in
-    let q = parts_are a.t.names (columns s) _ _ _ _ _ _ _ _ _ _ b.result b.ensures a.t.object k.result k.ensures z in
-    rows-solved (worldOf a.pairs.now a.marks.now a.t) a.t (columns s) _ k.result e z q _ _ _ c.before.before.before.before.before.before.before.before.before.before.solve-kept.ensures
+    let e = refusal-is a.t.names (columns s) _ _ _ _ _ _ _ _ _ _ b.result b.ensures a.t.object k.result k.ensures in
+    let q = parts-are a.t.names (columns s) _ _ _ _ _ _ _ _ _ _ b.result b.ensures a.t.object k.result k.ensures z in
+    rows-solved (world_of a.pairs.now a.marks.now a.t) a.t (columns s) _ k.result e z q _ _ _ c.before.before.before.before.before.before.before.before.before.before.solve-kept.ensures
 
 pub solve-rows-spec : {M : Type 1} → statement M
 solve-rows-spec =
@@ -119,7 +119,7 @@ solve-rows-spec =
     build-problem-requires
     rows-refusal-requires
     refuse-requires
-    same_length
+    same-length
     returns
     slice-aggregate-solve-kept
     slice-aggregate-solve-kept-2

@@ -1,7 +1,7 @@
 -- `run_linked` meets its contract: what is kept is what the run asks, and its run is the definition's.
 use borrow.Author.Rules.{rules}
 use native.Mathlib.Omega.{arith}
-use Rattle.solves.specs.Laws.{kept-links, links-within, links-front, kept-solvable, kept_run}
+use Rattle.solves.specs.Laws.{kept-links, links-within, links-front, kept-solvable, kept-run}
 use Rattle.solves.proofs.run_linked.Statement.{statement}
 use Rattle.solves.proofs.run_linked.Tie as tie
 
@@ -31,8 +31,8 @@ solve-requires c κs =
     let o = c.before.before.before.before.before.incoming-links in
     kept-solvable x.pairs.now x.marks.now x.t x.components x.variables.now x.bounds.now x.flows.now x.uppers.now x.reads.now x.writes.now p.0 p.1 _ (links-front x.pairs.now x.marks.now x.t x.components x.variables.now x.bounds.now x.flows.now x.uppers.now x.reads.now x.writes.now p.0 p.1 x.incoming.now o.new.1.1.0 o.result p.2 o.ensures.0 o.ensures.1) x.a.now p.3
 
-same_length : tie.Need-same-length
-same_length c = search rules
+same-length : tie.Need-same-length
+same-length c = search rules
 
 same-length-2 : tie.Need-same-length-2
 same-length-2 c = search rules
@@ -43,7 +43,7 @@ returns c =
     let p = c.before.before.before.before.before.before.before.before.before.before.before.before.before.before.before.before.before.before.before.before.requires in
     let o = c.before.before.before.before.before.before.before.before.incoming-links in
     let r = c.before.before.solve in
-    kept_run x.pairs.now x.marks.now x.t x.components x.variables.now x.bounds.now x.flows.now x.uppers.now x.reads.now x.writes.now p.0 p.1 _ (links-front x.pairs.now x.marks.now x.t x.components x.variables.now x.bounds.now x.flows.now x.uppers.now x.reads.now x.writes.now p.0 p.1 x.incoming.now o.new.1.1.0 o.result p.2 o.ensures.0 o.ensures.1) r.new.1.1.1.1.0 r.result r.ensures
+    kept-run x.pairs.now x.marks.now x.t x.components x.variables.now x.bounds.now x.flows.now x.uppers.now x.reads.now x.writes.now p.0 p.1 _ (links-front x.pairs.now x.marks.now x.t x.components x.variables.now x.bounds.now x.flows.now x.uppers.now x.reads.now x.writes.now p.0 p.1 x.incoming.now o.new.1.1.0 o.result p.2 o.ensures.0 o.ensures.1) r.new.1.1.1.1.0 r.result r.ensures
 
 pub run-linked-spec : {M : Type 1} → statement M
 run-linked-spec =
@@ -54,6 +54,6 @@ run-linked-spec =
     part-solve-start
     part-solve-end
     solve-requires
-    same_length
+    same-length
     same-length-2
     returns)

@@ -18,8 +18,8 @@ solve-prepared-requires c κs =
     let d = subst (λ (b : Bool). Decides (length a.pairs.now) a.t.pairs b) c.before.before.before.before.before.if1.true c.before.before.before.before.before.before.is-prepared.ensures in
     (p.0, d.0, d.1, p.1, p.2, p.3, p.4, p.5, p.6)
 
-same_length : tie.Need-same-length
-same_length c = search rules
+same-length : tie.Need-same-length
+same-length c = search rules
 
 same-length-2 : tie.Need-same-length-2
 same-length-2 c = search rules
@@ -68,7 +68,7 @@ solve-either-spec =
     (tie.spec
     is-prepared-requires
     solve-prepared-requires
-    same_length
+    same-length
     same-length-2
     same-length-3
     same-length-4

@@ -12,8 +12,8 @@ use Rattle.solves.proofs.solve_into.Tie as tie
 run-problem-requires : tie.Need-run-problem-requires
 run-problem-requires c κs = search rules
 
-same_length : tie.Need-same-length
-same_length c = search rules
+same-length : tie.Need-same-length
+same-length c = search rules
 
 returns : tie.Need-returns
 returns c =
@@ -82,7 +82,7 @@ solve-into-spec =
     tie.close
     (tie.spec
     run-problem-requires
-    same_length
+    same-length
     returns
     sub-write-solution
     part-write-solution-start

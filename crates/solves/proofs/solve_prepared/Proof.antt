@@ -1,7 +1,7 @@
 -- `solve_prepared` meets its contract: a prepared slice gives the same world.
 use borrow.Author.Rules.{rules}
-use Rattle.lattice.specs.World.{worldOf}
-use Rattle.problems.specs.Kept.{problemOf}
+use Rattle.lattice.specs.World.{world_of}
+use Rattle.problems.specs.Kept.{problem_of}
 use Rattle.solves.specs.Choice.{classed-laid, laid-world, leaves-along}
 use Rattle.solves.proofs.solve_prepared.Statement.{statement}
 use Rattle.solves.proofs.solve_prepared.Tie as tie
@@ -26,8 +26,8 @@ solve-into-requires c κs =
     let f = c.before.before.before.before.before.before.before.prepare in
     (classed-laid a.pairs.now a.marks.now a.t c.before.before.before.before.before.before.before.before.before.given-classes.result.words f.new.1.1.1.1.0 p.0 p.1 p.2 f.ensures, p.3, p.4, p.5, p.6, p.7, p.8)
 
-same_length : tie.Need-same-length
-same_length c = search rules
+same-length : tie.Need-same-length
+same-length c = search rules
 
 same-length-2 : tie.Need-same-length-2
 same-length-2 c = search rules
@@ -48,9 +48,9 @@ returns c =
     let p = s.requires in
     let f = c.before.before.before.before.before.before.before.before.before.before.before.before.before.before.before.before.before.before.prepare in
     let table = f.new.1.1.1.1.0 in
-    leaves-along (worldOf table a.marks.now a.t) (worldOf a.pairs.now a.marks.now a.t)
+    leaves-along (world_of table a.marks.now a.t) (world_of a.pairs.now a.marks.now a.t)
     (laid-world a.pairs.now a.marks.now a.t c.before.before.before.before.before.before.before.before.before.before.before.before.before.before.before.before.before.before.before.before.given-classes.result.words table p.0 p.1 p.2 f.ensures)
-    (problemOf a.components a.variables.now a.bounds.now a.flows.now a.uppers.now a.reads.now a.writes.now) c.before.before.before.before.before.before.before.before.before.before.solve-into.ensures
+    (problem_of a.components a.variables.now a.bounds.now a.flows.now a.uppers.now a.reads.now a.writes.now) c.before.before.before.before.before.before.before.before.before.before.solve-into.ensures
 
 pub solve-prepared-spec : {M : Type 1} → statement M
 solve-prepared-spec =
@@ -61,7 +61,7 @@ solve-prepared-spec =
     prepare-requires
     slice-aggregate-solve-into
     solve-into-requires
-    same_length
+    same-length
     same-length-2
     same-length-3
     same-length-4

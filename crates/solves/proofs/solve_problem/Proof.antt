@@ -21,8 +21,8 @@ solve-either-requires c κs = search rules
 clear-requires : tie.Need-clear-requires
 clear-requires c κs = search rules
 
-same_length : tie.Need-same-length
-same_length c = search rules
+same-length : tie.Need-same-length
+same-length c = search rules
 
 same-length-2 : tie.Need-same-length-2
 same-length-2 c = search rules
@@ -60,7 +60,7 @@ solve-problem-spec =
     part-solve-either-end
     solve-either-requires
     clear-requires
-    same_length
+    same-length
     same-length-2
     same-length-3
     same-length-4

@@ -4,8 +4,8 @@ use mathlib.Core.Path.{refl, sym, ◌∙◌}
 use native.Mathlib.Nat.{le_refl}
 use Rattle.framestate.specs.declared.Said.TheVariants.{Refused}
 use Rattle.framestate.specs.FrameState.{framed}
-use Rattle.solveframe.specs.Parts.{slicesOf}
-use Rattle.stepping.specs.Lines.{bytes-refused, bytes-headed, bytes_rest, bytes-passed}
+use Rattle.solveframe.specs.Parts.{slices_of}
+use Rattle.stepping.specs.Lines.{bytes-refused, bytes-headed, bytes-rest, bytes-passed}
 use Rattle.stepping.proofs.frame_bytes.Statement.{statement}
 use Rattle.stepping.proofs.frame_bytes.Tie as tie
 
@@ -25,7 +25,7 @@ refuse-requires : tie.Need-refuse-requires
 refuse-requires c κs = tt
 
 returns : tie.Need-returns
-returns c = let s = c.before.before.before.before.before.before.before.before.before.before in let a = s.args in bytes-refused a.bytes.now (slicesOf a.last.now a.pairs.now a.marks.now a.rows.now) (slicesOf a.last.now a.pairs.now a.marks.now a.rows.now) a.n s.requires.0.ready a.answers.now a.answers.now _ c.before.before.check-head.result c.before.before.check-head.ensures c.before.if1.true c.refuse.ensures
+returns c = let s = c.before.before.before.before.before.before.before.before.before.before in let a = s.args in bytes-refused a.bytes.now (slices_of a.last.now a.pairs.now a.marks.now a.rows.now) (slices_of a.last.now a.pairs.now a.marks.now a.rows.now) a.n s.requires.0.ready a.answers.now a.answers.now _ c.before.before.check-head.result c.before.before.check-head.ensures c.before.if1.true c.refuse.ensures
 
 sub-body : tie.Need-overflow-sub-body
 sub-body c = c.before.before.before.before.before.before.before.before.before.requires.3
@@ -40,10 +40,10 @@ is-class-kind-requires : tie.Need-is-class-kind-requires
 is-class-kind-requires c κs = tt
 
 class-message-requires : tie.Need-class-message-requires
-class-message-requires c κs = let s = c.before.before.before.before.before.before.before.before.before.before.before.before.before.before.before.before in let a = s.args in (s.requires.0, bytes-headed a.bytes.now (slicesOf a.last.now a.pairs.now a.marks.now a.rows.now) (slicesOf a.last.now a.pairs.now a.marks.now a.rows.now) a.n s.requires.0.ready a.answers.now a.answers.now (framed (Refused 0) a.n) c.before.before.before.before.before.before.before.before.check-head.result c.before.before.before.before.before.before.before.before.check-head.ensures c.before.before.before.before.before.before.before.if1.false, sym c.before.before.before.before.before.is-class-kind.ensures ∙ c.before.before.before.before.if2.true)
+class-message-requires c κs = let s = c.before.before.before.before.before.before.before.before.before.before.before.before.before.before.before.before in let a = s.args in (s.requires.0, bytes-headed a.bytes.now (slices_of a.last.now a.pairs.now a.marks.now a.rows.now) (slices_of a.last.now a.pairs.now a.marks.now a.rows.now) a.n s.requires.0.ready a.answers.now a.answers.now (framed (Refused 0) a.n) c.before.before.before.before.before.before.before.before.check-head.result c.before.before.before.before.before.before.before.before.check-head.ensures c.before.before.before.before.before.before.before.if1.false, sym c.before.before.before.before.before.is-class-kind.ensures ∙ c.before.before.before.before.if2.true)
 
-same_length : tie.Need-same-length
-same_length c = c.before.before.before.before.before.before.class-message.auto.1.1.0
+same-length : tie.Need-same-length
+same-length c = c.before.before.before.before.before.before.class-message.auto.1.1.0
 
 same-length-2 : tie.Need-same-length-2
 same-length-2 c = c.before.before.before.before.before.before.class-message.auto.1.1.1.0
@@ -55,10 +55,10 @@ same-length-4 : tie.Need-same-length-4
 same-length-4 c = refl
 
 returns-2 : tie.Need-returns-2
-returns-2 c = let s = c.before.before.before.before.before.before.before.before.before.before.before.before.before.before.before.before.before.before.before.before.before.before.before in let a = s.args in bytes-passed a.bytes.now (slicesOf a.last.now a.pairs.now a.marks.now a.rows.now) (slicesOf c.before.before.before.before.before.before.class-message.new.1.1.0 c.before.before.before.before.before.before.class-message.new.1.1.1.0 c.before.before.before.before.before.before.class-message.new.1.1.1.1.0 a.rows.now) a.n s.requires.0.ready a.answers.now a.answers.now c.before.before.before.before.before.before.class-message.result c.before.before.before.before.before.before.before.before.before.before.before.before.before.before.before.check-head.result c.before.before.before.before.before.before.before.before.before.before.before.before.before.before.before.check-head.ensures c.before.before.before.before.before.before.before.before.before.before.before.before.before.before.if1.false (c.before.before.before.before.before.before.class-message.ensures a.answers.now)
+returns-2 c = let s = c.before.before.before.before.before.before.before.before.before.before.before.before.before.before.before.before.before.before.before.before.before.before.before in let a = s.args in bytes-passed a.bytes.now (slices_of a.last.now a.pairs.now a.marks.now a.rows.now) (slices_of c.before.before.before.before.before.before.class-message.new.1.1.0 c.before.before.before.before.before.before.class-message.new.1.1.1.0 c.before.before.before.before.before.before.class-message.new.1.1.1.1.0 a.rows.now) a.n s.requires.0.ready a.answers.now a.answers.now c.before.before.before.before.before.before.class-message.result c.before.before.before.before.before.before.before.before.before.before.before.before.before.before.before.check-head.result c.before.before.before.before.before.before.before.before.before.before.before.before.before.before.before.check-head.ensures c.before.before.before.before.before.before.before.before.before.before.before.before.before.before.if1.false (c.before.before.before.before.before.before.class-message.ensures a.answers.now)
 
 later-message-requires : tie.Need-later-message-requires
-later-message-requires c κs = let s = c.before.before.before.before.before.before.before.before.before.before.before.before.before.before.before.before.before in let a = s.args in (s.requires.0, s.requires.1, bytes-headed a.bytes.now (slicesOf a.last.now a.pairs.now a.marks.now a.rows.now) (slicesOf a.last.now a.pairs.now a.marks.now a.rows.now) a.n s.requires.0.ready a.answers.now a.answers.now (framed (Refused 0) a.n) c.before.before.before.before.before.before.before.before.before.check-head.result c.before.before.before.before.before.before.before.before.before.check-head.ensures c.before.before.before.before.before.before.before.before.if1.false, bytes_rest a.bytes.now (slicesOf a.last.now a.pairs.now a.marks.now a.rows.now) (slicesOf a.last.now a.pairs.now a.marks.now a.rows.now) a.n s.requires.0.ready a.answers.now a.answers.now (framed (Refused 0) a.n) c.before.before.before.before.before.before.before.before.before.check-head.result c.before.before.before.before.before.before.before.before.before.check-head.ensures s.requires.2, sym c.before.before.before.before.before.before.is-class-kind.ensures ∙ c.before.before.before.before.before.if2.false)
+later-message-requires c κs = let s = c.before.before.before.before.before.before.before.before.before.before.before.before.before.before.before.before.before in let a = s.args in (s.requires.0, s.requires.1, bytes-headed a.bytes.now (slices_of a.last.now a.pairs.now a.marks.now a.rows.now) (slices_of a.last.now a.pairs.now a.marks.now a.rows.now) a.n s.requires.0.ready a.answers.now a.answers.now (framed (Refused 0) a.n) c.before.before.before.before.before.before.before.before.before.check-head.result c.before.before.before.before.before.before.before.before.before.check-head.ensures c.before.before.before.before.before.before.before.before.if1.false, bytes-rest a.bytes.now (slices_of a.last.now a.pairs.now a.marks.now a.rows.now) (slices_of a.last.now a.pairs.now a.marks.now a.rows.now) a.n s.requires.0.ready a.answers.now a.answers.now (framed (Refused 0) a.n) c.before.before.before.before.before.before.before.before.before.check-head.result c.before.before.before.before.before.before.before.before.before.check-head.ensures s.requires.2, sym c.before.before.before.before.before.before.is-class-kind.ensures ∙ c.before.before.before.before.before.if2.false)
 
 same-length-5 : tie.Need-same-length-5
 same-length-5 c = refl
@@ -76,7 +76,7 @@ same-length-9 : tie.Need-same-length-9
 same-length-9 c = c.before.before.before.before.later-message.auto.1.1.1.1.1.1.0
 
 returns-3 : tie.Need-returns-3
-returns-3 c = let s = c.before.before.before.before.before.before.before.before.before.before.before.before.before.before.before.before.before.before.before.before.before.before in let a = s.args in bytes-passed a.bytes.now (slicesOf a.last.now a.pairs.now a.marks.now a.rows.now) (slicesOf a.last.now a.pairs.now a.marks.now c.before.before.before.before.later-message.new.1.1.1.1.1.0) a.n s.requires.0.ready a.answers.now c.before.before.before.before.later-message.new.1.1.1.1.1.1.0 c.before.before.before.before.later-message.result c.before.before.before.before.before.before.before.before.before.before.before.before.before.before.check-head.result c.before.before.before.before.before.before.before.before.before.before.before.before.before.before.check-head.ensures c.before.before.before.before.before.before.before.before.before.before.before.before.before.if1.false c.before.before.before.before.later-message.ensures
+returns-3 c = let s = c.before.before.before.before.before.before.before.before.before.before.before.before.before.before.before.before.before.before.before.before.before.before in let a = s.args in bytes-passed a.bytes.now (slices_of a.last.now a.pairs.now a.marks.now a.rows.now) (slices_of a.last.now a.pairs.now a.marks.now c.before.before.before.before.later-message.new.1.1.1.1.1.0) a.n s.requires.0.ready a.answers.now c.before.before.before.before.later-message.new.1.1.1.1.1.1.0 c.before.before.before.before.later-message.result c.before.before.before.before.before.before.before.before.before.before.before.before.before.before.check-head.result c.before.before.before.before.before.before.before.before.before.before.before.before.before.before.check-head.ensures c.before.before.before.before.before.before.before.before.before.before.before.before.before.if1.false c.before.before.before.before.later-message.ensures
 
 pub frame-bytes-spec : {M : Type 1} → statement M
 frame-bytes-spec =
@@ -93,7 +93,7 @@ frame-bytes-spec =
     part-body-end
     is-class-kind-requires
     class-message-requires
-    same_length
+    same-length
     same-length-2
     same-length-3
     same-length-4

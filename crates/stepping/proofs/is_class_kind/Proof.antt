@@ -1,10 +1,10 @@
 -- `is_class_kind` meets its contract.
-use Rattle.stepping.specs.Needs.{class_low, class-high}
+use Rattle.stepping.specs.Needs.{class-low, class-high}
 use Rattle.stepping.proofs.is_class_kind.Statement.{statement}
 use Rattle.stepping.proofs.is_class_kind.Tie as tie
 
 returns : tie.Need-returns
-returns c = class_low c.before.args.kind c.if1.true
+returns c = class-low c.before.args.kind c.if1.true
 
 returns-2 : tie.Need-returns-2
 returns-2 c = class-high c.before.args.kind c.if1.false

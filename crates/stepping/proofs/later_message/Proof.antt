@@ -1,16 +1,16 @@
 -- `later_message` meets its contract: by the frame of each kind.
 use mathlib.Core.Path.{refl}
 use Rattle.solveframe.specs.Leaving.{solve-ready}
-use Rattle.stepping.specs.Needs.{past-10, is_later}
+use Rattle.stepping.specs.Needs.{past-10, is-later}
 use Rattle.stepping.specs.Kinds.{solve-step}
 use Rattle.stepping.proofs.later_message.Statement.{statement}
 use Rattle.stepping.proofs.later_message.Tie as tie
 
 value-message-requires : tie.Need-value-message-requires
-value-message-requires c κs = (c.before.before.before.before.before.before.before.before.requires.0, c.before.before.before.before.before.before.before.before.requires.2, c.before.before.before.before.before.before.before.before.requires.3, (is_later c.before.before.before.before.before.before.before.before.args.kind c.before.before.before.before.before.before.before.before.requires.4).0, c.before.if1.true)
+value-message-requires c κs = (c.before.before.before.before.before.before.before.before.requires.0, c.before.before.before.before.before.before.before.before.requires.2, c.before.before.before.before.before.before.before.before.requires.3, (is-later c.before.before.before.before.before.before.before.before.args.kind c.before.before.before.before.before.before.before.before.requires.4).0, c.before.if1.true)
 
-same_length : tie.Need-same-length
-same_length c = c.before.before.value-message.auto.1.1.1.1.1.0
+same-length : tie.Need-same-length
+same-length c = c.before.before.value-message.auto.1.1.1.1.1.0
 
 returns : tie.Need-returns
 returns c = c.before.before.value-message.ensures c.before.before.before.before.before.before.before.before.before.before.before.args.answers.now
@@ -50,7 +50,7 @@ later-message-spec =
     tie.close
     (tie.spec
     value-message-requires
-    same_length
+    same-length
     returns
     link-message-requires
     same-length-2

@@ -2,7 +2,7 @@
 use borrow.Rule.Slice.PartMut.{same_len_mid}
 use mathlib.Core.Path.{refl}
 use Rattle.stepping.specs.Needs.{below, inside, is-9, flow-needs, upper-needs, read-needs, write-needs}
-use Rattle.stepping.specs.Kinds.{flow-step, upper-step, read_step, write_step}
+use Rattle.stepping.specs.Kinds.{flow-step, upper-step, read-step, write-step}
 use Rattle.stepping.proofs.link_message.Statement.{statement}
 use Rattle.stepping.proofs.link_message.Tie as tie
 
@@ -18,8 +18,8 @@ part-flow-frame-end c = inside _ c.before.before.before.before.before.before.arg
 flow-frame-requires : tie.Need-flow-frame-requires
 flow-frame-requires c κs = flow-needs c.before.before.before.before.before.before.before.args.kind c.before.before.before.before.before.before.before.args.body.now c.before.before.before.before.before.before.before.args.last.now c.before.before.before.before.before.before.before.args.pairs.now c.before.before.before.before.before.before.before.args.marks.now c.before.before.before.before.before.before.before.args.rows.now c.before.before.before.before.before.before.before.args.n c.before.before.before.before.before.before.before.requires.0 c.before.before.before.before.before.before.before.requires.1 c.before.if1.true
 
-same_length : tie.Need-same-length
-same_length c = same_len_mid 6144 2048 c.before.before.before.before.before.before.before.before.before.before.args.rows.now c.before.before.flow-frame.new.1.0 c.before.before.flow-frame.auto.1.0
+same-length : tie.Need-same-length
+same-length c = same_len_mid 6144 2048 c.before.before.before.before.before.before.before.before.before.before.args.rows.now c.before.before.flow-frame.new.1.0 c.before.before.flow-frame.auto.1.0
 
 returns : tie.Need-returns
 returns c = flow-step c.before.before.before.before.before.before.before.before.before.before.args.kind c.before.before.before.before.before.before.before.before.before.before.args.body.now c.before.before.before.before.before.before.before.before.before.before.args.last.now c.before.before.before.before.before.before.before.before.before.before.args.pairs.now c.before.before.before.before.before.before.before.before.before.before.args.marks.now c.before.before.before.before.before.before.before.before.before.before.args.rows.now c.before.before.before.before.before.before.before.before.before.before.args.n c.before.before.before.before.before.before.before.before.before.before.requires.0 _ _ c.before.before.before.before.if1.true c.before.before.flow-frame.ensures c.before.before.flow-frame.auto.1.0
@@ -58,7 +58,7 @@ same-length-3 : tie.Need-same-length-3
 same-length-3 c = same_len_mid 9216 1024 c.before.before.before.before.before.before.before.before.before.before.before.before.args.rows.now c.before.before.read-frame.new.1.0 c.before.before.read-frame.auto.1.0
 
 returns-3 : tie.Need-returns-3
-returns-3 c = read_step c.before.before.before.before.before.before.before.before.before.before.before.before.args.kind c.before.before.before.before.before.before.before.before.before.before.before.before.args.body.now c.before.before.before.before.before.before.before.before.before.before.before.before.args.last.now c.before.before.before.before.before.before.before.before.before.before.before.before.args.pairs.now c.before.before.before.before.before.before.before.before.before.before.before.before.args.marks.now c.before.before.before.before.before.before.before.before.before.before.before.before.args.rows.now c.before.before.before.before.before.before.before.before.before.before.before.before.args.n c.before.before.before.before.before.before.before.before.before.before.before.before.requires.0 _ _ c.before.before.before.before.if3.true c.before.before.read-frame.ensures c.before.before.read-frame.auto.1.0
+returns-3 c = read-step c.before.before.before.before.before.before.before.before.before.before.before.before.args.kind c.before.before.before.before.before.before.before.before.before.before.before.before.args.body.now c.before.before.before.before.before.before.before.before.before.before.before.before.args.last.now c.before.before.before.before.before.before.before.before.before.before.before.before.args.pairs.now c.before.before.before.before.before.before.before.before.before.before.before.before.args.marks.now c.before.before.before.before.before.before.before.before.before.before.before.before.args.rows.now c.before.before.before.before.before.before.before.before.before.before.before.before.args.n c.before.before.before.before.before.before.before.before.before.before.before.before.requires.0 _ _ c.before.before.before.before.if3.true c.before.before.read-frame.ensures c.before.before.read-frame.auto.1.0
 
 sub-write-frame : tie.Need-overflow-sub-write-frame
 sub-write-frame c = below refl
@@ -76,7 +76,7 @@ same-length-4 : tie.Need-same-length-4
 same-length-4 c = same_len_mid 10240 1024 c.before.before.before.before.before.before.before.before.before.before.before.before.args.rows.now c.before.before.write-frame.new.1.0 c.before.before.write-frame.auto.1.0
 
 returns-4 : tie.Need-returns-4
-returns-4 c = write_step c.before.before.before.before.before.before.before.before.before.before.before.before.args.kind c.before.before.before.before.before.before.before.before.before.before.before.before.args.body.now c.before.before.before.before.before.before.before.before.before.before.before.before.args.last.now c.before.before.before.before.before.before.before.before.before.before.before.before.args.pairs.now c.before.before.before.before.before.before.before.before.before.before.before.before.args.marks.now c.before.before.before.before.before.before.before.before.before.before.before.before.args.rows.now c.before.before.before.before.before.before.before.before.before.before.before.before.args.n c.before.before.before.before.before.before.before.before.before.before.before.before.requires.0 _ _ (is-9 c.before.before.before.before.before.before.before.before.before.before.before.before.args.kind c.before.before.before.before.before.before.before.before.before.before.before.before.requires.2 c.before.before.before.before.before.before.before.before.before.before.before.before.requires.3 c.before.before.before.before.before.before.if1.false c.before.before.before.before.before.if2.false c.before.before.before.before.if3.false) c.before.before.write-frame.ensures c.before.before.write-frame.auto.1.0
+returns-4 c = write-step c.before.before.before.before.before.before.before.before.before.before.before.before.args.kind c.before.before.before.before.before.before.before.before.before.before.before.before.args.body.now c.before.before.before.before.before.before.before.before.before.before.before.before.args.last.now c.before.before.before.before.before.before.before.before.before.before.before.before.args.pairs.now c.before.before.before.before.before.before.before.before.before.before.before.before.args.marks.now c.before.before.before.before.before.before.before.before.before.before.before.before.args.rows.now c.before.before.before.before.before.before.before.before.before.before.before.before.args.n c.before.before.before.before.before.before.before.before.before.before.before.before.requires.0 _ _ (is-9 c.before.before.before.before.before.before.before.before.before.before.before.before.args.kind c.before.before.before.before.before.before.before.before.before.before.before.before.requires.2 c.before.before.before.before.before.before.before.before.before.before.before.before.requires.3 c.before.before.before.before.before.before.if1.false c.before.before.before.before.before.if2.false c.before.before.before.before.if3.false) c.before.before.write-frame.ensures c.before.before.write-frame.auto.1.0
 
 pub link-message-spec : {M : Type 1} → statement M
 link-message-spec =
@@ -86,7 +86,7 @@ link-message-spec =
     part-flow-frame-start
     part-flow-frame-end
     flow-frame-requires
-    same_length
+    same-length
     returns
     sub-upper-frame
     part-upper-frame-start

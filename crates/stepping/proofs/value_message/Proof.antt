@@ -24,8 +24,8 @@ part-variable-frame-end c = inside _ c.before.before.before.before.before.before
 variable-frame-requires : tie.Need-variable-frame-requires
 variable-frame-requires c κs = variable-needs c.before.before.before.before.before.before.before.before.args.kind c.before.before.before.before.before.before.before.before.args.body.now c.before.before.before.before.before.before.before.before.args.last.now c.before.before.before.before.before.before.before.before.args.pairs.now c.before.before.before.before.before.before.before.before.args.marks.now c.before.before.before.before.before.before.before.before.args.rows.now c.before.before.before.before.before.before.before.before.args.n c.before.before.before.before.before.before.before.before.requires.0 c.before.before.before.before.before.before.before.before.requires.1 c.before.if2.true
 
-same_length : tie.Need-same-length
-same_length c = same_len_mid 0 2048 c.before.before.before.before.before.before.before.before.before.before.before.args.rows.now c.before.before.variable-frame.new.1.0 c.before.before.variable-frame.auto.1.0
+same-length : tie.Need-same-length
+same-length c = same_len_mid 0 2048 c.before.before.before.before.before.before.before.before.before.before.before.args.rows.now c.before.before.variable-frame.new.1.0 c.before.before.variable-frame.auto.1.0
 
 returns-2 : tie.Need-returns-2
 returns-2 c = variable-step c.before.before.before.before.before.before.before.before.before.before.before.args.kind c.before.before.before.before.before.before.before.before.before.before.before.args.body.now c.before.before.before.before.before.before.before.before.before.before.before.args.last.now c.before.before.before.before.before.before.before.before.before.before.before.args.pairs.now c.before.before.before.before.before.before.before.before.before.before.before.args.marks.now c.before.before.before.before.before.before.before.before.before.before.before.args.rows.now c.before.before.before.before.before.before.before.before.before.before.before.args.n c.before.before.before.before.before.before.before.before.before.before.before.requires.0 _ _ c.before.before.before.before.if2.true c.before.before.variable-frame.ensures c.before.before.variable-frame.auto.1.0
@@ -58,7 +58,7 @@ value-message-spec =
     part-variable-frame-start
     part-variable-frame-end
     variable-frame-requires
-    same_length
+    same-length
     returns-2
     sub-bound-frame
     part-bound-frame-start

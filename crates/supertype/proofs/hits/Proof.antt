@@ -5,7 +5,7 @@ use mathlib.Core.Bool.{Bool}
 use mathlib.Core.List.{List}
 use Prim.Native.Nat.{ℕ}
 use Rattle.sets.specs.Sets.{intersect}
-use Rattle.supertype.specs.Near.{ofTwo}
+use Rattle.supertype.specs.Near.{of_two}
 use Rattle.supertype.proofs.hits.Statement.{statement}
 use Rattle.supertype.proofs.hits.Tie as tie
 
@@ -19,7 +19,7 @@ returns : tie.Need-returns
 returns c =
     let a = c.before.before.before.args in
     c.intersection2.ensures
-    ∙ ap (λ (w : List ℕ). intersect w a.s.words) (c.before.intersection.ensures ∙ ap (λ (b : Bool). ofTwo b a.left.words a.right.words) (sym c.before.before.if1.true))
+    ∙ ap (λ (w : List ℕ). intersect w a.s.words) (c.before.intersection.ensures ∙ ap (λ (b : Bool). of_two b a.left.words a.right.words) (sym c.before.before.if1.true))
 
 union-requires : tie.Need-union-requires
 union-requires c κs = search rules
@@ -31,7 +31,7 @@ returns-2 : tie.Need-returns-2
 returns-2 c =
     let a = c.before.before.before.args in
     c.intersection3.ensures
-    ∙ ap (λ (w : List ℕ). intersect w a.s.words) (c.before.union.ensures ∙ ap (λ (b : Bool). ofTwo b a.left.words a.right.words) (sym c.before.before.if1.false))
+    ∙ ap (λ (w : List ℕ). intersect w a.s.words) (c.before.union.ensures ∙ ap (λ (b : Bool). of_two b a.left.words a.right.words) (sym c.before.before.if1.false))
 
 pub hits-spec : {M : Type 1} → statement M
 hits-spec =

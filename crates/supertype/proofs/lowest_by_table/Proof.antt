@@ -2,7 +2,7 @@
 use borrow.Author.Rules.{rules}
 use mathlib.Core.Path.{refl}
 use Rattle.tables.specs.Table.{view_of, view-good}
-use Rattle.supertype.specs.Stripped.{above-inside, above-closed, above_rows}
+use Rattle.supertype.specs.Stripped.{above-inside, above-closed, above-rows}
 use Rattle.supertype.proofs.lowest_by_table.Statement.{statement}
 use Rattle.supertype.proofs.lowest_by_table.Tie as tie
 
@@ -33,7 +33,7 @@ lowest-by-rows-requires c κs =
     let p = c.before.before.before.before.before.before.before.requires in
     let w = c.before.before.before.before.spread in
     let f = c.before.before.fill in
-    (p.0, p.1, p.2, p.3, f.ensures.size, above_rows (view_of a.pairs.now a.marks.now a.t) (view-good a.pairs.now a.marks.now a.t p.0 p.1) a.all.words w.result.words p.3 w.ensures f.new.1.1.1.1.0 f.ensures)
+    (p.0, p.1, p.2, p.3, f.ensures.size, above-rows (view_of a.pairs.now a.marks.now a.t) (view-good a.pairs.now a.marks.now a.t p.0 p.1) a.all.words w.result.words p.3 w.ensures f.new.1.1.1.1.0 f.ensures)
 
 returns : tie.Need-returns
 returns c = search rules

@@ -4,7 +4,7 @@ use mathlib.Core.Path.{sym, ap, ◌∙◌}
 use mathlib.Core.List.{List}
 use Rattle.sets.specs.Sets.{at, members}
 use Rattle.tables.specs.Table.{view_of, view-good}
-use Rattle.view.specs.View.{withParents}
+use Rattle.view.specs.View.{with_parents}
 use Rattle.supertype.specs.Sources.{sources-inside, rest-fits, lows-sources, lows-joined}
 use Rattle.supertype.proofs.lowest_many.Statement.{statement}
 use Rattle.supertype.proofs.lowest_many.Tie as tie
@@ -26,7 +26,7 @@ spread-requires c κs =
       p.0,
       p.1,
       sources-inside v a.all.words a.others.words c.before.expand.result.words c.difference.result.words p.3 p.4
-          (c.before.expand.ensures ∙ ap (λ (s : List _). withParents v s (members (at a.all.words) 0 1024)) c.before.before.empty.ensures)
+          (c.before.expand.ensures ∙ ap (λ (s : List _). with_parents v s (members (at a.all.words) 0 1024)) c.before.before.empty.ensures)
           c.difference.ensures,
     )
 
@@ -43,7 +43,7 @@ returns c =
     let v = view_of a.pairs.now a.marks.now a.t in
     lows-sources v (view-good a.pairs.now a.marks.now a.t p.0 p.1) a.all.words a.others.words c.before.before.before.before.before.expand.result.words c.before.before.before.before.difference.result.words c.before.before.before.spread.result.words c.before.before.difference2.result.words
     p.2 p.3 p.4 p.5
-    (c.before.before.before.before.before.expand.ensures ∙ ap (λ (s : List _). withParents v s (members (at a.all.words) 0 1024)) c.before.before.before.before.before.before.empty.ensures)
+    (c.before.before.before.before.before.expand.ensures ∙ ap (λ (s : List _). with_parents v s (members (at a.all.words) 0 1024)) c.before.before.before.before.before.before.empty.ensures)
     c.before.before.before.before.difference.ensures c.before.before.before.spread.ensures c.before.before.difference2.ensures
     (sym c.before.lowest.ensures ∙ c.if1.true)
 
@@ -55,7 +55,7 @@ lowest-left-requires c κs =
     let f =
     rest-fits v (view-good a.pairs.now a.marks.now a.t p.0 p.1) a.all.words a.others.words c.before.before.before.before.before.expand.result.words c.before.before.before.before.difference.result.words c.before.before.before.spread.result.words c.before.before.difference2.result.words
     p.2 p.3 p.4 p.5
-    (c.before.before.before.before.before.expand.ensures ∙ ap (λ (s : List _). withParents v s (members (at a.all.words) 0 1024)) c.before.before.before.before.before.before.empty.ensures)
+    (c.before.before.before.before.before.expand.ensures ∙ ap (λ (s : List _). with_parents v s (members (at a.all.words) 0 1024)) c.before.before.before.before.before.before.empty.ensures)
     c.before.before.before.before.difference.ensures c.before.before.before.spread.ensures c.before.before.difference2.ensures in
     (p.0, p.1, f.0, f.1, p.6)
 
@@ -69,7 +69,7 @@ returns-2 c =
     let v = view_of a.pairs.now a.marks.now a.t in
     lows-joined v (view-good a.pairs.now a.marks.now a.t p.0 p.1) a.all.words a.others.words c.before.before.before.before.before.before.before.expand.result.words c.before.before.before.before.before.before.difference.result.words c.before.before.before.before.before.spread.result.words c.before.before.before.before.difference2.result.words
     p.2 p.3 p.4 p.5
-    (c.before.before.before.before.before.before.before.expand.ensures ∙ ap (λ (s : List _). withParents v s (members (at a.all.words) 0 1024)) c.before.before.before.before.before.before.before.before.empty.ensures)
+    (c.before.before.before.before.before.before.before.expand.ensures ∙ ap (λ (s : List _). with_parents v s (members (at a.all.words) 0 1024)) c.before.before.before.before.before.before.before.before.empty.ensures)
     c.before.before.before.before.before.before.difference.ensures c.before.before.before.before.before.spread.ensures c.before.before.before.before.difference2.ensures
     c.before.lowest-left.result.words c.union.result.words c.before.lowest-left.ensures c.union.ensures
 

@@ -3,7 +3,7 @@ use borrow.Author.Rules.{rules}
 use mathlib.Core.Path.{sym, subst, ◌∙◌}
 use Rattle.tables.specs.Table.{view_of, view-good}
 use Rattle.view.specs.Pick.{NearestOf}
-use Rattle.supertype.specs.Near.{nearest-lone, two-of, met_some, nearest-met, nearest-near}
+use Rattle.supertype.specs.Near.{nearest-lone, two-of, met-some, nearest-met, nearest-near}
 use Rattle.supertype.proofs.nearest_of.Statement.{statement}
 use Rattle.supertype.proofs.nearest_of.Tie as tie
 
@@ -35,7 +35,7 @@ returns-2 c =
     let p = s.requires in
     let f = c.before.before.before.first-near in
     let w = two-of a.s.words p.4 (sym c.before.before.before.before.before.is-lone.ensures ∙ c.before.before.before.before.if1.false) in
-    let m = met_some (view_of a.pairs.now a.marks.now a.t) (view-good a.pairs.now a.marks.now a.t p.0 p.1) a.left a.right p.2 p.3 a.s.words f.result.words f.ensures p.5 w.0 w.1 w.2 w.3 w.4 in
+    let m = met-some (view_of a.pairs.now a.marks.now a.t) (view-good a.pairs.now a.marks.now a.t p.0 p.1) a.left a.right p.2 p.3 a.s.words f.result.words f.ensures p.5 w.0 w.1 w.2 w.3 w.4 in
     nearest-met (view_of a.pairs.now a.marks.now a.t) (view-good a.pairs.now a.marks.now a.t p.0 p.1) a.left a.right p.2 p.3 a.s.words f.result.words f.ensures p.5 m.0 m.1 c.lowest2.result
     (subst (NearestOf (view_of a.pairs.now a.marks.now a.t) a.left a.right f.result.words) (sym c.lowest2.ensures) (nearest-lone (view_of a.pairs.now a.marks.now a.t) a.left a.right f.result.words f.ensures.size (sym c.before.before.is-lone2.ensures ∙ c.before.if2.true)))
 
@@ -53,7 +53,7 @@ returns-3 c =
     let f = c.before.before.before.before.first-near in
     let h = c.before.first-near2 in
     let w = two-of a.s.words p.4 (sym c.before.before.before.before.before.before.is-lone.ensures ∙ c.before.before.before.before.before.if1.false) in
-    let m = met_some (view_of a.pairs.now a.marks.now a.t) (view-good a.pairs.now a.marks.now a.t p.0 p.1) a.left a.right p.2 p.3 a.s.words f.result.words f.ensures p.5 w.0 w.1 w.2 w.3 w.4 in
+    let m = met-some (view_of a.pairs.now a.marks.now a.t) (view-good a.pairs.now a.marks.now a.t p.0 p.1) a.left a.right p.2 p.3 a.s.words f.result.words f.ensures p.5 w.0 w.1 w.2 w.3 w.4 in
     nearest-met (view_of a.pairs.now a.marks.now a.t) (view-good a.pairs.now a.marks.now a.t p.0 p.1) a.left a.right p.2 p.3 a.s.words f.result.words f.ensures p.5 m.0 m.1 c.lowest3.result
     (subst (NearestOf (view_of a.pairs.now a.marks.now a.t) a.left a.right f.result.words) (sym c.lowest3.ensures) (nearest-near (view_of a.pairs.now a.marks.now a.t) (view-good a.pairs.now a.marks.now a.t p.0 p.1) a.left a.right p.2 p.3 a.s.words f.result.words f.ensures h.result.words h.ensures m.0 m.1))
 

@@ -10,7 +10,7 @@ use Rattle.sets.specs.Sets.{at, remove, members, first}
 use Rattle.tables.specs.Table.{view_of}
 use Rattle.view.specs.Lows.{strip}
 use Rattle.supertype.proofs.Steps.{strip-step, strip-end}
-use Rattle.view.specs.Frontier.{left_less}
+use Rattle.view.specs.Frontier.{left-less}
 use Rattle.supertype.proofs.not_reaching.Statement.{statement}
 use Rattle.supertype.proofs.not_reaching.Tie as tie
 
@@ -43,7 +43,7 @@ lowest-requires-2 c κs = search rules
 loop-less : tie.Need-loop-smaller invariant-loop decreases-loop
 loop-less c =
     let l = c.before.before.before.before.before.loop in
-    left_less l.left.words l.c c.before.without.result.words l.invariant.0 (omega arith) c.before.without.ensures
+    left-less l.left.words l.c c.before.without.result.words l.invariant.0 (omega arith) c.before.without.ensures
 
 loop-again : tie.Need-loop-preserved invariant-loop decreases-loop
 loop-again c =

@@ -6,7 +6,7 @@ use Prim.Native.Nat.{ℕ}
 use native.Mathlib.Omega.{arith}
 use Rattle.sets.specs.Sets.{member}
 use Rattle.sets.specs.Laws.{lowest-member}
-use Rattle.supertype.specs.Stripped.{starts-least, starts_with}
+use Rattle.supertype.specs.Stripped.{starts-least, starts-with}
 use Rattle.supertype.proofs.start_of.Statement.{statement}
 use Rattle.supertype.proofs.start_of.Tie as tie
 
@@ -17,7 +17,7 @@ returns : tie.Need-returns
 returns c =
     let s = c.before.before in
     let l = c.before.lowest in
-    starts_with s.args.others.words l.result
+    starts-with s.args.others.words l.result
     (s.requires.1 l.result (subst (λ (x : ℕ). member s.args.met.words x ≡ true) (sym l.ensures) (lowest-member s.args.met.words 1024 (let e = l.ensures in let h = c.if1.true in omega arith))))
     c.if1.true
 

@@ -4,7 +4,7 @@ use mathlib.Core.Path.{sym, ◌∙◌}
 use Rattle.tables.specs.Table.{view_of, view-good}
 use Rattle.supertype.specs.Sources.{common-upward}
 use Rattle.view.specs.Lows.{remove-only}
-use Rattle.view.specs.Pick.{found_right, found_left, found-nearest, all-fits, all-common}
+use Rattle.view.specs.Pick.{found-right, found-left, found-nearest, all-fits, all-common}
 use Rattle.supertype.proofs.supertype.Statement.{statement}
 use Rattle.supertype.proofs.supertype.Tie as tie
 
@@ -18,7 +18,7 @@ returns : tie.Need-returns
 returns c =
     let a = c.before.before.before.before.before.args in
     let p = c.before.before.before.before.before.requires in
-    found_right (view_of a.pairs.now a.marks.now a.t) (view-good a.pairs.now a.marks.now a.t p.0 p.1) a.left a.right p.2 p.3 c.before.before.ancestors-of.result.words c.before.before.ancestors-of.ensures (sym c.before.has.ensures ∙ c.if1.true)
+    found-right (view_of a.pairs.now a.marks.now a.t) (view-good a.pairs.now a.marks.now a.t p.0 p.1) a.left a.right p.2 p.3 c.before.before.ancestors-of.result.words c.before.before.ancestors-of.ensures (sym c.before.has.ensures ∙ c.if1.true)
 
 ancestors-of-requires-2 : tie.Need-ancestors-of-requires-2
 ancestors-of-requires-2 c κs = search rules
@@ -30,7 +30,7 @@ returns-2 : tie.Need-returns-2
 returns-2 c =
     let a = c.before.before.before.before.before.before.before.before.args in
     let p = c.before.before.before.before.before.before.before.before.requires in
-    found_left (view_of a.pairs.now a.marks.now a.t) (view-good a.pairs.now a.marks.now a.t p.0 p.1) a.left a.right p.2 p.3 c.before.before.before.before.before.ancestors-of.result.words c.before.before.ancestors-of2.result.words c.before.before.before.before.before.ancestors-of.ensures c.before.before.ancestors-of2.ensures
+    found-left (view_of a.pairs.now a.marks.now a.t) (view-good a.pairs.now a.marks.now a.t p.0 p.1) a.left a.right p.2 p.3 c.before.before.before.before.before.ancestors-of.result.words c.before.before.ancestors-of2.result.words c.before.before.before.before.before.ancestors-of.ensures c.before.before.ancestors-of2.ensures
     (sym c.before.before.before.before.has.ensures ∙ c.before.before.before.if1.false)
     (sym c.before.has2.ensures ∙ c.if2.true)
 

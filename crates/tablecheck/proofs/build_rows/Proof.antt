@@ -1,6 +1,6 @@
 -- `build_rows` meets its contract: with layers, or without.
 use borrow.Author.Rules.{rules}
-use Rattle.layercolumns.specs.Laws.{none_found}
+use Rattle.layercolumns.specs.Laws.{none-found}
 use Rattle.tablecheck.proofs.build_rows.Statement.{statement}
 use Rattle.tablecheck.proofs.build_rows.Tie as tie
 
@@ -17,7 +17,7 @@ build-plain-requires : tie.Need-build-plain-requires
 build-plain-requires c κs =
     let s = c.before.before.before.before.before.before.before.before.before.before in
     let found = c.before.first-open in
-    (s.requires.0, s.requires.1, none_found s.args.rec-flags.now s.args.rec-flags.now found.result found.ensures c.if1.false)
+    (s.requires.0, s.requires.1, none-found s.args.rec-flags.now s.args.rec-flags.now found.result found.ensures c.if1.false)
 
 returns-2 : tie.Need-returns-2
 returns-2 c = c.build-plain.ensures

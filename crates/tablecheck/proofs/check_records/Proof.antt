@@ -5,8 +5,8 @@ use Prim.Native.Nat.{◌-◌, ◌≤◌}
 use native.Mathlib.Omega.{arith}
 use lib.ListN.{length}
 use Rattle.layers.specs.Stacks.{stack_of, Holds}
-use Rattle.tablecheck.specs.Inside.{stopOf, Gone}
-use Rattle.tablecheck.specs.Steps.{fresh_holds, gone-start, gone-end, gone-stop, gone-on}
+use Rattle.tablecheck.specs.Inside.{stop_of, Gone}
+use Rattle.tablecheck.specs.Steps.{fresh-holds, gone-start, gone-end, gone-stop, gone-on}
 use Rattle.tablecheck.proofs.check_records.Statement.{statement}
 use Rattle.tablecheck.proofs.check_records.Tie as tie
 
@@ -23,7 +23,7 @@ lowest-requires c κs = search rules
 loop-holds : tie.Need-loop-init invariant-loop decreases-loop
 loop-holds c =
     let s = c.before.before.before.before.before.before in
-    (omega arith, (fresh_holds _ s.args.t refl s.requires.1 c.lowest.result c.lowest.ensures).0, gone-start s.args.parents.now s.args.rec-flags.now s.args.rec-class.now s.args.rec-at.now s.args.rec-len.now _ _ refl)
+    (omega arith, (fresh-holds _ s.args.t refl s.requires.1 c.lowest.result c.lowest.ensures).0, gone-start s.args.parents.now s.args.rec-flags.now s.args.rec-class.now s.args.rec-at.now s.args.rec-len.now _ _ refl)
 
 mul-stack-row : tie.Need-overflow-mul-stack-row invariant-loop decreases-loop
 mul-stack-row c = search rules
@@ -65,8 +65,8 @@ returns c =
     let l = c.before.before.before.before.before.before.before.before.before.before.before.before.loop in
     let row = c.before.before.before.before.stack-row in
     let low = c.before.before.before.before.before.before.before.before.before.before.before.before.before.lowest in
-    gone-stop a.parents.now a.rec-flags.now a.rec-class.now a.rec-at.now a.rec-len.now _ l.i (stack_of l.pairs l.marks l.u) l.invariant.2 s.requires.0 c.before.before.before.before.before.before.before.before.before.before.before.loop-test.true row.result.refusal row.ensures.refusal_is c.if1.true
-    ∙ ap (stopOf a.parents.now a.rec-flags.now a.rec-class.now a.rec-at.now a.rec-len.now) (fresh_holds _ a.t refl s.requires.1 low.result low.ensures).1
+    gone-stop a.parents.now a.rec-flags.now a.rec-class.now a.rec-at.now a.rec-len.now _ l.i (stack_of l.pairs l.marks l.u) l.invariant.2 s.requires.0 c.before.before.before.before.before.before.before.before.before.before.before.loop-test.true row.result.refusal row.ensures.refusal-is c.if1.true
+    ∙ ap (stop_of a.parents.now a.rec-flags.now a.rec-class.now a.rec-at.now a.rec-len.now) (fresh-holds _ a.t refl s.requires.1 low.result low.ensures).1
 
 add-i : tie.Need-overflow-add-i invariant-loop decreases-loop
 add-i c = omega (arith, c.before.before.before.before.before.before.before.before.before.before.before.before.loop-test.true, c.before.before.before.before.before.before.before.before.before.before.before.before.before.before.before.before.before.before.before.before.well-formed.0)
@@ -83,7 +83,7 @@ loop-again c =
     let row = c.before.before.before.before.before.stack-row in (
       omega (arith, h),
       row.ensures.holds,
-      gone-on a.parents.now a.rec-flags.now a.rec-class.now a.rec-at.now a.rec-len.now _ l.i (stack_of l.pairs l.marks l.u) l.invariant.2 s.requires.0 h row.result.refusal row.ensures.refusal_is c.before.if1.false _ row.ensures.stack_is,
+      gone-on a.parents.now a.rec-flags.now a.rec-class.now a.rec-at.now a.rec-len.now _ l.i (stack_of l.pairs l.marks l.u) l.invariant.2 s.requires.0 h row.result.refusal row.ensures.refusal-is c.before.if1.false _ row.ensures.stack-is,
     )
 
 returns-2 : tie.Need-returns-2 invariant-loop decreases-loop
@@ -93,7 +93,7 @@ returns-2 c =
     let l = c.before.loop in
     let low = c.before.before.lowest in
     gone-end a.parents.now a.rec-flags.now a.rec-class.now a.rec-at.now a.rec-len.now _ l.i (stack_of l.pairs l.marks l.u) l.invariant.2 (omega arith)
-    ∙ ap (stopOf a.parents.now a.rec-flags.now a.rec-class.now a.rec-at.now a.rec-len.now) (fresh_holds _ a.t refl s.requires.1 low.result low.ensures).1
+    ∙ ap (stop_of a.parents.now a.rec-flags.now a.rec-class.now a.rec-at.now a.rec-len.now) (fresh-holds _ a.t refl s.requires.1 low.result low.ensures).1
 
 pub check-records-spec : {M : Type 1} → statement M
 check-records-spec =

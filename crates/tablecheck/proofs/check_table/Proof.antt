@@ -3,7 +3,7 @@ use borrow.Author.Rules.{rules}
 use mathlib.Core.Path.{sym, ◌∙◌}
 use lib.ListN.{length}
 use Rattle.columns.specs.Given.{Given, given}
-use Rattle.columns.specs.GivenLaws.{even_is}
+use Rattle.columns.specs.GivenLaws.{even-is}
 use Rattle.tablecheck.specs.Steps.{check-even, check-uneven}
 use Rattle.tablecheck.proofs.check_table.Statement.{statement}
 use Rattle.tablecheck.proofs.check_table.Tie as tie
@@ -14,7 +14,7 @@ is-even-requires c κs = search rules
 check-rows-requires : tie.Need-check-rows-requires
 check-rows-requires c κs =
     let a = c.before.before.before.before.before.before.before.before.before.before.args in
-    let e = even_is (length a.name-at.now) (length a.name-len.now) (length a.rec-flags.now) (length a.rec-class.now) (length a.rec-at.now) (length a.rec-len.now) (sym c.before.is-even.ensures ∙ c.if1.true) in
+    let e = even-is (length a.name-at.now) (length a.name-len.now) (length a.rec-flags.now) (length a.rec-class.now) (length a.rec-at.now) (length a.rec-len.now) (sym c.before.is-even.ensures ∙ c.if1.true) in
     (e.0, (e.1, e.2, e.3))
 
 returns : tie.Need-returns

@@ -4,7 +4,7 @@ use mathlib.Core.Path.{sym, subst}
 use Rattle.columns.specs.Given.{Given, given}
 use Rattle.rows.specs.declared.Outcome.{Outcome}
 use Rattle.tablecheck.specs.Inside.{Fresh}
-use Rattle.tablecheck.specs.Steps.{names_fresh, check-name, check-record}
+use Rattle.tablecheck.specs.Steps.{names-fresh, check-name, check-record}
 use Rattle.tablecheck.proofs.find_row.Statement.{statement}
 use Rattle.tablecheck.proofs.find_row.Tie as tie
 
@@ -24,7 +24,7 @@ check-records-requires c κs =
     let a = s.args in
     let named = c.before.before.before.build-names in
     let g : Given = given a.names.now a.name-at.now a.name-len.now a.rec-flags.now a.rec-class.now a.rec-at.now a.rec-len.now a.parents.now in
-    (s.requires.1, subst (λ (o : Outcome). Fresh o.tables) (sym named.ensures) (names_fresh g))
+    (s.requires.1, subst (λ (o : Outcome). Fresh o.tables) (sym named.ensures) (names-fresh g))
 
 returns-2 : tie.Need-returns-2
 returns-2 c =

@@ -5,13 +5,13 @@ use mathlib.Core.Bool.{Bool}
 use native.Mathlib.Nat.{zero-add}
 use native.Mathlib.Omega.{arith}
 use lib.ListN.{length}
-use Rattle.copying.specs.Copies.{runIn}
-use Rattle.copying.specs.Steps.{run_short}
-use Rattle.sending.specs.Sending.{sentMaybe, sentElement, sentArray}
-use Rattle.ty.specs.Answers.{maybeWord}
-use Rattle.lattice.specs.World.{worldOf}
-use Rattle.solving.specs.Solving.{producedType}
-use Rattle.turning.specs.Turning.{stateIn, only_if, asks-sorted, gather-produced, gather-shape}
+use Rattle.copying.specs.Copies.{run_in}
+use Rattle.copying.specs.Steps.{run-short}
+use Rattle.sending.specs.Sending.{sent_maybe, sent_element, sent_array}
+use Rattle.ty.specs.Answers.{maybe_word}
+use Rattle.lattice.specs.World.{world_of}
+use Rattle.solving.specs.Solving.{produced_type}
+use Rattle.turning.specs.Turning.{state_in, only_if, asks-sorted, gather-produced, gather-shape}
 use Rattle.turning.proofs.gather.Statement.{statement}
 use Rattle.turning.proofs.gather.Tie as tie
 
@@ -23,13 +23,13 @@ shape-if-requires c κs =
     let x = c.before.before.before.before.before.before.before.before.before.before.before.args in
     let p = c.before.before.before.before.before.before.before.before.before.before.before.requires in
     let o = c.before.before.before.produced-if in
-    (p.0, p.1, search rules, λ h. o.ensures ∙ ap (λ (a : Bool). only_if a (maybeWord (producedType (worldOf x.pairs.now x.marks.now x.t) (stateIn x.keys.now x.root)))) (p.5 h))
+    (p.0, p.1, search rules, λ h. o.ensures ∙ ap (λ (a : Bool). only_if a (maybe_word (produced_type (world_of x.pairs.now x.marks.now x.t) (state_in x.keys.now x.root)))) (p.5 h))
 
 copy-ranks-requires : tie.Need-copy-ranks-requires
 copy-ranks-requires c κs =
     let x = c.before.before.before.before.before.before.before.before.before.before.before.before.before.before.before.args in
     let p = c.before.before.before.before.before.before.before.before.before.before.before.before.before.before.before.requires in
-    (asks-sorted x.pairs.now x.marks.now x.t x.keys.now p.0 x.root, p.1, omega arith, omega (arith, p.3, run_short x.root 1 x.keys.now (asks-sorted x.pairs.now x.marks.now x.t x.keys.now p.0 x.root)))
+    (asks-sorted x.pairs.now x.marks.now x.t x.keys.now p.0 x.root, p.1, omega arith, omega (arith, p.3, run-short x.root 1 x.keys.now (asks-sorted x.pairs.now x.marks.now x.t x.keys.now p.0 x.root)))
 
 copy-uppers-requires : tie.Need-copy-uppers-requires
 copy-uppers-requires c κs =
@@ -58,8 +58,8 @@ send-array-requires c κs =
     let o = c.before.before.before.before.before.before.before.before.before.before.before.before.before.before.before.before.produced-if in
     gather-produced x.pairs.now x.marks.now x.t x.keys.now p.0 x.root x.k.produced o.result o.ensures
 
-same_length : tie.Need-same-length
-same_length c = search rules
+same-length : tie.Need-same-length
+same-length c = search rules
 
 same-length-2 : tie.Need-same-length-2
 same-length-2 c = search rules
@@ -74,10 +74,10 @@ returns c =
     let v = c.before.before.before.before.before.before.before.before.before.before.before.before.before.shape-if in
     let f = c.before.before.before.before.before.before.before.before.before.copy-ranks in
     let u = c.before.before.before.before.before.copy-uppers in
-    let e = c.before.before.send-type.ensures ∙ ap sentMaybe o.ensures in
-    let g = c.before.send-element.ensures ∙ ap sentElement v.ensures in
-    let h = c.send-array.ensures ∙ ap sentArray o.ensures in
-    let n = f.ensures.0 ∙ zero-add (length (runIn x.root 1 x.keys.now)) in
+    let e = c.before.before.send-type.ensures ∙ ap sent_maybe o.ensures in
+    let g = c.before.send-element.ensures ∙ ap sent_element v.ensures in
+    let h = c.send-array.ensures ∙ ap sent_array o.ensures in
+    let n = f.ensures.0 ∙ zero-add (length (run_in x.root 1 x.keys.now)) in
     (λ i. record { produced = e i; element = g i; array = h i; fallbacks = n i; uppers = u.ensures.0 i }, f.ensures.1, u.ensures.1)
 
 pub gather-spec : {M : Type 1} → statement M
@@ -91,7 +91,7 @@ gather-spec =
     send-type-requires
     send-element-requires
     send-array-requires
-    same_length
+    same-length
     same-length-2
     same-length-3
     returns)

@@ -3,7 +3,7 @@ use borrow.Author.Rules.{rules}
 use mathlib.Core.Path.{◌∙◌}
 use native.Mathlib.Omega.{arith}
 use Rattle.copying.specs.Steps.{evidence-short}
-use Rattle.turning.specs.Turning.{asks-sorted, part-legal, part_ascends, part-produces}
+use Rattle.turning.specs.Turning.{asks-sorted, part-legal, part-ascends, part-produces}
 use Rattle.turning.proofs.produced_of.Statement.{statement}
 use Rattle.turning.proofs.produced_of.Tie as tie
 
@@ -31,10 +31,10 @@ join-all-requires c κs =
     let x = c.before.before.before.before.before.before.before.before.before.before.args in
     let p = c.before.before.before.before.before.before.before.before.before.before.requires in
     let o = c.before.before.before.before.copy-evidence in
-    (p.0.fits, part-legal x.pairs.now x.marks.now x.t x.keys.now p.0 x.root x.words.now o.new.1.1.0 o.result o.ensures.0 o.ensures.1, part_ascends x.pairs.now x.marks.now x.t x.keys.now p.0 x.root x.words.now o.new.1.1.0 o.result o.ensures.0 o.ensures.1, p.0.long)
+    (p.0.fits, part-legal x.pairs.now x.marks.now x.t x.keys.now p.0 x.root x.words.now o.new.1.1.0 o.result o.ensures.0 o.ensures.1, part-ascends x.pairs.now x.marks.now x.t x.keys.now p.0 x.root x.words.now o.new.1.1.0 o.result o.ensures.0 o.ensures.1, p.0.long)
 
-same_length : tie.Need-same-length
-same_length c = search rules
+same-length : tie.Need-same-length
+same-length c = search rules
 
 returns : tie.Need-returns
 returns c =
@@ -52,5 +52,5 @@ produced-of-spec =
     part-join-all-start
     part-join-all-end
     join-all-requires
-    same_length
+    same-length
     returns)

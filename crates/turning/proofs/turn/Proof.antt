@@ -2,7 +2,7 @@
 use borrow.Author.Rules.{rules}
 use mathlib.Core.Path.{◌∙◌}
 use native.Mathlib.Omega.{arith}
-use Rattle.lattice.specs.World.{worldOf}
+use Rattle.lattice.specs.World.{world_of}
 use Rattle.inserting.specs.Store.{store}
 use Rattle.sorted.specs.Parts.{part}
 use Rattle.asking.specs.Laws.{asked-element}
@@ -119,7 +119,7 @@ part-pass-rules-end c =
     let y = flows-turnable x.pairs.now x.marks.now x.t (store x.a.now x.ring.now x.s) x.words.now x.fallbacks.now x.uppers.now x.flows.now x.incoming.now x.reads.now x.writes.now p.0 x.root r.result r.ensures in
     let o = c.before.before.before.before.before.before.before.before.before.gather in
     let q = c.before.before.before.before.before.before.before.before.before.before.before.before.before.before.before.asks in
-    let z = turn-gathers x.pairs.now x.marks.now x.t x.a.now x.ring.now x.s x.words.now x.fallbacks.now x.uppers.now (part r.result.first r.result.past x.flows.now) x.incoming.now x.reads.now x.writes.now y x.root m.result m.ensures q.result (worldOf x.pairs.now x.marks.now x.t) o.result x.fallbacks.now o.new.1.1.1.1.1.1.1.0 x.uppers.now o.new.1.1.1.1.1.1.1.1.0 o.ensures in
+    let z = turn-gathers x.pairs.now x.marks.now x.t x.a.now x.ring.now x.s x.words.now x.fallbacks.now x.uppers.now (part r.result.first r.result.past x.flows.now) x.incoming.now x.reads.now x.writes.now y x.root m.result m.ensures q.result (world_of x.pairs.now x.marks.now x.t) o.result x.fallbacks.now o.new.1.1.1.1.1.1.1.0 x.uppers.now o.new.1.1.1.1.1.1.1.1.0 o.ensures in
     omega (arith, (turn-within x.pairs.now x.marks.now x.t x.a.now x.ring.now x.s x.words.now x.fallbacks.now x.uppers.now (part r.result.first r.result.past x.flows.now) x.incoming.now x.reads.now x.writes.now y x.root q.result q.ensures o.result o.new.1.1.1.1.1.1.1.0 o.new.1.1.1.1.1.1.1.1.0 z.0 z.1 z.2).0, o.auto.1.1.1.1.1.1.1.0, p.0.fallbacks-room)
 
 sub-pass-rules-2 : tie.Need-overflow-sub-pass-rules-2
@@ -137,7 +137,7 @@ part-pass-rules-end-2 c =
     let y = flows-turnable x.pairs.now x.marks.now x.t (store x.a.now x.ring.now x.s) x.words.now x.fallbacks.now x.uppers.now x.flows.now x.incoming.now x.reads.now x.writes.now p.0 x.root r.result r.ensures in
     let o = c.before.before.before.before.before.before.before.before.before.before.before.gather in
     let q = c.before.before.before.before.before.before.before.before.before.before.before.before.before.before.before.before.before.asks in
-    let z = turn-gathers x.pairs.now x.marks.now x.t x.a.now x.ring.now x.s x.words.now x.fallbacks.now x.uppers.now (part r.result.first r.result.past x.flows.now) x.incoming.now x.reads.now x.writes.now y x.root m.result m.ensures q.result (worldOf x.pairs.now x.marks.now x.t) o.result x.fallbacks.now o.new.1.1.1.1.1.1.1.0 x.uppers.now o.new.1.1.1.1.1.1.1.1.0 o.ensures in
+    let z = turn-gathers x.pairs.now x.marks.now x.t x.a.now x.ring.now x.s x.words.now x.fallbacks.now x.uppers.now (part r.result.first r.result.past x.flows.now) x.incoming.now x.reads.now x.writes.now y x.root m.result m.ensures q.result (world_of x.pairs.now x.marks.now x.t) o.result x.fallbacks.now o.new.1.1.1.1.1.1.1.0 x.uppers.now o.new.1.1.1.1.1.1.1.1.0 o.ensures in
     omega (arith, (turn-within x.pairs.now x.marks.now x.t x.a.now x.ring.now x.s x.words.now x.fallbacks.now x.uppers.now (part r.result.first r.result.past x.flows.now) x.incoming.now x.reads.now x.writes.now y x.root q.result q.ensures o.result o.new.1.1.1.1.1.1.1.0 o.new.1.1.1.1.1.1.1.1.0 z.0 z.1 z.2).1, o.auto.1.1.1.1.1.1.1.1.0, p.0.uppers-room)
 
 pass-rules-requires : tie.Need-pass-rules-requires
@@ -149,7 +149,7 @@ pass-rules-requires c κs =
     let y = flows-turnable x.pairs.now x.marks.now x.t (store x.a.now x.ring.now x.s) x.words.now x.fallbacks.now x.uppers.now x.flows.now x.incoming.now x.reads.now x.writes.now p.0 x.root r.result r.ensures in
     let o = c.before.before.before.before.before.before.before.before.before.before.before.before.gather in
     let q = c.before.before.before.before.before.before.before.before.before.before.before.before.before.before.before.before.before.before.asks in
-    let z = turn-gathers x.pairs.now x.marks.now x.t x.a.now x.ring.now x.s x.words.now x.fallbacks.now x.uppers.now (part r.result.first r.result.past x.flows.now) x.incoming.now x.reads.now x.writes.now y x.root m.result m.ensures q.result (worldOf x.pairs.now x.marks.now x.t) o.result x.fallbacks.now o.new.1.1.1.1.1.1.1.0 x.uppers.now o.new.1.1.1.1.1.1.1.1.0 o.ensures in (
+    let z = turn-gathers x.pairs.now x.marks.now x.t x.a.now x.ring.now x.s x.words.now x.fallbacks.now x.uppers.now (part r.result.first r.result.past x.flows.now) x.incoming.now x.reads.now x.writes.now y x.root m.result m.ensures q.result (world_of x.pairs.now x.marks.now x.t) o.result x.fallbacks.now o.new.1.1.1.1.1.1.1.0 x.uppers.now o.new.1.1.1.1.1.1.1.1.0 o.ensures in (
       turn-ready x.pairs.now x.marks.now x.t x.a.now x.ring.now x.s x.words.now x.fallbacks.now x.uppers.now (part r.result.first r.result.past x.flows.now) x.incoming.now x.reads.now x.writes.now y,
       y.flows-sorted,
       p.0.incoming-sorted,
@@ -162,8 +162,8 @@ pass-rules-requires c κs =
       turn-array x.pairs.now x.marks.now x.t x.a.now x.ring.now x.s x.words.now x.fallbacks.now x.uppers.now (part r.result.first r.result.past x.flows.now) x.incoming.now x.reads.now x.writes.now y x.root q.result q.ensures o.result o.new.1.1.1.1.1.1.1.0 o.new.1.1.1.1.1.1.1.1.0 z.0 z.1 z.2,
     )
 
-same_length : tie.Need-same-length
-same_length c = search rules
+same-length : tie.Need-same-length
+same-length c = search rules
 
 same-length-2 : tie.Need-same-length-2
 same-length-2 c = search rules
@@ -186,11 +186,11 @@ returns c =
     let y = flows-turnable x.pairs.now x.marks.now x.t (store x.a.now x.ring.now x.s) x.words.now x.fallbacks.now x.uppers.now x.flows.now x.incoming.now x.reads.now x.writes.now p.0 x.root r.result r.ensures in
     let o = c.before.before.before.before.before.before.before.before.before.before.before.before.before.before.before.before.before.gather in
     let q = c.before.before.before.before.before.before.before.before.before.before.before.before.before.before.before.before.before.before.before.before.before.before.before.asks in
-    let z = turn-gathers x.pairs.now x.marks.now x.t x.a.now x.ring.now x.s x.words.now x.fallbacks.now x.uppers.now (part r.result.first r.result.past x.flows.now) x.incoming.now x.reads.now x.writes.now y x.root m.result m.ensures q.result (worldOf x.pairs.now x.marks.now x.t) o.result x.fallbacks.now o.new.1.1.1.1.1.1.1.0 x.uppers.now o.new.1.1.1.1.1.1.1.1.0 o.ensures in
+    let z = turn-gathers x.pairs.now x.marks.now x.t x.a.now x.ring.now x.s x.words.now x.fallbacks.now x.uppers.now (part r.result.first r.result.past x.flows.now) x.incoming.now x.reads.now x.writes.now y x.root m.result m.ensures q.result (world_of x.pairs.now x.marks.now x.t) o.result x.fallbacks.now o.new.1.1.1.1.1.1.1.0 x.uppers.now o.new.1.1.1.1.1.1.1.1.0 o.ensures in
     c.before.before.before.before.pass-rules.ensures ∙ turn-additions x.pairs.now x.marks.now x.t x.a.now x.ring.now x.s x.words.now x.fallbacks.now x.uppers.now (part r.result.first r.result.past x.flows.now) x.incoming.now x.reads.now x.writes.now y x.root q.result q.ensures o.result o.new.1.1.1.1.1.1.1.0 o.new.1.1.1.1.1.1.1.1.0 z.0 z.1 z.2 (store x.a.now x.ring.now x.s) ∙ flows-turned x.pairs.now x.marks.now x.t (store x.a.now x.ring.now x.s) x.words.now x.fallbacks.now x.uppers.now x.flows.now x.incoming.now x.reads.now x.writes.now p.0 x.root r.result r.ensures
 
-pub turn_spec : {M : Type 1} → statement M
-turn_spec =
+pub turn-spec : {M : Type 1} → statement M
+turn-spec =
     tie.close
     (tie.spec
     run-requires
@@ -212,7 +212,7 @@ turn_spec =
     part-pass-rules-start-2
     part-pass-rules-end-2
     pass-rules-requires
-    same_length
+    same-length
     same-length-2
     same-length-3
     same-length-4

@@ -2,7 +2,7 @@
 use borrow.Author.Rules.{rules}
 use mathlib.Core.Path.{◌∙◌}
 use native.Mathlib.Omega.{arith}
-use Rattle.copying.specs.Steps.{run_short}
+use Rattle.copying.specs.Steps.{run-short}
 use Rattle.turning.specs.Turning.{asks-sorted, uppers-legal, part-upper}
 use Rattle.turning.proofs.upper_of.Statement.{statement}
 use Rattle.turning.proofs.upper_of.Tie as tie
@@ -11,7 +11,7 @@ copy-words-requires : tie.Need-copy-words-requires
 copy-words-requires c κs =
     let x = c.before.before.before.before.before.args in
     let p = c.before.before.before.before.before.requires in
-    (asks-sorted x.pairs.now x.marks.now x.t x.keys.now p.0 x.root, p.1, omega arith, omega (arith, p.2, run_short x.root 2 x.keys.now (asks-sorted x.pairs.now x.marks.now x.t x.keys.now p.0 x.root)))
+    (asks-sorted x.pairs.now x.marks.now x.t x.keys.now p.0 x.root, p.1, omega arith, omega (arith, p.2, run-short x.root 2 x.keys.now (asks-sorted x.pairs.now x.marks.now x.t x.keys.now p.0 x.root)))
 
 sub-most-specific-upper : tie.Need-overflow-sub-most-specific-upper
 sub-most-specific-upper c = search rules
@@ -24,7 +24,7 @@ part-most-specific-upper-end c =
     let x = c.before.before.before.before.before.before.before.before.before.args in
     let p = c.before.before.before.before.before.before.before.before.before.requires in
     let o = c.before.before.before.copy-words in
-    omega (arith, p.2, o.ensures.0, o.auto.1.1.1.0, run_short x.root 2 x.keys.now (asks-sorted x.pairs.now x.marks.now x.t x.keys.now p.0 x.root))
+    omega (arith, p.2, o.ensures.0, o.auto.1.1.1.0, run-short x.root 2 x.keys.now (asks-sorted x.pairs.now x.marks.now x.t x.keys.now p.0 x.root))
 
 most-specific-upper-requires : tie.Need-most-specific-upper-requires
 most-specific-upper-requires c κs =
@@ -33,8 +33,8 @@ most-specific-upper-requires c κs =
     let o = c.before.before.before.before.copy-words in
     (p.0.long, omega (arith, p.0.fits), uppers-legal x.pairs.now x.marks.now x.t x.keys.now p.0 x.root x.words.now o.new.1.1.1.0 o.result o.ensures.0 o.ensures.1)
 
-same_length : tie.Need-same-length
-same_length c = search rules
+same-length : tie.Need-same-length
+same-length c = search rules
 
 returns : tie.Need-returns
 returns c =
@@ -52,5 +52,5 @@ upper-of-spec =
     part-most-specific-upper-start
     part-most-specific-upper-end
     most-specific-upper-requires
-    same_length
+    same-length
     returns)

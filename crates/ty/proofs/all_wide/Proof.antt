@@ -3,20 +3,20 @@ use borrow.Author.Rules.{rules}
 use mathlib.Core.Path.{◌≡◌, sym, ap, ◌∙◌}
 use Prim.Native.Nat.{◌-◌, ◌/◌, ◌^◌, ◌≤◌}
 use native.Mathlib.Omega.{arith}
-use Rattle.ty.specs.Types.{allWide}
+use Rattle.ty.specs.Types.{all_wide}
 use Rattle.ty.specs.Words.{list_of}
-use Rattle.ty.specs.Steps.{rest_of, rest_all, wide-yes, wide-no, wide-none, wide-end}
+use Rattle.ty.specs.Steps.{rest_of, rest-all, wide-yes, wide-no, wide-none, wide-end}
 use Rattle.ty.proofs.all_wide.Statement.{statement}
 use Rattle.ty.proofs.all_wide.Tie as tie
 
 abbrev invariant-loop : tie.invariant-loop
-invariant-loop load n i₀ i = (i ≤ 11) × (allWide (list_of load) ≡ allWide (rest_of load n i))
+invariant-loop load n i₀ i = (i ≤ 11) × (all_wide (list_of load) ≡ all_wide (rest_of load n i))
 
 abbrev decreases-loop : tie.decreases-loop
 decreases-loop load n i₀ i = 11 - i
 
 loop-holds : tie.Need-loop-init invariant-loop decreases-loop
-loop-holds c = (omega arith, ap allWide (rest_all c.args.load))
+loop-holds c = (omega arith, ap all_wide (rest-all c.args.load))
 
 returns : tie.Need-returns invariant-loop decreases-loop
 returns c =

@@ -5,19 +5,19 @@ use mathlib.Core.Bool.{true, false}
 use Prim.Native.Nat.{◌≤◌, ◌-◌}
 use native.Mathlib.Omega.{arith}
 use lib.ListN.{length, drop}
-use Rattle.ty.specs.Words.{allLegal}
+use Rattle.ty.specs.Words.{all_legal}
 use Rattle.ty.specs.Steps.{all-legal-next, all-legal-end}
 use Rattle.ty.proofs.are_legal.Statement.{statement}
 use Rattle.ty.proofs.are_legal.Tie as tie
 
 abbrev invariant-loop : tie.invariant-loop
-invariant-loop words names i₀ i = (i ≤ length words) × (allLegal names words ≡ allLegal names (drop i words))
+invariant-loop words names i₀ i = (i ≤ length words) × (all_legal names words ≡ all_legal names (drop i words))
 
 abbrev decreases-loop : tie.decreases-loop
 decreases-loop words names i₀ i = length words - i
 
 loop-holds : tie.Need-loop-init invariant-loop decreases-loop
-loop-holds c = (search rules, λ j. allLegal c.before.args.names c.before.args.words.now)
+loop-holds c = (search rules, λ j. all_legal c.before.args.names c.before.args.words.now)
 
 mul-is-legal : tie.Need-overflow-mul-is-legal invariant-loop decreases-loop
 mul-is-legal c = search rules

@@ -4,13 +4,13 @@ use mathlib.Core.Path.{◌≡◌, sym, ap, ◌∙◌}
 use mathlib.Core.Bool.{Bool, ◌&&◌}
 use Prim.Native.Nat.{ℕ, ◌+◌, ◌-◌, ◌/◌, ◌^◌, ◌≤◌}
 use native.Mathlib.Omega.{arith}
-use Rattle.ty.specs.Words.{unpack, goodDigits, goodUnknown}
+use Rattle.ty.specs.Words.{unpack, good_digits, good_unknown}
 use Rattle.ty.specs.Steps.{good-step, good-end, unknown-long, unknown-short}
 use Rattle.ty.proofs.good_unknown.Statement.{statement}
 use Rattle.ty.proofs.good_unknown.Tie as tie
 
 abbrev invariant-loop : tie.invariant-loop
-invariant-loop load n i₀ i = (i ≤ 11) × (n ≤ 11) × (goodUnknown load ≡ goodDigits (n - i) (unpack (11 - i) load))
+invariant-loop load n i₀ i = (i ≤ 11) × (n ≤ 11) × (good_unknown load ≡ good_digits (n - i) (unpack (11 - i) load))
 
 abbrev decreases-loop : tie.decreases-loop
 decreases-loop load n i₀ i = 11 - i
@@ -21,7 +21,7 @@ returns c = sym (unknown-long c.before.args.load c.if1.true)
 loop-holds : tie.Need-loop-init invariant-loop decreases-loop
 loop-holds c =
     let x = c.before.args.load in
-    (omega arith, omega arith, unknown-short x c.if1.false ∙ ap (λ (m : ℕ). goodDigits m (unpack 11 x)) (let e : x / 2 ^ 44 ≡ x / 2 ^ 44 - 0 = omega arith in e))
+    (omega arith, omega arith, unknown-short x c.if1.false ∙ ap (λ (m : ℕ). good_digits m (unpack 11 x)) (let e : x / 2 ^ 44 ≡ x / 2 ^ 44 - 0 = omega arith in e))
 
 good-digit-requires : tie.Need-good-digit-requires invariant-loop decreases-loop
 good-digit-requires c κs = search rules
@@ -40,7 +40,7 @@ loop-again c =
       omega arith,
       l.invariant.1,
       l.invariant.2 ∙ good-step x n l.i (omega arith) l.invariant.1
-          ∙ ap (λ (t : Bool). t && goodDigits (n - (l.i + 1)) (unpack (11 - (l.i + 1)) x)) (sym c.before.good-digit.ensures ∙ c.if2.true),
+          ∙ ap (λ (t : Bool). t && good_digits (n - (l.i + 1)) (unpack (11 - (l.i + 1)) x)) (sym c.before.good-digit.ensures ∙ c.if2.true),
     )
 
 returns-2 : tie.Need-returns-2 invariant-loop decreases-loop
@@ -49,7 +49,7 @@ returns-2 c =
     let l = c.before.before.before.loop in
     let n = x / 2 ^ 44 in
     sym (l.invariant.2 ∙ good-step x n l.i (omega arith) l.invariant.1
-    ∙ ap (λ (t : Bool). t && goodDigits (n - (l.i + 1)) (unpack (11 - (l.i + 1)) x)) (sym c.before.good-digit.ensures ∙ c.if2.false))
+    ∙ ap (λ (t : Bool). t && good_digits (n - (l.i + 1)) (unpack (11 - (l.i + 1)) x)) (sym c.before.good-digit.ensures ∙ c.if2.false))
 
 returns-3 : tie.Need-returns-3 invariant-loop decreases-loop
 returns-3 c =

@@ -4,20 +4,20 @@ use mathlib.Core.Path.{◌≡◌, sym, ap, ◌∙◌}
 use Prim.Native.Nat.{ℕ, ◌+◌, ◌-◌, ◌/◌, ◌^◌, ◌≤◌}
 use native.Mathlib.Omega.{arith}
 use lib.Bits.{bit_or}
-use Rattle.ty.specs.Types.{maskWith}
+use Rattle.ty.specs.Types.{mask_with}
 use Rattle.ty.specs.Words.{list_of}
-use Rattle.ty.specs.Steps.{rest_of, rest_all, mask_step, mask-none, mask_end, one_shifted}
+use Rattle.ty.specs.Steps.{rest_of, rest-all, mask-step, mask-none, mask-end, one-shifted}
 use Rattle.ty.proofs.list_mask.Statement.{statement}
 use Rattle.ty.proofs.list_mask.Tie as tie
 
 abbrev invariant-loop : tie.invariant-loop
-invariant-loop load n m₀ i₀ m i = (i ≤ 11) × (maskWith 0 (list_of load) ≡ maskWith m (rest_of load n i))
+invariant-loop load n m₀ i₀ m i = (i ≤ 11) × (mask_with 0 (list_of load) ≡ mask_with m (rest_of load n i))
 
 abbrev decreases-loop : tie.decreases-loop
 decreases-loop load n m₀ i₀ m i = 11 - i
 
 loop-holds : tie.Need-loop-init invariant-loop decreases-loop
-loop-holds c = (omega arith, ap (maskWith 0) (rest_all c.args.load))
+loop-holds c = (omega arith, ap (mask_with 0) (rest-all c.args.load))
 
 returns : tie.Need-returns invariant-loop decreases-loop
 returns c =
@@ -43,15 +43,15 @@ loop-again c =
     let l = c.before.before.before.loop in
     let e = c.digit.ensures in (
       omega arith,
-      l.invariant.1 ∙ mask_step x (x / 2 ^ 44) l.i l.m (omega arith) (omega arith)
-          ∙ ap (λ (b : ℕ). maskWith (bit_or l.m b) (rest_of x (x / 2 ^ 44) (l.i + 1))) (ap (λ (d : ℕ). 2 ^ d) (sym e) ∙ sym (one_shifted c.digit.result (omega arith))),
+      l.invariant.1 ∙ mask-step x (x / 2 ^ 44) l.i l.m (omega arith) (omega arith)
+          ∙ ap (λ (b : ℕ). mask_with (bit_or l.m b) (rest_of x (x / 2 ^ 44) (l.i + 1))) (ap (λ (d : ℕ). 2 ^ d) (sym e) ∙ sym (one-shifted c.digit.result (omega arith))),
     )
 
 returns-2 : tie.Need-returns-2 invariant-loop decreases-loop
 returns-2 c =
     let x = c.before.before.args.load in
     let l = c.before.loop in
-    sym (l.invariant.1 ∙ mask_end x (x / 2 ^ 44) l.i l.m (omega arith))
+    sym (l.invariant.1 ∙ mask-end x (x / 2 ^ 44) l.i l.m (omega arith))
 
 pub list-mask-spec : {M : Type 1} → statement M
 list-mask-spec =

@@ -1,6 +1,6 @@
 -- `feed` meets its contract: a part ends inside the chunk, and what is held is held after each piece.
 use Rattle.std.proofs.Common.{◌≡◌, ◌+◌, ◌-◌, ◌^◌, ◌<◌, ◌≤◌, length, refl, ◌∙◌, zero-le}
-use Rattle.typeline.specs.Held.{Holds, chunk-short, inside-chunk, feed-less, feed-more, next_fits}
+use Rattle.typeline.specs.Held.{Holds, chunk-short, inside-chunk, feed-less, feed-more, next-fits}
 use Rattle.typeline.proofs.feed.Statement.{statement}
 use Rattle.typeline.proofs.feed.Tie as tie
 
@@ -29,7 +29,7 @@ piece-requires : tie.Need-piece-requires invariant-loop decreases-loop
 piece-requires c κs = let v = c.before.before.before.before.before.before.before.before.before.before.loop.invariant in (v.2, v.3, v.4)
 
 add-i : tie.Need-overflow-add-i invariant-loop decreases-loop
-add-i c = next_fits (length c.before.before.before.before.before.before.before.before.before.before.before.before.before.before.before.before.before.before.before.before.before.before.before.before.before.before.before.before.before.before.before.before.before.before.args.chunk.now) c.before.before.before.before.before.before.before.before.before.before.before.before.before.before.before.before.before.before.before.before.before.before.before.line-end.result c.before.before.before.before.before.before.before.before.before.before.before.before.before.before.before.before.before.before.before.before.before.before.before.line-end.ensures.1 c.before.before.before.before.before.before.before.before.before.before.before.before.before.before.before.before.before.before.before.before.before.before.before.before.before.loop.invariant.1
+add-i c = next-fits (length c.before.before.before.before.before.before.before.before.before.before.before.before.before.before.before.before.before.before.before.before.before.before.before.before.before.before.before.before.before.before.before.before.before.before.args.chunk.now) c.before.before.before.before.before.before.before.before.before.before.before.before.before.before.before.before.before.before.before.before.before.before.before.line-end.result c.before.before.before.before.before.before.before.before.before.before.before.before.before.before.before.before.before.before.before.before.before.before.before.line-end.ensures.1 c.before.before.before.before.before.before.before.before.before.before.before.before.before.before.before.before.before.before.before.before.before.before.before.before.before.loop.invariant.1
 
 loop-less : tie.Need-loop-smaller invariant-loop decreases-loop
 loop-less c = feed-less (length c.before.before.before.before.before.before.before.before.before.before.before.before.before.before.before.before.before.before.before.before.before.before.before.before.before.before.before.before.before.before.before.before.before.before.args.chunk.now) c.before.before.before.before.before.before.before.before.before.before.before.before.before.before.before.before.before.before.before.before.before.before.before.before.before.loop.i c.before.before.before.before.before.before.before.before.before.before.before.before.before.before.before.before.before.before.before.before.before.before.before.line-end.result c.before.before.before.before.before.before.before.before.before.before.before.before.before.before.before.before.before.before.before.before.before.before.before.before.loop-test.true c.before.before.before.before.before.before.before.before.before.before.before.before.before.before.before.before.before.before.before.before.before.before.before.line-end.ensures.0 c.before.before.before.before.before.before.before.before.before.before.before.before.before.before.before.before.before.before.before.before.before.before.before.line-end.ensures.1
@@ -37,8 +37,8 @@ loop-less c = feed-less (length c.before.before.before.before.before.before.befo
 loop-again : tie.Need-loop-preserved invariant-loop decreases-loop
 loop-again c = let v = c.before.before.before.before.before.before.before.before.before.before.before.before.before.before.before.before.before.before.before.before.before.before.before.before.before.loop.invariant in let y = c.before.before.before.before.before.before.before.before.before.before.before.before.before.before.piece in (feed-more (length c.before.before.before.before.before.before.before.before.before.before.before.before.before.before.before.before.before.before.before.before.before.before.before.before.before.before.before.before.before.before.before.before.before.before.args.chunk.now) c.before.before.before.before.before.before.before.before.before.before.before.before.before.before.before.before.before.before.before.before.before.before.before.line-end.result c.before.before.before.before.before.before.before.before.before.before.before.before.before.before.before.before.before.before.before.before.before.before.before.line-end.ensures.1, v.1, y.ensures.0, y.auto.1.1.1.0 ∙ v.3, y.ensures.1, y.auto.1.1.1.0 ∙ v.5, y.auto.1.1.1.1.0 ∙ v.6, y.auto.1.1.1.1.1.0 ∙ v.7, y.auto.1.1.1.1.1.1.0 ∙ v.8, y.auto.1.1.1.1.1.1.1.0 ∙ v.9, y.auto.1.1.1.1.1.1.1.1.0 ∙ v.10, y.auto.1.1.1.1.1.1.1.1.1.0 ∙ v.11)
 
-same_length : tie.Need-same-length invariant-loop decreases-loop
-same_length c = c.before.loop.invariant.5
+same-length : tie.Need-same-length invariant-loop decreases-loop
+same-length c = c.before.loop.invariant.5
 
 same-length-2 : tie.Need-same-length-2 invariant-loop decreases-loop
 same-length-2 c = c.before.loop.invariant.6
@@ -76,7 +76,7 @@ feed-spec =
     add-i
     loop-less
     loop-again
-    same_length
+    same-length
     same-length-2
     same-length-3
     same-length-4

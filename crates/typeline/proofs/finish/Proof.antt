@@ -7,8 +7,8 @@ use Rattle.typeline.proofs.finish.Tie as tie
 flush-requires : tie.Need-flush-requires
 flush-requires c κs = tt
 
-same_length : tie.Need-same-length
-same_length c = refl
+same-length : tie.Need-same-length
+same-length c = refl
 
 returns : tie.Need-returns
 returns c = tt
@@ -49,12 +49,12 @@ same-length-7 c = c.before.before.before.before.before.before.before.before.befo
 returns-2 : tie.Need-returns-2
 returns-2 c = tt
 
-pub finish_spec : {M : Type 1} → statement M
-finish_spec =
+pub finish-spec : {M : Type 1} → statement M
+finish-spec =
     tie.close
     (tie.spec
     flush-requires
-    same_length
+    same-length
     returns
     sub-whole
     part-whole-start

@@ -35,8 +35,8 @@ run-requires c κs = (holds-empty _ _ _ _ _ _ refl refl refl refl refl refl, len
 returns : tie.Need-returns
 returns c = tt
 
-pub main_spec : {M : Type 1} → statement M
-main_spec =
+pub main-spec : {M : Type 1} → statement M
+main-spec =
     tie.close
     (tie.spec
     slice-aggregate-run

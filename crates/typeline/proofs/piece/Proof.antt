@@ -1,6 +1,6 @@
 -- `piece` meets its contract: a whole line is answered, another waits.
 use Rattle.std.proofs.Common.{refl, zero-le}
-use Rattle.typeline.specs.Held.{holds_same, line-room, none-used, appended}
+use Rattle.typeline.specs.Held.{holds-same, line-room, none-used, appended}
 use Rattle.typeline.proofs.piece.Statement.{statement}
 use Rattle.typeline.proofs.piece.Tie as tie
 
@@ -19,8 +19,8 @@ part-whole-end c = c.before.before.before.before.append.ensures
 whole-requires : tie.Need-whole-requires
 whole-requires c κs = c.before.before.before.before.before.before.before.before.before.before.before.before.before.before.before.before.before.before.before.before.before.requires.0
 
-same_length : tie.Need-same-length
-same_length c = c.before.before.before.before.before.before.before.before.before.before.before.before.before.before.before.before.before.before.before.before.before.before.before.before.append.auto.0
+same-length : tie.Need-same-length
+same-length c = c.before.before.before.before.before.before.before.before.before.before.before.before.before.before.before.before.before.before.before.before.before.before.before.before.append.auto.0
 
 same-length-2 : tie.Need-same-length-2
 same-length-2 c = c.before.before.before.before.before.before.before.before.before.before.before.before.whole.auto.1.1.0
@@ -50,7 +50,7 @@ same-length-8 : tie.Need-same-length-8
 same-length-8 c = c.before.before.before.before.append.auto.0
 
 returns-2 : tie.Need-returns-2
-returns-2 c = let a = c.before.before.before.before.append in let u = c.with-used.ensures in (holds_same c.before.before.before.before.before.before.before.before.before.before.before.before.before.before.args.last.now c.before.before.before.before.before.before.before.before.before.before.before.before.before.before.args.pairs.now c.before.before.before.before.before.before.before.before.before.before.before.before.before.before.args.marks.now c.before.before.before.before.before.before.before.before.before.before.before.before.before.before.args.rows.now c.before.before.before.before.before.before.before.before.before.before.before.before.before.before.args.answers.now c.before.before.before.before.before.before.before.before.before.before.before.before.before.before.args.out.now c.before.before.before.before.before.before.before.before.before.before.before.before.before.before.args.s.numbers _ c.before.before.before.before.before.before.before.before.before.before.before.before.before.before.args.s.filled _ c.before.before.before.before.before.before.before.before.before.before.before.before.before.before.requires.0 u.0 u.2, appended a.result _ c.before.before.before.before.before.before.before.before.before.before.before.before.before.before.args.line.now a.new.0 a.ensures a.auto.0 c.before.before.before.before.before.before.before.before.before.before.before.before.before.before.requires.1 u.1)
+returns-2 c = let a = c.before.before.before.before.append in let u = c.with-used.ensures in (holds-same c.before.before.before.before.before.before.before.before.before.before.before.before.before.before.args.last.now c.before.before.before.before.before.before.before.before.before.before.before.before.before.before.args.pairs.now c.before.before.before.before.before.before.before.before.before.before.before.before.before.before.args.marks.now c.before.before.before.before.before.before.before.before.before.before.before.before.before.before.args.rows.now c.before.before.before.before.before.before.before.before.before.before.before.before.before.before.args.answers.now c.before.before.before.before.before.before.before.before.before.before.before.before.before.before.args.out.now c.before.before.before.before.before.before.before.before.before.before.before.before.before.before.args.s.numbers _ c.before.before.before.before.before.before.before.before.before.before.before.before.before.before.args.s.filled _ c.before.before.before.before.before.before.before.before.before.before.before.before.before.before.requires.0 u.0 u.2, appended a.result _ c.before.before.before.before.before.before.before.before.before.before.before.before.before.before.args.line.now a.new.0 a.ensures a.auto.0 c.before.before.before.before.before.before.before.before.before.before.before.before.before.before.requires.1 u.1)
 
 pub piece-spec : {M : Type 1} → statement M
 piece-spec =
@@ -61,7 +61,7 @@ piece-spec =
     part-whole-start
     part-whole-end
     whole-requires
-    same_length
+    same-length
     same-length-2
     same-length-3
     same-length-4

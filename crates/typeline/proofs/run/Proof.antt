@@ -1,6 +1,6 @@
 -- `run` meets its contract: it ends, by a count of turns that falls, and what is held is held after each read.
 use Rattle.std.proofs.Common.{◌≡◌, ◌≤◌, length, refl, ◌∙◌}
-use Rattle.typeline.specs.Held.{Holds, holds_same, none-used, turn-less}
+use Rattle.typeline.specs.Held.{Holds, holds-same, none-used, turn-less}
 use Rattle.typeline.proofs.run.Statement.{statement}
 use Rattle.typeline.proofs.run.Tie as tie
 
@@ -14,7 +14,7 @@ no-numbers-requires : tie.Need-no-numbers-requires invariant-loop decreases-loop
 no-numbers-requires c κs = tt
 
 loop-holds : tie.Need-loop-init invariant-loop decreases-loop
-loop-holds c = (holds_same c.before.before.before.before.before.before.before.before.before.args.last.now c.before.before.before.before.before.before.before.before.before.args.pairs.now c.before.before.before.before.before.before.before.before.before.args.marks.now c.before.before.before.before.before.before.before.before.before.args.rows.now c.before.before.before.before.before.before.before.before.before.args.answers.now c.before.before.before.before.before.before.before.before.before.args.out.now _ _ 0 0 c.before.before.before.before.before.before.before.before.before.requires.0 c.no-numbers.ensures refl, c.before.before.before.before.before.before.before.before.before.requires.1, none-used 0 refl, refl, refl, refl, refl, refl, refl, refl, refl)
+loop-holds c = (holds-same c.before.before.before.before.before.before.before.before.before.args.last.now c.before.before.before.before.before.before.before.before.before.args.pairs.now c.before.before.before.before.before.before.before.before.before.args.marks.now c.before.before.before.before.before.before.before.before.before.args.rows.now c.before.before.before.before.before.before.before.before.before.args.answers.now c.before.before.before.before.before.before.before.before.before.args.out.now _ _ 0 0 c.before.before.before.before.before.before.before.before.before.requires.0 c.no-numbers.ensures refl, c.before.before.before.before.before.before.before.before.before.requires.1, none-used 0 refl, refl, refl, refl, refl, refl, refl, refl, refl)
 
 some-requires : tie.Need-some-requires invariant-loop decreases-loop
 some-requires c κs = let v = c.before.before.before.before.before.before.before.before.before.before.before.loop.invariant in (v.0, v.1, v.2)
@@ -31,8 +31,8 @@ loop-again c = let v = c.before.before.before.before.before.before.before.before
 finish-requires : tie.Need-finish-requires invariant-loop decreases-loop
 finish-requires c κs = let v = c.before.before.before.before.before.before.before.before.loop.invariant in (v.0, v.1, v.2)
 
-same_length : tie.Need-same-length invariant-loop decreases-loop
-same_length c = c.before.before.before.before.before.before.before.before.before.before.before.before.before.before.before.before.before.before.before.before.before.loop.invariant.3
+same-length : tie.Need-same-length invariant-loop decreases-loop
+same-length c = c.before.before.before.before.before.before.before.before.before.before.before.before.before.before.before.before.before.before.before.before.before.loop.invariant.3
 
 same-length-2 : tie.Need-same-length-2 invariant-loop decreases-loop
 same-length-2 c = c.before.before.before.before.before.before.before.before.before.before.before.before.before.before.before.before.before.before.before.before.before.loop.invariant.4
@@ -58,8 +58,8 @@ same-length-8 c = c.before.before.before.before.before.before.before.before.befo
 returns : tie.Need-returns invariant-loop decreases-loop
 returns c = tt
 
-pub run_spec : {M : Type 1} → statement M
-run_spec =
+pub run-spec : {M : Type 1} → statement M
+run-spec =
     tie.close
     (tie.spec
     invariant-loop
@@ -71,7 +71,7 @@ run_spec =
     loop-less
     loop-again
     finish-requires
-    same_length
+    same-length
     same-length-2
     same-length-3
     same-length-4

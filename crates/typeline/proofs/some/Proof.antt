@@ -1,5 +1,5 @@
 -- `some` meets its contract: at the end nothing changes, and else what was read is fed.
-use Rattle.typeline.specs.Held.{holds_same, used-same}
+use Rattle.typeline.specs.Held.{holds-same, used-same}
 use Rattle.typeline.proofs.some.Statement.{statement}
 use Rattle.typeline.proofs.some.Tie as tie
 
@@ -12,11 +12,11 @@ count-requires c κs = tt
 at-end-requires : tie.Need-at-end-requires
 at-end-requires c κs = tt
 
-same_length : tie.Need-same-length
-same_length c = c.before.before.before.before.before.before.read.auto.1.0
+same-length : tie.Need-same-length
+same-length c = c.before.before.before.before.before.before.read.auto.1.0
 
 returns : tie.Need-returns
-returns c = let u = c.at-end.ensures in (holds_same c.before.before.before.before.before.before.before.before.before.before.before.before.before.before.before.before.args.last.now c.before.before.before.before.before.before.before.before.before.before.before.before.before.before.before.before.args.pairs.now c.before.before.before.before.before.before.before.before.before.before.before.before.before.before.before.before.args.marks.now c.before.before.before.before.before.before.before.before.before.before.before.before.before.before.before.before.args.rows.now c.before.before.before.before.before.before.before.before.before.before.before.before.before.before.before.before.args.answers.now c.before.before.before.before.before.before.before.before.before.before.before.before.before.before.before.before.args.out.now c.before.before.before.before.before.before.before.before.before.before.before.before.before.before.before.before.args.s.numbers _ c.before.before.before.before.before.before.before.before.before.before.before.before.before.before.before.before.args.s.filled _ c.before.before.before.before.before.before.before.before.before.before.before.before.before.before.before.before.requires.0 u.0 u.2, used-same _ _ u.1 c.before.before.before.before.before.before.before.before.before.before.before.before.before.before.before.before.requires.2)
+returns c = let u = c.at-end.ensures in (holds-same c.before.before.before.before.before.before.before.before.before.before.before.before.before.before.before.before.args.last.now c.before.before.before.before.before.before.before.before.before.before.before.before.before.before.before.before.args.pairs.now c.before.before.before.before.before.before.before.before.before.before.before.before.before.before.before.before.args.marks.now c.before.before.before.before.before.before.before.before.before.before.before.before.before.before.before.before.args.rows.now c.before.before.before.before.before.before.before.before.before.before.before.before.before.before.before.before.args.answers.now c.before.before.before.before.before.before.before.before.before.before.before.before.before.before.before.before.args.out.now c.before.before.before.before.before.before.before.before.before.before.before.before.before.before.before.before.args.s.numbers _ c.before.before.before.before.before.before.before.before.before.before.before.before.before.before.before.before.args.s.filled _ c.before.before.before.before.before.before.before.before.before.before.before.before.before.before.before.before.requires.0 u.0 u.2, used-same _ _ u.1 c.before.before.before.before.before.before.before.before.before.before.before.before.before.before.before.before.requires.2)
 
 slice-reshare-prefix-feed : tie.Need-slice-reshare-prefix-feed
 slice-reshare-prefix-feed c = c.before.count.ensures.0.0
@@ -61,7 +61,7 @@ some-spec =
     read-requires
     count-requires
     at-end-requires
-    same_length
+    same-length
     returns
     slice-reshare-prefix-feed
     slice-aggregate-feed

@@ -13,8 +13,8 @@ say-line-requires c κs = let p = c.before.before.before.before.before.before.be
 room-requires : tie.Need-room-requires
 room-requires c κs = tt
 
-same_length : tie.Need-same-length
-same_length c = c.before.before.before.before.before.before.before.before.before.before.before.before.before.before.before.say-line.auto.1.1.0
+same-length : tie.Need-same-length
+same-length c = c.before.before.before.before.before.before.before.before.before.before.before.before.before.before.before.say-line.auto.1.1.0
 
 same-length-2 : tie.Need-same-length-2
 same-length-2 c = c.before.before.before.before.before.before.before.before.before.before.before.before.before.before.before.say-line.auto.1.1.1.0
@@ -41,7 +41,7 @@ whole-spec =
     wrapping-add-u64-requires
     say-line-requires
     room-requires
-    same_length
+    same-length
     same-length-2
     same-length-3
     same-length-4

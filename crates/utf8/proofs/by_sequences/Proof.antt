@@ -6,13 +6,13 @@ use Prim.Native.Nat.{◌+◌, ◌-◌, ◌≤◌}
 use native.Mathlib.Omega.{arith}
 use lib.ListN.{length}
 use lib.Seq.{slice}
-use Rattle.utf8.specs.Utf8.{validPrefix}
-use Rattle.utf8.proofs.Part.{pass-in, pass_step, pass-stop, pass-end}
+use Rattle.utf8.specs.Utf8.{valid_prefix}
+use Rattle.utf8.proofs.Part.{pass-in, pass-step, pass-stop, pass-end}
 use Rattle.utf8.proofs.by_sequences.Statement.{statement}
 use Rattle.utf8.proofs.by_sequences.Tie as tie
 
 abbrev invariant-loop : tie.invariant-loop
-invariant-loop s from to i₀ i = (i ≤ to) × (to ≤ length s) × (from + validPrefix (slice from to s) ≡ i + validPrefix (slice i to s))
+invariant-loop s from to i₀ i = (i ≤ to) × (to ≤ length s) × (from + valid_prefix (slice from to s) ≡ i + valid_prefix (slice i to s))
 
 abbrev decreases-loop : tie.decreases-loop
 decreases-loop s from to i₀ i = to - i
@@ -46,7 +46,7 @@ loop-again c =
     let e = c.before.sequence-at.ensures in (
       pass-in a.s.now l.i a.to l.invariant.1 l.invariant.0 e,
       l.invariant.1,
-      l.invariant.2 ∙ pass_step a.s.now l.i a.to l.invariant.1 e c.if1.false,
+      l.invariant.2 ∙ pass-step a.s.now l.i a.to l.invariant.1 e c.if1.false,
     )
 
 returns-2 : tie.Need-returns-2 invariant-loop decreases-loop

@@ -3,7 +3,7 @@ use mathlib.Core.Path.{refl, sym}
 use native.Mathlib.Omega.{arith}
 use Rattle.utf8.specs.Utf8.{table}
 use Rattle.utf8.specs.Rows.{sequence-gap, sequence-past}
-use Rattle.utf8.proofs.Part.{by_row}
+use Rattle.utf8.proofs.Part.{by-row}
 use borrow.Author.Rules.{rules}
 use Rattle.utf8.proofs.longer.Statement.{statement}
 use Rattle.utf8.proofs.longer.Tie as tie
@@ -58,35 +58,35 @@ length-if-requires-8 c κs = search rules
 
 returns : tie.Need-returns
 unfolding table
-returns c = by_row 2 _ refl (omega arith) (omega arith) c.before.two.ensures c.length-if.ensures
+returns c = by-row 2 _ refl (omega arith) (omega arith) c.before.two.ensures c.length-if.ensures
 
 returns-2 : tie.Need-returns-2
 unfolding table
-returns-2 c = by_row 4 _ refl (omega arith) (omega arith) c.before.two2.ensures c.length-if2.ensures
+returns-2 c = by-row 4 _ refl (omega arith) (omega arith) c.before.two2.ensures c.length-if2.ensures
 
 returns-3 : tie.Need-returns-3
 unfolding table
-returns-3 c = by_row 6 _ refl (omega arith) (omega arith) c.before.three.ensures c.length-if3.ensures
+returns-3 c = by-row 6 _ refl (omega arith) (omega arith) c.before.three.ensures c.length-if3.ensures
 
 returns-4 : tie.Need-returns-4
 unfolding table
-returns-4 c = by_row 8 _ refl (omega arith) (omega arith) c.before.three2.ensures c.length-if4.ensures
+returns-4 c = by-row 8 _ refl (omega arith) (omega arith) c.before.three2.ensures c.length-if4.ensures
 
 returns-5 : tie.Need-returns-5
 unfolding table
-returns-5 c = by_row 1 _ refl (omega arith) (omega arith) c.before.one.ensures c.length-if5.ensures
+returns-5 c = by-row 1 _ refl (omega arith) (omega arith) c.before.one.ensures c.length-if5.ensures
 
 returns-6 : tie.Need-returns-6
 unfolding table
-returns-6 c = by_row 3 _ refl (omega arith) (omega arith) c.before.two3.ensures c.length-if6.ensures
+returns-6 c = by-row 3 _ refl (omega arith) (omega arith) c.before.two3.ensures c.length-if6.ensures
 
 returns-7 : tie.Need-returns-7
 unfolding table
-returns-7 c = by_row 5 _ refl (omega arith) (omega arith) c.before.two4.ensures c.length-if7.ensures
+returns-7 c = by-row 5 _ refl (omega arith) (omega arith) c.before.two4.ensures c.length-if7.ensures
 
 returns-8 : tie.Need-returns-8
 unfolding table
-returns-8 c = by_row 7 _ refl (omega arith) (omega arith) c.before.three3.ensures c.length-if8.ensures
+returns-8 c = by-row 7 _ refl (omega arith) (omega arith) c.before.three3.ensures c.length-if8.ensures
 
 returns-9 : tie.Need-returns-9
 returns-9 c = sym (sequence-gap _ _ c.before.before.before.requires.0 c.if1.true)

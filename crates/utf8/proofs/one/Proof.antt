@@ -27,5 +27,5 @@ returns-3 c =
     let a = c.before.args in
     sym (match-past (a.lo ‥ a.hi) a.s.now a.i a.to c.before.requires c.if1.false)
 
-pub one_spec : {M : Type 1} → statement M
-one_spec = tie.close (tie.spec shared-slice-read-b returns returns-2 returns-3)
+pub one-spec : {M : Type 1} → statement M
+one-spec = tie.close (tie.spec shared-slice-read-b returns returns-2 returns-3)

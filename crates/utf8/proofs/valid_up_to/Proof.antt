@@ -3,8 +3,8 @@ use borrow.Author.Rules.{rules}
 use mathlib.Core.Path.{sym, ap, ◌∙◌}
 use mathlib.Core.List.{List}
 use Prim.Native.Nat.{ℕ, ◌+◌}
-use Rattle.utf8.specs.Utf8.{validPrefix}
-use Rattle.utf8.proofs.Part.{part_slice, ascii-part}
+use Rattle.utf8.specs.Utf8.{valid_prefix}
+use Rattle.utf8.proofs.Part.{part-slice, ascii-part}
 use Rattle.utf8.proofs.valid_up_to.Statement.{statement}
 use Rattle.utf8.proofs.valid_up_to.Tie as tie
 
@@ -27,13 +27,13 @@ returns-2 : tie.Need-returns-2
 returns-2 c =
     let b = c.before.before.before.before.before in
     let a = b.args in
-    sym (ap (λ (l : List ℕ). a.from + validPrefix l) (part_slice a.from a.to a.s.now b.requires.0) ∙ c.before.is-clean.ensures c.if2.true)
+    sym (ap (λ (l : List ℕ). a.from + valid_prefix l) (part-slice a.from a.to a.s.now b.requires.0) ∙ c.before.is-clean.ensures c.if2.true)
 
 returns-3 : tie.Need-returns-3
 returns-3 c =
     let b = c.before.before.before.before.before.before in
     let a = b.args in
-    c.by-sequences.ensures ∙ sym (ap (λ (l : List ℕ). a.from + validPrefix l) (part_slice a.from a.to a.s.now b.requires.0))
+    c.by-sequences.ensures ∙ sym (ap (λ (l : List ℕ). a.from + valid_prefix l) (part-slice a.from a.to a.s.now b.requires.0))
 
 pub valid-up-to-spec : {M : Type 1} → statement M
 valid-up-to-spec =

@@ -5,7 +5,7 @@ use Prim.Native.Nat.{ℕ}
 use mathlib.Core.List.{[], ◌∷◌}
 use native.Mathlib.Omega.{arith}
 use lib.ListN.{length}
-use Rattle.writer.specs.Store.{put_as, put_byte}
+use Rattle.writer.specs.Store.{put-as, put_byte}
 use Rattle.writer.specs.Steps.{category-low, class-inside, class-length, print-category, print-class, print-unknown}
 use Rattle.writer.proofs.put_base.Statement.{statement}
 use Rattle.writer.proofs.put_base.Tie as tie
@@ -26,13 +26,13 @@ slice-write-out c =
 add-result : tie.Need-overflow-add-result
 add-result c = search rules
 
-same_length : tie.Need-same-length
-same_length c = search rules
+same-length : tie.Need-same-length
+same-length c = search rules
 
 returns : tie.Need-returns
 returns c =
     let a = c.before.before.before.before.before.before.args in
-    put_as
+    put-as
     (print-category a.names.now a.name-at.now a.name-len.now a.tag a.load c.before.if1.true
     ∙ ap (λ (b : ℕ). b ∷ []) (sym c.letter.ensures))
     (put_byte c.letter.result a.out.now a.at)
@@ -79,7 +79,7 @@ same-length-2 c = search rules
 returns-2 : tie.Need-returns-2
 returns-2 c =
     let a = c.before.before.before.before.before.before.before.before.before.before.before.before.args in
-    put_as (print-class a.names.now a.name-at.now a.name-len.now a.tag a.load c.before.before.before.before.before.before.if2.true) c.before.before.put-class.ensures
+    put-as (print-class a.names.now a.name-at.now a.name-len.now a.tag a.load c.before.before.before.before.before.before.if2.true) c.before.before.put-class.ensures
 
 slice-write-out-2 : tie.Need-slice-write-out-2
 slice-write-out-2 c =
@@ -97,7 +97,7 @@ same-length-3 c = search rules
 returns-3 : tie.Need-returns-3
 returns-3 c =
     let a = c.before.before.before.before.before.before.args in
-    put_as (print-unknown a.names.now a.name-at.now a.name-len.now a.tag a.load c.before.if1.false c.if2.false) (put_byte 63 a.out.now a.at)
+    put-as (print-unknown a.names.now a.name-at.now a.name-len.now a.tag a.load c.before.if1.false c.if2.false) (put_byte 63 a.out.now a.at)
 
 pub put-base-spec : {M : Type 1} → statement M
 put-base-spec =
@@ -106,7 +106,7 @@ put-base-spec =
     letter-requires
     slice-write-out
     add-result
-    same_length
+    same-length
     returns
     mul-from
     shared-slice-read-from

@@ -40,8 +40,8 @@ loop-again c =
       l.invariant.2 ∙ store-next (replicate a.dims 91) l.out a.at l.i 91 (omega arith) (get_or-replicate a.dims l.i 91 0 (omega arith)),
     )
 
-same_length : tie.Need-same-length invariant-loop decreases-loop
-same_length c = c.before.loop.invariant.1
+same-length : tie.Need-same-length invariant-loop decreases-loop
+same-length c = c.before.loop.invariant.1
 
 returns : tie.Need-returns invariant-loop decreases-loop
 returns c =
@@ -62,5 +62,5 @@ put-brackets-spec =
     add-i
     loop-less
     loop-again
-    same_length
+    same-length
     returns)

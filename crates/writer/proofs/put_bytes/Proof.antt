@@ -48,8 +48,8 @@ loop-again c =
           (get_or-take a.n (drop a.from a.bytes.now) l.i 0 (omega arith) ∙ get_or-drop a.from a.bytes.now l.i 0),
     )
 
-same_length : tie.Need-same-length invariant-loop decreases-loop
-same_length c = c.before.loop.invariant.1
+same-length : tie.Need-same-length invariant-loop decreases-loop
+same-length c = c.before.loop.invariant.1
 
 returns : tie.Need-returns invariant-loop decreases-loop
 returns c =
@@ -73,5 +73,5 @@ put-bytes-spec =
     add-i
     loop-less
     loop-again
-    same_length
+    same-length
     returns)

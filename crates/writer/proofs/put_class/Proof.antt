@@ -3,7 +3,7 @@ use borrow.Author.Rules.{rules}
 use native.Mathlib.Omega.{arith}
 use lib.ListN.{take, drop, length-set, length-drop}
 use lib.Seq.{length-take-le}
-use Rattle.writer.specs.Store.{put_of, put_byte, put-append, put-length}
+use Rattle.writer.specs.Store.{put-of, put_byte, put-append, put-length}
 use Rattle.writer.proofs.put_class.Statement.{statement}
 use Rattle.writer.proofs.put_class.Tie as tie
 
@@ -12,7 +12,7 @@ returns c =
     let a = c.before.before.before.before.before.before.args in
     let d = length-drop a.from a.bytes.now in
     let n = length-take-le a.n (drop a.from a.bytes.now) (omega arith) in
-    put-append (put_byte 76 a.out.now a.at) (put-append {xs = take a.n (drop a.from a.bytes.now)} (put_of n c.before.before.put-bytes.ensures) (put_byte 59 _ _))
+    put-append (put_byte 76 a.out.now a.at) (put-append {xs = take a.n (drop a.from a.bytes.now)} (put-of n c.before.before.put-bytes.ensures) (put_byte 59 _ _))
 
 slice-write-out : tie.Need-slice-write-out
 slice-write-out c = search rules
@@ -39,8 +39,8 @@ slice-write-out-2 c =
 add-result : tie.Need-overflow-add-result
 add-result c = search rules
 
-same_length : tie.Need-same-length
-same_length c = put-length (returns c)
+same-length : tie.Need-same-length
+same-length c = put-length (returns c)
 
 pub put-class-spec : {M : Type 1} → statement M
 put-class-spec =
@@ -53,5 +53,5 @@ put-class-spec =
     add-end-2
     slice-write-out-2
     add-result
-    same_length
+    same-length
     returns)

@@ -1,8 +1,8 @@
 -- `put_method` meets its contract: '(', the parameters, ')', the result.
 use native.Mathlib.Omega.{arith}
 use lib.ListN.{length-set}
-use Rattle.writer.specs.Print.{printWords}
-use Rattle.writer.specs.Store.{put_as, put_byte, put-append, put-length}
+use Rattle.writer.specs.Print.{print_words}
+use Rattle.writer.specs.Store.{put-as, put_byte, put-append, put-length}
 use Rattle.writer.specs.Steps.{print-method, method-parts}
 use Rattle.writer.proofs.put_method.Statement.{statement}
 use Rattle.writer.proofs.put_method.Tie as tie
@@ -10,9 +10,9 @@ use Rattle.writer.proofs.put_method.Tie as tie
 returns : tie.Need-returns
 returns c =
     let a = c.before.before.before.before.before.before.before.before.before.before.before.before.before.args in
-    put_as (print-method a.names.now a.name-at.now a.name-len.now a.params.now a.result)
+    put-as (print-method a.names.now a.name-at.now a.name-len.now a.params.now a.result)
     (put-append (put_byte 40 a.out.now 0)
-    (put-append {xs = printWords a.names.now a.name-at.now a.name-len.now a.params.now} c.before.before.before.before.before.before.put-types.ensures
+    (put-append {xs = print_words a.names.now a.name-at.now a.name-len.now a.params.now} c.before.before.before.before.before.before.put-types.ensures
     (put-append (put_byte 41 _ _) c.before.before.put-type.ensures)))
 
 slice-write-out : tie.Need-slice-write-out
@@ -57,8 +57,8 @@ put-type-requires c κs =
     let n = c.before.before.before.put-types.ensures.next in
     (p.0, p.2, simp length-set (omega arith))
 
-same_length : tie.Need-same-length
-same_length c = put-length (returns c)
+same-length : tie.Need-same-length
+same-length c = put-length (returns c)
 
 pub put-method-spec : {M : Type 1} → statement M
 put-method-spec =
@@ -69,5 +69,5 @@ put-method-spec =
     slice-write-out-2
     add-put-type
     put-type-requires
-    same_length
+    same-length
     returns)

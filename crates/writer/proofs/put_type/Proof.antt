@@ -3,8 +3,8 @@ use borrow.Author.Rules.{rules}
 use Prim.Native.Nat.{ℕ}
 use native.Mathlib.Omega.{arith}
 use lib.ListN.{replicate, length-replicate}
-use Rattle.ty.specs.Words.{dimsOf, legalWord}
-use Rattle.writer.specs.Store.{put_as, put_of, put-append}
+use Rattle.ty.specs.Words.{dims_of, legal_word}
+use Rattle.writer.specs.Store.{put-as, put-of, put-append}
 use Rattle.writer.specs.Steps.{print-word, word-parts}
 use Rattle.writer.proofs.put_type.Statement.{statement}
 use Rattle.writer.proofs.put_type.Tie as tie
@@ -20,7 +20,7 @@ add-put-base : tie.Need-overflow-add-put-base
 add-put-base c = search rules
 
 put-base-requires : tie.Need-put-base-requires
-unfolding legalWord
+unfolding legal_word
 put-base-requires c κs =
     let a = c.before.before.before.before.before.before.before.before.before.args in
     let p = c.before.before.before.before.before.before.before.before.before.requires in
@@ -28,16 +28,16 @@ put-base-requires c κs =
     let e = word-parts a.names.now a.name-at.now a.name-len.now a.word in
     (p.0, p.1, omega arith)
 
-same_length : tie.Need-same-length
-same_length c = search rules
+same-length : tie.Need-same-length
+same-length c = search rules
 
 returns : tie.Need-returns
 returns c =
     let a = c.before.before.before.before.before.before.before.before.before.before.before.before.args in
-    put_as (print-word a.names.now a.name-at.now a.name-len.now a.word)
-    (put-append {xs = replicate (dimsOf a.word) 91} (put_of (length-replicate {A = ℕ} (dimsOf a.word) 91) c.before.before.before.before.before.before.put-brackets.ensures)
+    put-as (print-word a.names.now a.name-at.now a.name-len.now a.word)
+    (put-append {xs = replicate (dims_of a.word) 91} (put-of (length-replicate {A = ℕ} (dims_of a.word) 91) c.before.before.before.before.before.before.put-brackets.ensures)
     c.before.before.put-base.ensures)
 
 pub put-type-spec : {M : Type 1} → statement M
 put-type-spec =
-    tie.close (tie.spec put-brackets-requires add-put-base put-base-requires same_length returns)
+    tie.close (tie.spec put-brackets-requires add-put-base put-base-requires same-length returns)

@@ -7,8 +7,8 @@ use mathlib.Core.Bool.{true}
 use mathlib.Core.List.{List}
 use lib.ListN.{length, drop, get_or, length-append}
 use lib.Seq.{sets}
-use Rattle.ty.specs.Words.{allLegal}
-use Rattle.writer.specs.Print.{printWord, printWords}
+use Rattle.ty.specs.Words.{all_legal}
+use Rattle.writer.specs.Print.{print_word, print_words}
 use Rattle.writer.specs.Store.{put-before, put-length}
 use Rattle.writer.specs.Steps.{legal-front, words-next, words-none}
 use Rattle.writer.proofs.put_types.Statement.{statement}
@@ -17,9 +17,9 @@ use Rattle.writer.proofs.put_types.Tie as tie
 abbrev invariant-loop : tie.invariant-loop
 invariant-loop names ats lens words out₀ at next₀ i₀ out next i = (i ≤ length words)
     × (length out ≡ length out₀)
-    × (allLegal (length ats) (drop i words) ≡ true)
-    × (at + length (printWords names ats lens words) ≡ next + length (printWords names ats lens (drop i words)))
-    × (sets out₀ at (printWords names ats lens words) ≡ sets out next (printWords names ats lens (drop i words)))
+    × (all_legal (length ats) (drop i words) ≡ true)
+    × (at + length (print_words names ats lens words) ≡ next + length (print_words names ats lens (drop i words)))
+    × (sets out₀ at (print_words names ats lens words) ≡ sets out next (print_words names ats lens (drop i words)))
 
 abbrev decreases-loop : tie.decreases-loop
 decreases-loop names ats lens words out₀ at next₀ i₀ out next i = length words - i
@@ -39,7 +39,7 @@ put-type-requires c κs =
     let p = c.before.before.before.before.before.before.before.before.before.requires in
     let l = c.before.before.before.loop in
     let e = ap length (words-next a.names.now a.name-at.now a.name-len.now a.words.now l.i (omega arith)) in
-    let n = length-append (printWord a.names.now a.name-at.now a.name-len.now (get_or a.words.now l.i 0)) (printWords a.names.now a.name-at.now a.name-len.now (drop (l.i + 1) a.words.now)) in
+    let n = length-append (print_word a.names.now a.name-at.now a.name-len.now (get_or a.words.now l.i 0)) (print_words a.names.now a.name-at.now a.name-len.now (drop (l.i + 1) a.words.now)) in
     (p.0, (legal-front (length a.name-at.now) a.words.now l.i (omega arith) l.invariant.2).0, omega arith)
 
 add-i : tie.Need-overflow-add-i invariant-loop decreases-loop
@@ -54,9 +54,9 @@ loop-again c =
     let l = c.before.before.before.before.before.before.loop in
     let put = c.before.before.put-type.ensures in
     let w = words-next a.names.now a.name-at.now a.name-len.now a.words.now l.i (omega arith) in
-    let rest = printWords a.names.now a.name-at.now a.name-len.now (drop (l.i + 1) a.words.now) in
+    let rest = print_words a.names.now a.name-at.now a.name-len.now (drop (l.i + 1) a.words.now) in
     let e = ap length w in
-    let n = length-append (printWord a.names.now a.name-at.now a.name-len.now (get_or a.words.now l.i 0)) rest in
+    let n = length-append (print_word a.names.now a.name-at.now a.name-len.now (get_or a.words.now l.i 0)) rest in
     let q = put.next in (
       omega arith,
       put-length put ∙ l.invariant.1,
@@ -65,8 +65,8 @@ loop-again c =
       l.invariant.4 ∙ ap (λ (xs : List ℕ). sets l.out l.next xs) w ∙ put-before put rest,
     )
 
-same_length : tie.Need-same-length invariant-loop decreases-loop
-same_length c = c.before.loop.invariant.1
+same-length : tie.Need-same-length invariant-loop decreases-loop
+same-length c = c.before.loop.invariant.1
 
 returns : tie.Need-returns invariant-loop decreases-loop
 returns c =
@@ -89,5 +89,5 @@ put-types-spec =
     add-i
     loop-less
     loop-again
-    same_length
+    same-length
     returns)

@@ -3,7 +3,7 @@ use borrow.Author.Rules.{rules}
 use native.Mathlib.Omega.{arith}
 use lib.ListN.{length}
 use Rattle.ty.specs.Words.{load_of}
-use Rattle.writer.specs.Steps.{legal-inside, class-size, plain_size}
+use Rattle.writer.specs.Steps.{legal-inside, class-size, plain-size}
 use Rattle.writer.proofs.type_length.Statement.{statement}
 use Rattle.writer.proofs.type_length.Tie as tie
 
@@ -43,7 +43,7 @@ add-result-3 c = search rules
 returns-2 : tie.Need-returns-2
 returns-2 c =
     let A = c.before.args in
-    (plain_size A.name-len.now A.word c.if1.false, omega arith)
+    (plain-size A.name-len.now A.word c.if1.false, omega arith)
 
 pub type-length-spec : {M : Type 1} → statement M
 type-length-spec =

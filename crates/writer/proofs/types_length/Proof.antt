@@ -5,16 +5,16 @@ use Prim.Native.Nat.{◌≤◌, ◌+◌, ◌-◌, ◌*◌}
 use native.Mathlib.Omega.{arith}
 use mathlib.Core.Bool.{true}
 use lib.ListN.{length, drop}
-use Rattle.ty.specs.Words.{allLegal}
-use Rattle.writer.specs.Steps.{wordsSize, size-next, size_none, legal-front}
+use Rattle.ty.specs.Words.{all_legal}
+use Rattle.writer.specs.Steps.{words_size, size-next, size-none, legal-front}
 use Rattle.writer.proofs.types_length.Statement.{statement}
 use Rattle.writer.proofs.types_length.Tie as tie
 
 abbrev invariant-loop : tie.invariant-loop
 invariant-loop lens words n₀ i₀ n i = (i ≤ length words)
     × (n ≤ 512 * i)
-    × (wordsSize lens words ≡ n + wordsSize lens (drop i words))
-    × (allLegal (length lens) (drop i words) ≡ true)
+    × (words_size lens words ≡ n + words_size lens (drop i words))
+    × (all_legal (length lens) (drop i words) ≡ true)
 
 abbrev decreases-loop : tie.decreases-loop
 decreases-loop lens words n₀ i₀ n i = length words - i
@@ -55,7 +55,7 @@ returns : tie.Need-returns invariant-loop decreases-loop
 returns c =
     let a = c.before.before.before.before.args in
     let l = c.before.loop in
-    let e = size_none a.name-len.now a.words.now l.i (omega arith) in
+    let e = size-none a.name-len.now a.words.now l.i (omega arith) in
     (omega arith, omega arith)
 
 pub types-length-spec : {M : Type 1} → statement M

@@ -4,8 +4,8 @@ use mathlib.Core.Path.{sym, ap, ◌∙◌}
 use Prim.Native.Nat.{ℕ}
 use native.Mathlib.Omega.{arith}
 use lib.ListN.{length}
-use Rattle.ty.specs.Words.{legalWord}
-use Rattle.writer.specs.Steps.{holds, fails, checked-short, word-size, type-illegal, type-long, type-fits, wrote_none, wrote-all}
+use Rattle.ty.specs.Words.{legal_word}
+use Rattle.writer.specs.Steps.{holds, fails, checked-short, word-size, type-illegal, type-long, type-fits, wrote-none, wrote-all}
 use Rattle.writer.proofs.write_checked_type.Statement.{statement}
 use Rattle.writer.proofs.write_checked_type.Tie as tie
 
@@ -18,14 +18,14 @@ refused-requires c κs = search rules
 returns : tie.Need-returns
 returns c =
     let a = c.before.before.before.before.before.before.before.args in
-    wrote_none 7 (type-illegal a.names.now a.name-at.now a.name-len.now a.word (length a.out.now) (fails c.before.before.is-legal.ensures c.before.if1.true))
+    wrote-none 7 (type-illegal a.names.now a.name-at.now a.name-len.now a.word (length a.out.now) (fails c.before.before.is-legal.ensures c.before.if1.true))
     (λ z. omega arith) c.refused.ensures
 
 type-length-requires : tie.Need-type-length-requires
 type-length-requires c κs =
     let a = c.before.before.before.before.before.before.args in
     let p = c.before.before.before.before.before.before.requires in
-    (checked-short p, ap (λ (n : ℕ). legalWord n a.word) (sym p.columns) ∙ holds c.before.is-legal.ensures c.if1.false)
+    (checked-short p, ap (λ (n : ℕ). legal_word n a.word) (sym p.columns) ∙ holds c.before.is-legal.ensures c.if1.false)
 
 refused-requires-2 : tie.Need-refused-requires-2
 refused-requires-2 c κs = search rules
@@ -37,7 +37,7 @@ returns-2 c =
     let h = holds c.before.before.before.before.is-legal.ensures c.before.before.before.if1.false in
     let s = word-size a.names.now a.name-at.now a.name-len.now p a.word h in
     let r = c.before.before.type-length.ensures in
-    wrote_none 22 (type-long a.names.now a.name-at.now a.name-len.now a.word (length a.out.now) h (omega arith)) (λ z. omega arith) c.refused2.ensures
+    wrote-none 22 (type-long a.names.now a.name-at.now a.name-len.now a.word (length a.out.now) h (omega arith)) (λ z. omega arith) c.refused2.ensures
 
 put-type-requires : tie.Need-put-type-requires
 put-type-requires c κs =
@@ -48,8 +48,8 @@ put-type-requires c κs =
     let r = c.before.before.type-length.ensures in
     (p, h, omega arith)
 
-same_length : tie.Need-same-length
-same_length c = search rules
+same-length : tie.Need-same-length
+same-length c = search rules
 
 returns-3 : tie.Need-returns-3
 returns-3 c =
@@ -71,5 +71,5 @@ write-checked-type-spec =
     refused-requires-2
     returns-2
     put-type-requires
-    same_length
+    same-length
     returns-3)

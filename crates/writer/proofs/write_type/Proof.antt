@@ -3,7 +3,7 @@ use borrow.Author.Rules.{rules}
 use mathlib.Core.Path.{sym, ◌∙◌}
 use lib.ListN.{length}
 use Rattle.names.specs.Table.{checked}
-use Rattle.writer.specs.Steps.{type-unnamed, type-named, wrote_none, wrote_as}
+use Rattle.writer.specs.Steps.{type-unnamed, type-named, wrote-none, wrote-as}
 use Rattle.writer.proofs.write_type.Statement.{statement}
 use Rattle.writer.proofs.write_type.Tie as tie
 
@@ -17,7 +17,7 @@ returns : tie.Need-returns
 returns c =
     let a = c.before.before.before.before.before.before.before.args in
     let k = c.before.before.check-names in
-    wrote_none k.result (type-unnamed a.names.now a.name-at.now a.name-len.now k.result k.ensures a.word (length a.out.now) c.before.if1.true)
+    wrote-none k.result (type-unnamed a.names.now a.name-at.now a.name-len.now k.result k.ensures a.word (length a.out.now) c.before.if1.true)
     c.before.if1.true c.refused.ensures
 
 write-checked-type-requires : tie.Need-write-checked-type-requires
@@ -25,14 +25,14 @@ write-checked-type-requires c κs =
     let a = c.before.before.before.before.before.before.before.args in
     checked a.names.now a.name-at.now a.name-len.now (sym c.before.before.check-names.ensures ∙ c.before.if1.false)
 
-same_length : tie.Need-same-length
-same_length c = search rules
+same-length : tie.Need-same-length
+same-length c = search rules
 
 returns-2 : tie.Need-returns-2
 returns-2 c =
     let a = c.before.before.before.before.before.before.before.before.before.before.args in
     let k = c.before.before.before.before.before.check-names in
-    wrote_as (type-named a.names.now a.name-at.now a.name-len.now k.result k.ensures a.word (length a.out.now) c.before.before.before.before.if1.false)
+    wrote-as (type-named a.names.now a.name-at.now a.name-len.now k.result k.ensures a.word (length a.out.now) c.before.before.before.before.if1.false)
     c.before.before.write-checked-type.ensures
 
 pub write-type-spec : {M : Type 1} → statement M
@@ -43,5 +43,5 @@ write-type-spec =
     refused-requires
     returns
     write-checked-type-requires
-    same_length
+    same-length
     returns-2)

@@ -33,8 +33,8 @@ loop-less c = search rules
 loop-again : tie.Need-loop-preserved invariant-loop decreases-loop
 loop-again c = simp length-set (search rules)
 
-same_length : tie.Need-same-length invariant-loop decreases-loop
-same_length c = search rules
+same-length : tie.Need-same-length invariant-loop decreases-loop
+same-length c = search rules
 
 returns : tie.Need-returns invariant-loop decreases-loop
 returns c = search rules
@@ -45,8 +45,8 @@ same-length-2 c = search rules
 returns-2 : tie.Need-returns-2 invariant-loop decreases-loop
 returns-2 c = search rules
 
-pub copy_spec : {M : Type 1} → statement M
-copy_spec =
+pub copy-spec : {M : Type 1} → statement M
+copy-spec =
     tie.close
     (tie.spec
     invariant-loop
@@ -59,7 +59,7 @@ copy_spec =
     add-i
     loop-less
     loop-again
-    same_length
+    same-length
     returns
     same-length-2
     returns-2)

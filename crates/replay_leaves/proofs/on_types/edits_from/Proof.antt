@@ -12,11 +12,11 @@ decreases-loop names w from bits₀ i₀ bits i = 64 - i
 loop-holds : tie.Need-loop-init invariant-loop decreases-loop
 loop-holds c = search rules
 
-add_at : tie.Need-overflow-add-at invariant-loop decreases-loop
-add_at c = search rules
+add-at : tie.Need-overflow-add-at invariant-loop decreases-loop
+add-at c = search rules
 
-mul_at : tie.Need-overflow-mul-at invariant-loop decreases-loop
-mul_at c = search rules
+mul-at : tie.Need-overflow-mul-at invariant-loop decreases-loop
+mul-at c = search rules
 
 shl-is-legal : tie.Need-overflow-shl-is-legal invariant-loop decreases-loop
 shl-is-legal c = search rules
@@ -46,8 +46,8 @@ edits-from-spec =
     invariant-loop
     decreases-loop
     loop-holds
-    add_at
-    mul_at
+    add-at
+    mul-at
     shl-is-legal
     is-legal-requires
     shl-bits

@@ -10,8 +10,8 @@ decode-requires c κs = search rules
 enum-known-s : tie.Need-enum-known-s
 enum-known-s c = search rules
 
-enum_told : tie.Need-enum-told
-enum_told c = search rules
+enum-told : tie.Need-enum-told
+enum-told c = search rules
 
 returns : tie.Need-returns
 returns c = search rules
@@ -45,7 +45,7 @@ order-of-words-spec =
     (tie.spec
     decode-requires
     enum-known-s
-    enum_told
+    enum-told
     returns
     decode-requires-2
     enum-known-t

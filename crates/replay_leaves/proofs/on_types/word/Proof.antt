@@ -16,8 +16,8 @@ decode-requires c κs = search rules
 enum-known-t : tie.Need-enum-known-t
 enum-known-t c = search rules
 
-enum_told : tie.Need-enum-told
-enum_told c = search rules
+enum-told : tie.Need-enum-told
+enum-told c = search rules
 
 returns-2 : tie.Need-returns-2
 returns-2 c = search rules
@@ -44,7 +44,7 @@ word-spec =
     number-at-requires
     decode-requires
     enum-known-t
-    enum_told
+    enum-told
     returns-2
     said-of-requires
     slice-aggregate-all

@@ -33,8 +33,8 @@ add-i c = search rules
 is-said-requires : tie.Need-is-said-requires invariant-loop decreases-loop
 is-said-requires c κs = tt
 
-same_length : tie.Need-same-length invariant-loop decreases-loop
-same_length c = search rules
+same-length : tie.Need-same-length invariant-loop decreases-loop
+same-length c = search rules
 
 returns : tie.Need-returns invariant-loop decreases-loop
 returns c = search rules
@@ -67,7 +67,7 @@ are-said-spec =
     ask-requires
     add-i
     is-said-requires
-    same_length
+    same-length
     returns
     loop-less
     loop-again

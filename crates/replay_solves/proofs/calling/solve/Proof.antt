@@ -116,8 +116,8 @@ slice-aggregate-bp-solve-5 c = sym (length-take-le _ _ c.before.before.before.be
 bp-solve-requires : tie.Need-bp-solve-requires
 bp-solve-requires c κs = tt
 
-same_length : tie.Need-same-length
-same_length c = search rules
+same-length : tie.Need-same-length
+same-length c = search rules
 
 same-length-2 : tie.Need-same-length-2
 same-length-2 c = search rules
@@ -175,7 +175,7 @@ solve-spec =
     slice-relend-prefix-bp-solve-5
     slice-aggregate-bp-solve-5
     bp-solve-requires
-    same_length
+    same-length
     same-length-2
     same-length-3
     same-length-4

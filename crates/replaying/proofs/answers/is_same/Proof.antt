@@ -1,6 +1,6 @@
 -- `is_same` meets its contract: the slices are of one length, and alike below i.
 use Rattle.std.proofs.Common.{◌≡◌, ℕ, ◌-◌, ◌≤◌, List, length, get_or, ap, arith, rules}
-use Rattle.replaying.proofs.Steps.{Alike, alike-more, alike_all, differs}
+use Rattle.replaying.proofs.Steps.{Alike, alike-more, alike-all, differs}
 use Rattle.replaying.proofs.answers.is_same.Statement.{statement}
 use Rattle.replaying.proofs.answers.is_same.Tie as tie
 
@@ -50,7 +50,7 @@ returns-3 : tie.Need-returns-3 invariant-loop decreases-loop
 returns-3 c =
     let a = c.before.before.before.args in
     let l = c.before.loop in
-    alike_all a.said.now a.recorded.now l.i l.invariant.1 (omega arith) l.invariant.2
+    alike-all a.said.now a.recorded.now l.i l.invariant.1 (omega arith) l.invariant.2
 
 pub is-same-spec : {M : Type 1} → statement M
 is-same-spec =

@@ -33,8 +33,8 @@ loop-again c = search rules
 ended-requires : tie.Need-ended-requires invariant-loop decreases-loop
 ended-requires c κs = search rules
 
-same_length : tie.Need-same-length invariant-loop decreases-loop
-same_length c = search rules
+same-length : tie.Need-same-length invariant-loop decreases-loop
+same-length c = search rules
 
 same-length-2 : tie.Need-same-length-2 invariant-loop decreases-loop
 same-length-2 c = search rules
@@ -56,6 +56,6 @@ words-spec =
     loop-less
     loop-again
     ended-requires
-    same_length
+    same-length
     same-length-2
     returns)

@@ -1,13 +1,13 @@
 -- `after` meets its contract: the list that was found begins where the other ends.
 use Rattle.std.proofs.Common.{◌<◌, refl, arith, rules}
-use Rattle.replaying.proofs.Steps.{none-at, after_none, after-broken, after-whole}
+use Rattle.replaying.proofs.Steps.{none-at, after-none, after-broken, after-whole}
 use Rattle.replaying.proofs.lists.after.Statement.{statement}
 use Rattle.replaying.proofs.lists.after.Tie as tie
 
 returns : tie.Need-returns
 returns c =
     let a = c.before.before.before.args in
-    record { is = after_none a.a.now a.s c.if1.true; ordered = omega arith; inside = omega arith; whole = λ n. absurd (n refl) }
+    record { is = after-none a.a.now a.s c.if1.true; ordered = omega arith; inside = omega arith; whole = λ n. absurd (n refl) }
 
 end-requires : tie.Need-end-requires
 end-requires c κs = search rules

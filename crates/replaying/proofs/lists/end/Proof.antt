@@ -1,11 +1,11 @@
 -- `end` meets its contract: the members end inside, or there is no whole list.
 use Rattle.std.proofs.Common.{refl, arith, rules}
-use Rattle.replaying.proofs.Steps.{end_none, end-some}
+use Rattle.replaying.proofs.Steps.{end-none, end-some}
 use Rattle.replaying.proofs.lists.end.Statement.{statement}
 use Rattle.replaying.proofs.lists.end.Tie as tie
 
 returns : tie.Need-returns
-returns c = let a = c.before.args in record { is = end_none a.a.now a.at (omega arith); inside = omega arith; whole = λ n. absurd (n refl) }
+returns c = let a = c.before.args in record { is = end-none a.a.now a.at (omega arith); inside = omega arith; whole = λ n. absurd (n refl) }
 
 mul-n : tie.Need-overflow-mul-n
 mul-n c = search rules
@@ -20,7 +20,7 @@ sub-if2-2 : tie.Need-overflow-sub-if2-2
 sub-if2-2 c = search rules
 
 returns-2 : tie.Need-returns-2
-returns-2 c = let a = c.before.before.before.args in record { is = end_none a.a.now a.at (omega arith); inside = omega arith; whole = λ n. absurd (n refl) }
+returns-2 c = let a = c.before.before.before.args in record { is = end-none a.a.now a.at (omega arith); inside = omega arith; whole = λ n. absurd (n refl) }
 
 add-result : tie.Need-overflow-add-result
 add-result c = search rules

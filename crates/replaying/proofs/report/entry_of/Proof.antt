@@ -10,8 +10,8 @@ returns c = let a = c.before.args in entered-comment a.place a.v c.if1.true
 returns-2 : tie.Need-returns-2
 returns-2 c = let a = c.before.before.args in entered-past a.place a.v c.before.if1.false c.if2.true
 
-enum_told : tie.Need-enum-told
-enum_told c = search rules
+enum-told : tie.Need-enum-told
+enum-told c = search rules
 
 mul-t5 : tie.Need-overflow-mul-t5
 mul-t5 c = search rules
@@ -37,7 +37,7 @@ enum-told-3 c = search rules
 returns-3 : tie.Need-returns-3
 returns-3 c =
     let a = c.before.before.before.before.args in
-    entered-agrees a.place a.v c.before.before.before.if1.false c.before.before.if2.false c.enum_told.given.1
+    entered-agrees a.place a.v c.before.before.before.if1.false c.before.before.if2.false c.enum-told.given.1
 
 returns-4 : tie.Need-returns-4
 returns-4 c =
@@ -55,7 +55,7 @@ entry-of-spec =
     (tie.spec
     returns
     returns-2
-    enum_told
+    enum-told
     mul-t5
     mul-t6
     add-t7

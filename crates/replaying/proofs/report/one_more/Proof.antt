@@ -19,8 +19,8 @@ mul-counts c = search rules
 slice-write-counts : tie.Need-slice-write-counts
 slice-write-counts c = search rules
 
-same_length : tie.Need-same-length
-same_length c = search rules
+same-length : tie.Need-same-length
+same-length c = search rules
 
 returns : tie.Need-returns
 returns c =
@@ -41,6 +41,6 @@ one-more-spec =
     wrapping-add-u64-requires
     mul-counts
     slice-write-counts
-    same_length
+    same-length
     returns
     returns-2)

@@ -1,7 +1,7 @@
 -- `put_counts` meets its contract: two numbers and the end of the line.
 use Rattle.std.proofs.Common.{ℕ, ap₂, arith, rules}
 use Rattle.lineout.specs.Laws.{puts-as}
-use Rattle.replaying.specs.Report.{countsText, countsOf}
+use Rattle.replaying.specs.Report.{counts_text, counts_of}
 use Rattle.replaying.specs.ReportLaws.{counts-put}
 use Rattle.replaying.proofs.report.put_counts.Statement.{statement}
 use Rattle.replaying.proofs.report.put_counts.Tie as tie
@@ -30,8 +30,8 @@ put-field-requires-2 c κs = search rules
 put-byte-requires : tie.Need-put-byte-requires
 put-byte-requires c κs = search rules
 
-same_length : tie.Need-same-length
-same_length c = search rules
+same-length : tie.Need-same-length
+same-length c = search rules
 
 returns : tie.Need-returns
 returns c =
@@ -45,8 +45,8 @@ returns c =
     let end = c.before.before.put_byte in
     let x = one.ensures.1 in
     let y = two.ensures.1 in
-    let z = end.ensures.filled_is in (
-      puts-as (countsText agree.result all.result) (countsOf a.counts.now a.k) a.at _ a.out.now _ (ap₂ (λ (m n : ℕ). countsText m n) agree.ensures all.ensures)
+    let z = end.ensures.filled-is in (
+      puts-as (counts_text agree.result all.result) (counts_of a.counts.now a.k) a.at _ a.out.now _ (ap₂ (λ (m n : ℕ). counts_text m n) agree.ensures all.ensures)
           (counts-put agree.result all.result a.at _ _ _ a.out.now _ _ _ (omega arith) one.ensures.0 two.ensures.0 end.ensures),
       omega arith,
     )
@@ -63,5 +63,5 @@ put-counts-spec =
     number-at-requires-2
     put-field-requires-2
     put-byte-requires
-    same_length
+    same-length
     returns)

@@ -1,7 +1,7 @@
 -- `put_next` meets its contract: a blank ends the name.
 use Rattle.std.proofs.Common.{[], ◌∷◌, arith, rules}
 use Rattle.lineout.specs.Laws.{puts-as}
-use Rattle.replaying.specs.Report.{countsOf, nextText}
+use Rattle.replaying.specs.Report.{counts_of, next_text}
 use Rattle.replaying.specs.ReportLaws.{next-blank, next-byte}
 use Rattle.replaying.proofs.report.put_next.Statement.{statement}
 use Rattle.replaying.proofs.report.put_next.Tie as tie
@@ -9,15 +9,15 @@ use Rattle.replaying.proofs.report.put_next.Tie as tie
 put-counts-requires : tie.Need-put-counts-requires
 put-counts-requires c κs = search rules
 
-same_length : tie.Need-same-length
-same_length c = search rules
+same-length : tie.Need-same-length
+same-length c = search rules
 
 returns : tie.Need-returns
 returns c =
     let s = c.before.before.before.before.before.before.before in
     let a = s.args in
     let put = c.before.before.put-counts in
-    (puts-as (countsOf a.counts.now a.k) (nextText a.counts.now a.k a.b) a.at _ a.out.now _ (next-blank a.counts.now a.k a.b c.before.before.before.before.if1.true) put.ensures.0, put.ensures.1)
+    (puts-as (counts_of a.counts.now a.k) (next_text a.counts.now a.k a.b) a.at _ a.out.now _ (next-blank a.counts.now a.k a.b c.before.before.before.before.if1.true) put.ensures.0, put.ensures.1)
 
 put-byte-requires : tie.Need-put-byte-requires
 put-byte-requires c κs = search rules
@@ -30,15 +30,15 @@ returns-2 c =
     let s = c.before.before.before.before.before.before.before in
     let a = s.args in
     let put = c.before.before.put_byte in
-    let e = put.ensures.filled_is in
-    (puts-as (a.b ∷ []) (nextText a.counts.now a.k a.b) a.at _ a.out.now _ (next-byte a.counts.now a.k a.b c.before.before.before.before.if1.false) put.ensures, omega arith)
+    let e = put.ensures.filled-is in
+    (puts-as (a.b ∷ []) (next_text a.counts.now a.k a.b) a.at _ a.out.now _ (next-byte a.counts.now a.k a.b c.before.before.before.before.if1.false) put.ensures, omega arith)
 
 pub put-next-spec : {M : Type 1} → statement M
 put-next-spec =
     tie.close
     (tie.spec
     put-counts-requires
-    same_length
+    same-length
     returns
     put-byte-requires
     same-length-2

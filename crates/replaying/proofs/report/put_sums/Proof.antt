@@ -1,7 +1,7 @@
 -- `put_sums` meets its contract: the four numbers are the counts of the last two lines.
 use Rattle.std.proofs.Common.{ℕ, List, [], ◌∷◌, ap, arith, rules}
 use Rattle.lineout.specs.Laws.{puts-as}
-use Rattle.replaying.specs.Report.{namesText, sumsOf, unreadAll}
+use Rattle.replaying.specs.Report.{names_text, sums_of, unread_all}
 use Rattle.replaying.specs.ReportLaws.{sums-are}
 use Rattle.replaying.proofs.report.put_sums.Statement.{statement}
 use Rattle.replaying.proofs.report.put_sums.Tie as tie
@@ -27,8 +27,8 @@ slice-aggregate-put-names-2 c = search rules
 put-names-requires : tie.Need-put-names-requires
 put-names-requires c κs = search rules
 
-same_length : tie.Need-same-length
-same_length c = search rules
+same-length : tie.Need-same-length
+same-length c = search rules
 
 returns : tie.Need-returns
 returns c =
@@ -39,8 +39,8 @@ returns c =
     let all = c.before.before.before.before.before.before.wrapping-add-u64 in
     let put = c.before.before.put-names in
     let x = put.ensures.1 in (
-      puts-as (namesText (0 ∷ unread.result ∷ agree.result ∷ all.result ∷ []) 0 unreadAll) (namesText (sumsOf a.counts.now a.n) 0 unreadAll) a.at _ a.out.now _
-          (ap (λ (l : List ℕ). namesText l 0 unreadAll) (sums-are a.counts.now a.n _ _ cases.result _ unread.ensures agree.ensures cases.ensures all.ensures)) put.ensures.0,
+      puts-as (names_text (0 ∷ unread.result ∷ agree.result ∷ all.result ∷ []) 0 unread_all) (names_text (sums_of a.counts.now a.n) 0 unread_all) a.at _ a.out.now _
+          (ap (λ (l : List ℕ). names_text l 0 unread_all) (sums-are a.counts.now a.n _ _ cases.result _ unread.ensures agree.ensures cases.ensures all.ensures)) put.ensures.0,
       omega arith,
     )
 
@@ -55,5 +55,5 @@ put-sums-spec =
     slice-aggregate-put-names
     slice-aggregate-put-names-2
     put-names-requires
-    same_length
+    same-length
     returns)

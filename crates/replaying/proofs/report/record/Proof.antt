@@ -13,15 +13,15 @@ one-more-requires c κs = search rules
 one-more-requires-2 : tie.Need-one-more-requires-2
 one-more-requires-2 c κs = search rules
 
-same_length : tie.Need-same-length
-same_length c = search rules
+same-length : tie.Need-same-length
+same-length c = search rules
 
 returns : tie.Need-returns
 returns c =
     let counts = c.before.before.before.before.before.before.before.before.before.before.args.counts.now in
     let e = c.before.before.before.before.before.before.before.before.entry_of in
     let room = c.before.before.before.before.before.before.before.before.before.before.well-formed.0.0 in
-    c.before.before.one-more2.ensures ∙ ap (λ (l : List ℕ). more e.result.all l) c.before.before.before.before.before.before.one_more.ensures ∙ e.ensures counts (omega arith)
+    c.before.before.one-more2.ensures ∙ ap (λ (l : List ℕ). more e.result.all l) c.before.before.before.before.before.before.one-more.ensures ∙ e.ensures counts (omega arith)
 
 pub record-spec : {M : Type 1} → statement M
-record-spec = tie.close (tie.spec entry-of-requires one-more-requires one-more-requires-2 same_length returns)
+record-spec = tie.close (tie.spec entry-of-requires one-more-requires one-more-requires-2 same-length returns)

@@ -1,6 +1,6 @@
 -- `part_end` meets its contract: the index stays inside, and b does not stand before it.
 use Rattle.std.proofs.Common.{◌+◌, ◌-◌, ◌≤◌, length, arith, rules}
-use Rattle.replaying.proofs.Steps.{Without, without_more}
+use Rattle.replaying.proofs.Steps.{Without, without-more}
 use Rattle.replaying.proofs.text.part_end.Statement.{statement}
 use Rattle.replaying.proofs.text.part_end.Tie as tie
 
@@ -26,7 +26,7 @@ loop-again : tie.Need-loop-preserved invariant-loop decreases-loop
 loop-again c =
     let a = c.before.before.before.before.args in
     let l = c.before.before.before.loop in
-    (omega arith, omega arith, without_more a.text.now a.from a.b l.i l.invariant.2 c.if1.false)
+    (omega arith, omega arith, without-more a.text.now a.from a.b l.i l.invariant.2 c.if1.false)
 
 returns : tie.Need-returns invariant-loop decreases-loop
 returns c =

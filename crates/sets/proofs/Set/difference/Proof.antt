@@ -3,9 +3,9 @@ use borrow.Author.Rules.{rules}
 use Prim.Native.Nat.{◌-◌}
 use native.Mathlib.Omega.{arith}
 use Rattle.sets.specs.Sets.{clear, subtract}
-use Rattle.sets.specs.Laws.{clear_zero}
+use Rattle.sets.specs.Laws.{clear-zero}
 use Rattle.sets.proofs.Good.{array-length}
-use Rattle.sets.proofs.Loops.{Passed, passed_none, passed-more, passed-all}
+use Rattle.sets.proofs.Loops.{Passed, passed-none, passed-more, passed-all}
 use Rattle.sets.proofs.Set.difference.Statement.{statement}
 use Rattle.sets.proofs.Set.difference.Tie as tie
 
@@ -16,7 +16,7 @@ abbrev decreases-loop : tie.decreases-loop
 decreases-loop self₀ other k₀ self k = 16 - k
 
 loop-holds : tie.Need-loop-init invariant-loop decreases-loop
-loop-holds c = passed_none clear c.args.t1.words c.args.t2.words (array-length 16 c.args.t1.words _ c.well-formed.0.1.1.0)
+loop-holds c = passed-none clear c.args.t1.words c.args.t2.words (array-length 16 c.args.t1.words _ c.well-formed.0.1.1.0)
 
 mul-w : tie.Need-overflow-mul-w invariant-loop decreases-loop
 mul-w c = search rules
@@ -54,7 +54,7 @@ unfolding subtract
 returns c =
     let s = c.before.before in
     let l = c.before.loop in
-    passed-all clear s.args.t1.words s.args.t2.words clear_zero
+    passed-all clear s.args.t1.words s.args.t2.words clear-zero
     (array-length 16 s.args.t1.words _ s.well-formed.0.1.1.0)
     (array-length 16 s.args.t2.words _ s.well-formed.1.0.1.1.0)
     l.self.words

@@ -6,18 +6,18 @@ use native.Mathlib.Omega.{arith}
 use lib.Count.{trailing_le}
 use lib.ListN.{get_or, drop}
 use Rattle.sets.proofs.Good.{array-length, array-fits}
-use Rattle.sets.proofs.Loops.{lowWords, lowStep, low-members, low-drop, low_end, low-pos}
+use Rattle.sets.proofs.Loops.{low_words, low_step, low-members, low-drop, low-end, low-pos}
 use Rattle.sets.proofs.Set.lowest.Statement.{statement}
 use Rattle.sets.proofs.Set.lowest.Tie as tie
 
 abbrev invariant-loop : tie.invariant-loop
-invariant-loop self k₀ k = (k ≤ 16) × (lowWords self.words ≡ 64 * k + lowWords (drop k self.words))
+invariant-loop self k₀ k = (k ≤ 16) × (low_words self.words ≡ 64 * k + low_words (drop k self.words))
 
 abbrev decreases-loop : tie.decreases-loop
 decreases-loop self k₀ k = 16 - k
 
 loop-holds : tie.Need-loop-init invariant-loop decreases-loop
-loop-holds c = (omega arith, let e : lowWords c.args.t1.words ≡ 64 * 0 + lowWords c.args.t1.words = omega arith in e)
+loop-holds c = (omega arith, let e : low_words c.args.t1.words ≡ 64 * 0 + low_words c.args.t1.words = omega arith in e)
 
 mul-w : tie.Need-overflow-mul-w invariant-loop decreases-loop
 mul-w c = search rules
@@ -41,7 +41,7 @@ returns c =
     let k = c.before.before.before.loop.k in
     let l = array-length 16 ws _ s.well-formed.0.1.1.0 in
     let d = low-drop ws k (omega arith) in
-    let p = low-pos (get_or ws k 0) (lowWords (drop (k + 1) ws)) c.if1.true in
+    let p = low-pos (get_or ws k 0) (low_words (drop (k + 1) ws)) c.if1.true in
     let f = low-members ws l (array-fits 16 ws _ s.well-formed.0.1.1.0) in
     omega arith
 
@@ -57,7 +57,7 @@ loop-again c =
     let ws = s.args.t1.words in
     let k = c.before.before.before.loop.k in
     let l = array-length 16 ws _ s.well-formed.0.1.1.0 in
-    let d = low-drop ws k (omega arith) ∙ ap (λ (w : ℕ). lowStep w (lowWords (drop (k + 1) ws))) c.if1.false in
+    let d = low-drop ws k (omega arith) ∙ ap (λ (w : ℕ). low_step w (low_words (drop (k + 1) ws))) c.if1.false in
     (omega arith, omega arith)
 
 returns-2 : tie.Need-returns-2 invariant-loop decreases-loop
@@ -65,7 +65,7 @@ returns-2 c =
     let s = c.before.before in
     let ws = s.args.t1.words in
     let l = array-length 16 ws _ s.well-formed.0.1.1.0 in
-    let z = low_end ws c.before.loop.k (omega arith) in
+    let z = low-end ws c.before.loop.k (omega arith) in
     let f = low-members ws l (array-fits 16 ws _ s.well-formed.0.1.1.0) in
     omega arith
 

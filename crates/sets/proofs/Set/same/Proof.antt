@@ -6,7 +6,7 @@ use native.Mathlib.Omega.{arith}
 use lib.ListN.{drop}
 use Rattle.sets.specs.Sets.{same_words}
 use Rattle.sets.proofs.Good.{array-length}
-use Rattle.sets.proofs.Loops.{same_stop, same_step, same_end}
+use Rattle.sets.proofs.Loops.{same-stop, same-step, same-end}
 use Rattle.sets.proofs.Set.same.Statement.{statement}
 use Rattle.sets.proofs.Set.same.Tie as tie
 
@@ -39,7 +39,7 @@ returns c =
     let la = array-length 16 a _ s.well-formed.0.1.1.0 in
     let lb = array-length 16 b _ s.well-formed.1.0.1.1.0 in
     let l = c.before.before.before.before.loop in
-    sym (l.invariant.1 ∙ same_stop a b l.k (omega arith) (omega arith) c.if1.true)
+    sym (l.invariant.1 ∙ same-stop a b l.k (omega arith) (omega arith) c.if1.true)
 
 add-k : tie.Need-overflow-add-k invariant-loop decreases-loop
 add-k c = search rules
@@ -55,7 +55,7 @@ loop-again c =
     let la = array-length 16 a _ s.well-formed.0.1.1.0 in
     let lb = array-length 16 b _ s.well-formed.1.0.1.1.0 in
     let l = c.before.before.before.before.loop in
-    (omega arith, l.invariant.1 ∙ same_step a b l.k (omega arith) (omega arith) c.if1.false)
+    (omega arith, l.invariant.1 ∙ same-step a b l.k (omega arith) (omega arith) c.if1.false)
 
 returns-2 : tie.Need-returns-2 invariant-loop decreases-loop
 returns-2 c =
@@ -64,7 +64,7 @@ returns-2 c =
     let b = s.args.t2.words in
     let la = array-length 16 a _ s.well-formed.0.1.1.0 in
     let lb = array-length 16 b _ s.well-formed.1.0.1.1.0 in
-    sym (c.before.loop.invariant.1 ∙ same_end a b c.before.loop.k (omega arith) (omega arith))
+    sym (c.before.loop.invariant.1 ∙ same-end a b c.before.loop.k (omega arith) (omega arith))
 
-pub same_spec : {M : Type 1} → statement M
-same_spec = tie.close (tie.spec invariant-loop decreases-loop loop-holds mul-if1 element-copy-out-if1 mul-if1-2 element-copy-out-if1-2 returns add-k loop-less loop-again returns-2)
+pub same-spec : {M : Type 1} → statement M
+same-spec = tie.close (tie.spec invariant-loop decreases-loop loop-holds mul-if1 element-copy-out-if1 mul-if1-2 element-copy-out-if1-2 returns add-k loop-less loop-again returns-2)

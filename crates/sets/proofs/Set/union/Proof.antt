@@ -6,7 +6,7 @@ use native.Mathlib.Omega.{arith}
 use lib.Bits.{bit_or}
 use Rattle.sets.specs.Sets.{unite}
 use Rattle.sets.proofs.Good.{array-length}
-use Rattle.sets.proofs.Loops.{Passed, passed_none, passed-more, passed-all}
+use Rattle.sets.proofs.Loops.{Passed, passed-none, passed-more, passed-all}
 use Rattle.sets.proofs.Set.union.Statement.{statement}
 use Rattle.sets.proofs.Set.union.Tie as tie
 
@@ -17,7 +17,7 @@ abbrev decreases-loop : tie.decreases-loop
 decreases-loop self₀ other k₀ self k = 16 - k
 
 loop-holds : tie.Need-loop-init invariant-loop decreases-loop
-loop-holds c = passed_none bit_or c.args.t1.words c.args.t2.words (array-length 16 c.args.t1.words _ c.well-formed.0.1.1.0)
+loop-holds c = passed-none bit_or c.args.t1.words c.args.t2.words (array-length 16 c.args.t1.words _ c.well-formed.0.1.1.0)
 
 mul-self : tie.Need-overflow-mul-self invariant-loop decreases-loop
 mul-self c = search rules

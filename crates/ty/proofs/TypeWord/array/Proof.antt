@@ -1,7 +1,7 @@
 -- `TypeWord::array` meets its contract.
 use borrow.Author.Rules.{rules}
 use borrow.Author.Tests.{lt-ltb, le-ltb}
-use Rattle.ty.specs.Answers.{arrayWord}
+use Rattle.ty.specs.Answers.{array_word}
 use Rattle.ty.proofs.TypeWord.array.Statement.{statement}
 use Rattle.ty.proofs.TypeWord.array.Tie as tie
 
@@ -9,11 +9,11 @@ add-t4 : tie.Need-overflow-add-t4
 add-t4 c = search rules
 
 returns : tie.Need-returns
-unfolding arrayWord
+unfolding array_word
 returns c = simp (lt-ltb _ _ c.if1.true)
 
 returns-2 : tie.Need-returns-2
-unfolding arrayWord
+unfolding array_word
 returns-2 c = simp (le-ltb _ _ c.if1.false)
 
 pub array-spec : {M : Type 1} → statement M

@@ -2,7 +2,7 @@
 use borrow.Author.Rules.{rules}
 use mathlib.Core.Path.{◌∙◌}
 use native.Mathlib.Omega.{arith}
-use Rattle.ty.specs.Steps.{mask-array, mask-primitive, mask-object, mask-unknown, legal-category, one_shifted}
+use Rattle.ty.specs.Steps.{mask-array, mask-primitive, mask-object, mask-unknown, legal-category, one-shifted}
 use Rattle.ty.proofs.TypeWord.categories.Statement.{statement}
 use Rattle.ty.proofs.TypeWord.categories.Tie as tie
 
@@ -16,7 +16,7 @@ returns-2 : tie.Need-returns-2
 returns-2 c =
     let w = c.before.before.args.self.word in
     let l = legal-category 1024 w c.before.before.requires c.if2.true in
-    one_shifted _ (omega arith) ∙ mask-primitive w c.before.if1.false c.if2.true
+    one-shifted _ (omega arith) ∙ mask-primitive w c.before.if1.false c.if2.true
 
 returns-3 : tie.Need-returns-3
 returns-3 c = mask-object c.before.before.before.args.self.word c.before.before.if1.false c.if3.true

@@ -13,8 +13,8 @@ decreases-loop line₀ used part at₀ i₀ line at i = length part - i
 loop-holds : tie.Need-loop-init invariant-loop decreases-loop
 loop-holds c = search rules
 
-same_length : tie.Need-same-length invariant-loop decreases-loop
-same_length c = search rules
+same-length : tie.Need-same-length invariant-loop decreases-loop
+same-length c = search rules
 
 returns : tie.Need-returns invariant-loop decreases-loop
 returns c = search rules
@@ -25,8 +25,8 @@ shared-slice-read-line c = search rules
 slice-write-line : tie.Need-slice-write-line invariant-loop decreases-loop
 slice-write-line c = search rules
 
-add_at : tie.Need-overflow-add-at invariant-loop decreases-loop
-add_at c = search rules
+add-at : tie.Need-overflow-add-at invariant-loop decreases-loop
+add-at c = search rules
 
 add-i : tie.Need-overflow-add-i invariant-loop decreases-loop
 add-i c = search rules
@@ -50,11 +50,11 @@ append-spec =
     invariant-loop
     decreases-loop
     loop-holds
-    same_length
+    same-length
     returns
     shared-slice-read-line
     slice-write-line
-    add_at
+    add-at
     add-i
     loop-less
     loop-again
