@@ -1,5 +1,7 @@
 // What is reached from many classes, over the class tables as `hierarchy` reads them: in one walk from all of them, or as rows, one
 // set a class. Rows stand in one slice of ROWS words, that of class c from word 16 * c on.
+#![tactic(auto)]
+
 ghost use Rattle.std.specs.Prelude.{◌≡◌, true, ℕ, ◌≤◌, ◌<◌, length, replicate};
 ghost use Rattle.sets.specs.Sets.{MembersBelow, member};
 ghost use Rattle.view.specs.View.{reach};

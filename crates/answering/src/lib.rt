@@ -1,5 +1,7 @@
 // The answers of a solve's variables from its final table: each component's own keys are cut out of it, copied as words, one kind after the
 // other, and resolved by the five ways, once a component.
+#![tactic(auto)]
+
 ghost use Rattle.std.specs.Prelude.{◌≡◌, ◌≤◌, ◌<◌, length, replicate};
 ghost use Rattle.std.proofs.Math.Seq.{paste};
 ghost use Rattle.sorted.specs.Sorted.{Sorted};
@@ -17,7 +19,7 @@ use tables::Tables;
 use ty::MaybeType;
 
 // Where the words of each kind end; each begins where the one before it ends, the domain's at 0.
-#[derive(Drop)]
+#[derive(Clone, Copy)]
 pub struct Parts {
     pub domain: usize,
     pub fallback: usize,

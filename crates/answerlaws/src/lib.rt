@@ -1,1 +1,2 @@
 // No code: that answers are legal types stands in specs/.
+#![tactic(auto)]

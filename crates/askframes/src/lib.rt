@@ -1,4 +1,6 @@
 // The frames of questions about two classes, 0b to 0d: the numbers of a body, 6 and 9, the answer over the class tables.
+#![tactic(auto)]
+
 ghost use Rattle.std.specs.Prelude.{◌≡◌, cond, ◌-◌, ◌^◌, ◌≤◌, ◌<◌, length};
 ghost use Rattle.view.specs.View.{relation, relation_number, supertype, number_of, cast};
 ghost use Rattle.tables.specs.Table.{names_room, marks_room, view_of};

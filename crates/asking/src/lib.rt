@@ -1,12 +1,14 @@
 // What a turn asks of its component's state: what is produced only where a flow or an array constraint takes it on, the element only where the
 // component is an array that is read or written. Both cost joins, and most components have no such link.
+#![tactic(auto)]
+
 ghost use Rattle.std.specs.Prelude.{◌≡◌, ◌||◌, map, ◌/◌, ◌%◌, eqb};
 ghost use Rattle.sorted.specs.Sorted.{Sorted};
 ghost use Rattle.solving.specs.LinkKeys.{pair_of};
 ghost use Rattle.asking.specs.Asking.{begins, touches, asks_produced, asks_element, asked_of};
 
 // Whether what is produced is asked for, and whether the element is.
-#[derive(Drop)]
+#[derive(Clone, Copy)]
 pub struct Asked {
     pub produced: bool,
     pub element: bool,

@@ -1,5 +1,7 @@
 // Assignability of lattice.rs on type words: what an Unknown accepts, primitives, classes and arrays. The class tables are those of
 // the crate hierarchy; every word is legal for at most 1,024 names.
+#![tactic(auto)]
+
 ghost use Rattle.std.specs.Prelude.{◌≡◌, true, false, ◌&&◌, [], ◌^◌, ◌≤◌, ◌<◌};
 ghost use Rattle.tables.specs.Table.{names_room};
 ghost use Rattle.prepared.specs.Prepared.{Prepared};

@@ -1,5 +1,7 @@
 // What C and Rust call: thin functions over the crates below, with no logic of their own. Every call takes arbitrary numbers
 // and bytes. A refused result is its number, offset and byte, and zero in every other field.
+#![tactic(auto)]
+
 ghost use Rattle.std.specs.Prelude.{◌≡◌, true, false, length};
 ghost use Rattle.descriptor.specs.Read.{read_whole, read_strict};
 ghost use Rattle.methods.specs.Answers.{method_of, params_after};
@@ -18,7 +20,7 @@ use tablecheck::{TableCheck, check_table};
 use writer::{Written, write_method, write_type};
 
 #[repr(C)]
-#[derive(Drop)]
+#[derive(Clone, Copy)]
 pub struct BpType {
     pub refusal: u64,
     pub offset: u64,
@@ -31,7 +33,7 @@ pub struct BpType {
 }
 
 #[repr(C)]
-#[derive(Drop)]
+#[derive(Clone, Copy)]
 pub struct BpMethod {
     pub refusal: u64,
     pub offset: u64,
@@ -46,35 +48,35 @@ pub struct BpMethod {
 }
 
 #[repr(C)]
-#[derive(Drop)]
+#[derive(Clone, Copy)]
 pub struct BpWritten {
     pub refusal: u64,
     pub length: u64,
 }
 
 #[repr(C)]
-#[derive(Drop)]
+#[derive(Clone, Copy)]
 pub struct BpFound {
     pub refusal: u64,
     pub class_no: u64,
 }
 
 #[repr(C)]
-#[derive(Drop)]
+#[derive(Clone, Copy)]
 pub struct BpRelation {
     pub refusal: u64,
     pub relation: u64,
 }
 
 #[repr(C)]
-#[derive(Drop)]
+#[derive(Clone, Copy)]
 pub struct BpAnswer {
     pub refusal: u64,
     pub value: u64,
 }
 
 #[repr(C)]
-#[derive(Drop)]
+#[derive(Clone, Copy)]
 pub struct BpSet {
     pub refusal: u64,
     pub count: u64,
@@ -83,7 +85,7 @@ pub struct BpSet {
 }
 
 #[repr(C)]
-#[derive(Drop)]
+#[derive(Clone, Copy)]
 pub struct BpSolved {
     pub refusal: u64,
     pub bounds: u64,
@@ -91,7 +93,7 @@ pub struct BpSolved {
 }
 
 #[repr(C)]
-#[derive(Drop)]
+#[derive(Clone, Copy)]
 pub struct BpTable {
     pub refusal: u64,
     pub part: u64,
@@ -606,7 +608,7 @@ pub extern "C" fn bp_solve(
     work: &mut [u64],
 ) -> BpSolved
     ensures value { result ≡ bp_solved names name_at name_len rec_flags rec_class rec_at rec_len parents components var_comp bnd_comp bnd_kind bnd_type flow_src flow_dst up_src up_dst read_arr read_res write_arr write_val answers out_comp out_kind out_type work }
-    ensures solve-leaves { SolveLeaves names name_at name_len rec_flags rec_class rec_at rec_len parents components var_comp bnd_comp bnd_kind bnd_type flow_src flow_dst up_src up_dst read_arr read_res write_arr write_val answers out_comp out_kind out_type work }
+    ensures solve_leaves { SolveLeaves names name_at name_len rec_flags rec_class rec_at rec_len parents components var_comp bnd_comp bnd_kind bnd_type flow_src flow_dst up_src up_dst read_arr read_res write_arr write_val answers out_comp out_kind out_type work }
 {
     let c = solve_slices(
         names, name_at, name_len, rec_flags, rec_class, rec_at, rec_len, parents, components,

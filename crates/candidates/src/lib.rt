@@ -1,5 +1,7 @@
 // What lattice.rs asks of a candidate type and the bounds on a value: whether a producer's type can stand for another, whether what
 // was observed accepts it, whether it is assignable to every upper bound, and which upper bound is the most specific.
+#![tactic(auto)]
+
 ghost use Rattle.std.specs.Prelude.{◌≡◌, true, false, cond, ◌&&◌, map, ◌<◌};
 ghost use Rattle.std.proofs.Math.Option.{some};
 ghost use Rattle.tables.specs.Table.{names_room};
@@ -152,7 +154,7 @@ fn stands_for_all(pairs: &[u64], marks: &[u64], t: Tables, class: u64, s: Set) -
 
 // Upper bounds as the classes of one head meet them, that is, of one number of dimensions: those with the same head as a set of classes,
 // and whether all the others take any of them, which the head alone decides.
-#[derive(Drop)]
+#[derive(Clone, Copy)]
 struct Group {
     head: u64,
     rest: bool,
@@ -329,7 +331,7 @@ fn least_of_few(pairs: &[u64], marks: &[u64], t: Tables, upper: &[u64]) -> Maybe
 }
 
 // The best so far among many, and the group of the class that was asked last: in the order of types those of one head are neighbours.
-#[derive(Drop)]
+#[derive(Clone, Copy)]
 struct Best {
     best: MaybeType,
     group: Group,

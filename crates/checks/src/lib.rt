@@ -1,1 +1,2 @@
 // No code: a chain of checks as one list, and its laws, stand in specs/.
+#![tactic(auto)]

@@ -1,5 +1,7 @@
 // A lent slice made zero: what a call leaves of the work that it was lent. Most of it is zero already, and to look at words costs less than
 // to write them: only blocks that are not zero are written.
+#![tactic(auto)]
+
 ghost use Rattle.std.specs.Prelude.{◌≡◌, true, ◌++◌, ◌+◌, ◌-◌, ◌≤◌, length, take, drop, replicate};
 
 // How many words are looked at together.

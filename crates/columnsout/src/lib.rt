@@ -1,4 +1,6 @@
 // The final bounds of a solve as three columns: each key's component, kind and type word, at the front of the lent slices.
+#![tactic(auto)]
+
 ghost use Rattle.std.specs.Prelude.{◌≤◌, length};
 ghost use Rattle.columnsout.specs.Columns.{Written};
 

@@ -1,5 +1,7 @@
 // What a turn copies before its first insertion: the types of a component's bounds of one kind, as ranks or as type words, out of the
 // sorted keys of a table into a lent slice.
+#![tactic(auto)]
+
 ghost use Rattle.std.specs.Prelude.{◌≡◌, ◌+◌, ◌≤◌, ◌<◌, length};
 ghost use Rattle.std.proofs.Math.Seq.{paste};
 ghost use Rattle.sorted.specs.Sorted.{Sorted};

@@ -1,4 +1,6 @@
 // Type descriptors of ty.rs, read from bytes.
+#![tactic(auto)]
+
 ghost use Rattle.std.specs.Prelude.{◌≡◌, true, ◌+◌, ◌≤◌, ◌<◌, ltb, length, drop};
 ghost use Rattle.text.specs.Text.{byte};
 ghost use Rattle.descriptor.specs.declared.Read.TheVariants.{Refused};
@@ -28,14 +30,14 @@ const CLASS: u64 = 9;
 const FOUND_CLASS: u64 = FOUND + CLASS;
 
 // What a type is made of below its dimensions: a category, or a class by the place of its name (first byte, length).
-#[derive(Drop)]
+#[derive(Clone, Copy)]
 pub enum Base {
     Simple(u64),
     Class(usize, usize),
 }
 
 // A type and the offset after it; or a refusal with its offset and, for 12, the byte there.
-#[derive(Drop)]
+#[derive(Clone, Copy)]
 pub enum Read {
     Found { dims: u64, base: Base, next: usize },
     Refused { code: u64, at: usize, byte: u64 },
@@ -43,7 +45,7 @@ pub enum Read {
 
 // The same in two words, cheaper to hand back at each bracket: a refusal's code and offset; or the type without its name, and the
 // offset after it. The rest of a Read follows from the bytes.
-#[derive(Drop)]
+#[derive(Clone, Copy)]
 struct Core {
     pub what: u64,
     pub at: usize,

@@ -1,4 +1,6 @@
 // The head of a frame: its kind, the length of its body, its place in the order of kinds.
+#![tactic(auto)]
+
 ghost use Rattle.std.specs.Prelude.{◌≡◌};
 ghost use Rattle.frames.specs.Frames.{good_length, rank_of, bad_order};
 ghost use Rattle.frameheads.specs.Heads.{head_refusal};

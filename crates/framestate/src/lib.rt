@@ -1,4 +1,6 @@
 // The state that hex frames build up, as lent slices and one struct of numbers, and what a frame comes to.
+#![tactic(auto)]
+
 ghost use Rattle.std.specs.Prelude.{◌≡◌};
 ghost use Rattle.framestate.specs.declared.Said.TheVariants.{Accepted, Refused};
 ghost use Rattle.framestate.specs.FrameState.{name_numbers, record_numbers, count_numbers, variable_numbers, bound_numbers, flow_numbers, upper_numbers, read_numbers, write_numbers, ask_numbers, framed};
@@ -7,7 +9,7 @@ use layers::StackTables;
 use tables::Tables;
 
 // The numbers of a state: of the layers of class tables, how long the last name is, how many components and entries there are, the highest kind accepted.
-#[derive(Drop)]
+#[derive(Clone, Copy)]
 pub struct Numbers {
     pub stack: StackTables,
     pub last: usize,
@@ -22,7 +24,7 @@ pub struct Numbers {
 }
 
 // What a frame says; a relation is 0 Yes, 1 No, 2 Unknown, a missing supertype all ones, a cast 0 or 1. Answers stand in a lent slice.
-#[derive(Drop)]
+#[derive(Clone, Copy)]
 pub enum Said {
     Accepted,
     Solved,
@@ -33,7 +35,7 @@ pub enum Said {
 }
 
 // What a frame comes to.
-#[derive(Drop)]
+#[derive(Clone, Copy)]
 pub struct Framed {
     pub said: Said,
     pub numbers: Numbers,

@@ -1,4 +1,6 @@
 // Hex lines: the bytes of a line, two lower-case digits a byte, and the numbers that a frame's bytes hold, high byte first.
+#![tactic(auto)]
+
 ghost use Rattle.std.specs.Prelude.{◌≡◌, true, ◌+◌, ◌*◌, ◌%◌, ◌/◌, ◌^◌, ◌≤◌, ◌<◌, length, drop};
 ghost use Rattle.hexline.specs.Hex.{digit, hex_bytes, number_at, numbers_in, bytes_number, is_hex, bytes_of, in_front, Reads};
 ghost use Rattle.hexline.specs.Laws.{is_digit, value_of};

@@ -1,4 +1,6 @@
 // What is asked of the class tables, from hierarchy.rs. A walk is handed the whole tables, though it reads the pairs alone.
+#![tactic(auto)]
+
 ghost use Rattle.std.specs.Prelude.{◌≡◌, cond, ◌<◌, ltb, length};
 ghost use Rattle.sets.specs.Sets.{at, member, members, insert};
 ghost use Rattle.view.specs.View.{insert_all, with_parents, reached, reach, ancestors, distance, ancestor, relation, cast, number_of};
@@ -57,7 +59,7 @@ pub fn expand(pairs: &[u64], marks: &[u64], t: Tables, s: Set, front: Set) -> Se
 }
 
 // Where a walk ended: whether it found what it looked for, at which level, and what it has seen.
-#[derive(Drop)]
+#[derive(Clone, Copy)]
 struct Walk {
     found: bool,
     level: u64,

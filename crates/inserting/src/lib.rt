@@ -1,4 +1,6 @@
 // One bound into the table of a solve. The table is lent as a slice of 4,096 words, sorted keys at its front; the queue as its ring.
+#![tactic(auto)]
+
 ghost use Rattle.std.specs.Prelude.{◌≡◌, ◌<◌};
 ghost use Rattle.keys.specs.Rank.{unrank};
 ghost use Rattle.solving.specs.Solving.{bound, to_one};
@@ -9,7 +11,7 @@ use queue::Queue;
 use sorted::Put;
 
 // The numbers of a solve at work: 0 or its refusal, how many bounds there are, and who waits.
-#[derive(Drop)]
+#[derive(Clone, Copy)]
 pub struct State {
     pub refusal: u64,
     pub count: usize,
@@ -17,7 +19,7 @@ pub struct State {
 }
 
 // What a rule sends: no type, the type of a rank, or an array of more dimensions than a type can have.
-#[derive(Drop)]
+#[derive(Clone, Copy)]
 pub enum Sent {
     Nothing,
     Rank(u64),

@@ -1,5 +1,7 @@
 // Joins of types, from lattice.rs, on type words: the table of the joins of primitives, the lists of categories, and the join of
 // two types and of a list.
+#![tactic(auto)]
+
 ghost use Rattle.std.specs.Prelude.{◌≡◌, true, false, cond, [], ◌∷◌, map, ◌*◌, ◌/◌, ◌^◌, ◌≤◌, ◌<◌};
 ghost use Rattle.tables.specs.Table.{names_room};
 ghost use Rattle.prepared.specs.Prepared.{Prepared};

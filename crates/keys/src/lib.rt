@@ -1,4 +1,6 @@
 // Types by rank, a number in the order of types, and the 64-bit keys of bounds: component, kind and type in one number.
+#![tactic(auto)]
+
 ghost use Rattle.std.specs.Prelude.{◌≡◌, ◌-◌, ◌*◌, ◌/◌, ◌%◌, ◌^◌, ◌<◌, replicate};
 ghost use Rattle.ty.specs.Types.{compare};
 ghost use Rattle.ty.specs.Words.{Legal, pack, type_of, word_of};

@@ -1,5 +1,7 @@
 // Records of a layer that is over others. The two slices hold what all layers together show, as those of a plain table do; beside them stand the
 // classes that the topmost layer records and how many keys are theirs. The first record of a class takes the keys of the layers below away.
+#![tactic(auto)]
+
 ghost use Rattle.std.specs.Prelude.{◌≡◌, ◌++◌, ◌-◌, ◌≤◌, ◌<◌, ltb, length, take, drop, replicate};
 ghost use Rattle.sorted.specs.Sorted.{Sorted};
 ghost use Rattle.tables.specs.Table.{names_room, pairs_room};
@@ -15,14 +17,14 @@ use tables::{NAMES, PAIRS, Tables};
 pub const SHOWN: usize = 16384;
 
 // Of the topmost layer: the classes that it records, and how many keys are theirs.
-#[derive(Drop)]
+#[derive(Clone, Copy)]
 pub struct Layer {
     pub own: Set,
     pub keys: usize,
 }
 
 // What a record comes to: 0 and the table with it, or its refusal and the table as it was.
-#[derive(Drop)]
+#[derive(Clone, Copy)]
 pub struct LayerOutcome {
     pub refusal: u64,
     pub tables: Tables,
@@ -30,7 +32,7 @@ pub struct LayerOutcome {
 }
 
 // Of a stack: the numbers of what its layers together show, its topmost layer, and how many layers lie below that.
-#[derive(Drop)]
+#[derive(Clone, Copy)]
 pub struct StackTables {
     pub tables: Tables,
     pub layer: Layer,
@@ -38,7 +40,7 @@ pub struct StackTables {
 }
 
 // What a row comes to: 0 and the stack with it, or its refusal and the stack as it was.
-#[derive(Drop)]
+#[derive(Clone, Copy)]
 pub struct StackOutcome {
     pub refusal: u64,
     pub stack: StackTables,

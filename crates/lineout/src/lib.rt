@@ -1,5 +1,7 @@
 // What is printed, into a lent buffer of which the first `filled` bytes wait to be written: numbers in decimal, words as 16 hex digits, lines.
 // Each function answers how many bytes wait after it.
+#![tactic(auto)]
+
 ghost use Rattle.std.specs.Prelude.{◌≡◌, [], ◌∷◌, ◌+◌, ◌*◌, ◌≤◌, ◌<◌, length};
 ghost use Rattle.lineout.specs.Printed.{decimal, hex_digit, hex_digits, word_text, number_text, printed, variable_line, variable_lines, refusal_line, Puts};
 

@@ -1,4 +1,6 @@
 // Method descriptors of ty.rs, read from bytes, and the strict reading of types and methods.
+#![tactic(auto)]
+
 ghost use Rattle.std.specs.Prelude.{◌≡◌, ◌+◌, ◌-◌, ◌≤◌, ◌<◌, eqb, length, take, drop, set};
 ghost use Rattle.descriptor.specs.declared.Read.TheVariants.{Refused};
 ghost use Rattle.descriptor.specs.Read.{strict_name, strictly, read_strict};
@@ -25,7 +27,7 @@ const NOT_STRICT: u64 = 24;
 const PARAMETERS: usize = 255;
 
 // A method's number of parameters, the offset of its return type, and that type; or a refusal, with zeros in the other fields.
-#[derive(Drop)]
+#[derive(Clone, Copy)]
 pub struct MethodRead {
     pub refusal: u64,
     pub offset: usize,

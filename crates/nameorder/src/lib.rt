@@ -1,4 +1,6 @@
 // How names stand to each other, byte by byte.
+#![tactic(auto)]
+
 ghost use Rattle.std.specs.Prelude.{◌≡◌, not, ◌&&◌, ◌+◌, ◌≤◌, min, ltb, length, drop};
 ghost use Rattle.std.proofs.Math.Seq.{slice};
 ghost use Rattle.order.specs.Compare.{compare_numbers, compare_lists, is_less, is_equal};

@@ -1,4 +1,6 @@
 // Names of classes as places in a byte slice: their checks, and the number of a name.
+#![tactic(auto)]
+
 ghost use Rattle.std.specs.Prelude.{◌≡◌, ◌||◌, ◌+◌, ◌-◌, ◌≤◌, leb, ltb, length};
 ghost use Rattle.order.specs.Compare.{compare_lists};
 ghost use Rattle.names.specs.Names.{place_good, name_of, check_name, check_row, check_names, found, lookup, look_up};
@@ -26,7 +28,7 @@ const NAMES: u64 = 1024;
 const ALL_BYTES: u64 = 24576;
 
 // The class number of a name, or a refusal.
-#[derive(Drop)]
+#[derive(Clone, Copy)]
 pub struct LookedUp {
     pub refusal: u64,
     pub class_no: u64,

@@ -1,5 +1,7 @@
 // How two numbers, lists or types stand to each other. What is asked of an order, and its laws, stand in specs/.
-#[derive(Drop)]
+#![tactic(auto)]
+
+#[derive(Clone, Copy)]
 pub enum Order {
     Less,
     Equal,

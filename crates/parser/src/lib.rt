@@ -1,17 +1,19 @@
 // DescriptorParser of ty.rs: the caller's bytes with an offset, and thin functions over it.
+#![tactic(auto)]
+
 ghost use Rattle.std.specs.Prelude.{◌≡◌, true, drop};
 ghost use Rattle.descriptor.specs.Read.{read_type};
 ghost use Rattle.parser.specs.Offsets.{byte_at, consume_at, finish_at};
 
 use descriptor::Read;
 
-#[derive(Drop)]
+#[derive(Clone, Copy)]
 pub struct DescriptorParser<'a> {
     pub bytes: &'a [u8],
     pub offset: usize,
 }
 
-#[derive(Drop)]
+#[derive(Clone, Copy)]
 pub enum Next {
     Byte(u8),
     End,

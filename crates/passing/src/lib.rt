@@ -1,5 +1,7 @@
 // The passes of a turn: what was copied before the first insertion goes to each target, each source, each array constraint. Links are lent
 // as sorted keys first * 512 + second. A refusal ends a pass at once.
+#![tactic(auto)]
+
 ghost use Rattle.std.specs.Prelude.{◌≡◌, map, ◌<◌};
 ghost use Rattle.sorted.specs.Sorted.{Sorted};
 ghost use Rattle.keys.specs.Rank.{unrank};

@@ -1,5 +1,7 @@
 // What classes reach, prepared once and handed down with the keys: a slice of TABLE words has the keys of a class table in its first PAIRS
 // words and behind them rows, one set of sixteen words a class. A slice of another length has keys alone, and what is asked is walked for.
+#![tactic(auto)]
+
 ghost use Rattle.std.specs.Prelude.{◌≡◌, true, ◌≤◌, ◌<◌, length, replicate};
 ghost use Rattle.std.proofs.Math.Seq.{paste};
 ghost use Rattle.sets.specs.Sets.{MembersBelow};

@@ -1,5 +1,7 @@
 // A problem from columns: the count, then row by row in order of kind; the first refusal wins. Variables stay where they are: where nothing
 // is refused, they are the column itself.
+#![tactic(auto)]
+
 ghost use Rattle.std.specs.Prelude.{◌≡◌, true, [], ◌≤◌, length};
 ghost use Rattle.problems.specs.Problems.{even_problem};
 ghost use Rattle.problemrows.specs.ProblemRows.{Adds};
@@ -11,7 +13,7 @@ use problemrows::{
 };
 
 // 0 or the refusal, and how many entries the slices hold.
-#[derive(Drop)]
+#[derive(Clone, Copy)]
 pub struct ProblemCounts {
     pub refusal: u64,
     pub bounds: usize,

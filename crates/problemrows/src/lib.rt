@@ -1,5 +1,7 @@
 // A problem, row by row: a row is checked and taken into the sorted entries of its kind, or refused with nothing changed.
 // Bounds are kept as keys, pairs as first * 512 + second, variables in the order given.
+#![tactic(auto)]
+
 ghost use Rattle.std.specs.Prelude.{◌≡◌, ◌≤◌, ◌<◌, length, take};
 ghost use Rattle.sorted.specs.Sorted.{Sorted};
 ghost use Rattle.ty.specs.Words.{Legal, type_of};
@@ -24,7 +26,7 @@ pub const UPPER_FLOWS: usize = 1024;
 pub const ARRAYS: usize = 1024;
 
 // What a row comes to: 0 or its refusal, and how many entries of its kind there are then.
-#[derive(Drop)]
+#[derive(Clone, Copy)]
 pub struct Added {
     pub refusal: u64,
     pub count: usize,

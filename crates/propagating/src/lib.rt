@@ -1,4 +1,6 @@
 // Turn by turn until nobody waits, or until a refusal.
+#![tactic(auto)]
+
 ghost use Rattle.std.specs.Prelude.{map, take};
 ghost use Rattle.lattice.specs.World.{world_of};
 ghost use Rattle.solving.specs.Solving.{propagate};
@@ -14,7 +16,7 @@ use tables::Tables;
 use turning::turn;
 
 // A run: the solve at its end, and how many turns there were.
-#[derive(Drop)]
+#[derive(Clone, Copy)]
 pub struct Ran {
     pub state: State,
     pub turns: u64,

@@ -1,6 +1,8 @@
 // Questions over slices: the class table is built from its columns, its pairs in the work that a caller lends, or, where a row opens a layer, in a
 // local array with room for four layers; the two numbers are checked over its names, and the question is put to the crate that answers it. The work
 // may come with any words, and is zero afterwards.
+#![tactic(auto)]
+
 ghost use Rattle.std.specs.Prelude.{◌≡◌, true, cond, [], ◌∷◌, length};
 ghost use Rattle.checks.specs.Checks.{first_refusal};
 ghost use Rattle.ty.specs.Words.{all_legal};
@@ -27,7 +29,7 @@ use view::Relation;
 const ROOM: usize = 8192;
 
 // What is asked: four questions about two classes, two about two types.
-#[derive(Drop)]
+#[derive(Clone, Copy)]
 pub enum Question {
     Relation,
     Distance,
@@ -38,14 +40,14 @@ pub enum Question {
 }
 
 // A number; or a refusal, and 0.
-#[derive(Drop)]
+#[derive(Clone, Copy)]
 pub struct Answer {
     pub refusal: u64,
     pub value: u64,
 }
 
 // A set, how many are in it and the least of them; or a refusal, and zeros.
-#[derive(Drop)]
+#[derive(Clone, Copy)]
 pub struct Ancestors {
     pub refusal: u64,
     pub count: u64,
@@ -54,7 +56,7 @@ pub struct Ancestors {
 }
 
 // One of the two, by what was asked.
-#[derive(Drop)]
+#[derive(Clone, Copy)]
 struct Told {
     answer: Answer,
     ancestors: Ancestors,

@@ -1,4 +1,6 @@
 // A queue of components in a ring of 512 words in a lent slice, and a set of those that stand in it: nobody stands in it twice.
+#![tactic(auto)]
+
 ghost use Rattle.std.specs.Prelude.{◌≡◌, false, ◌++◌, ◌≤◌, ◌<◌, length, drop};
 ghost use Rattle.sets.specs.Sets.{member};
 ghost use Rattle.view.specs.View.{numbers};
@@ -7,7 +9,7 @@ ghost use Rattle.queue.specs.Ring.{line, first_set, offered, ring_offered, poppe
 use sets::Set;
 
 // `len` entries from place `head` on, around the ring; `queued` has the same members.
-#[derive(Drop)]
+#[derive(Clone, Copy)]
 pub struct Queue {
     pub head: u64,
     pub len: u64,
@@ -15,7 +17,7 @@ pub struct Queue {
 }
 
 // What is taken from the front: the first component, and the queue without it.
-#[derive(Drop)]
+#[derive(Clone, Copy)]
 pub struct Popped {
     pub front: u64,
     pub rest: Queue,

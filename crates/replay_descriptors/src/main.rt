@@ -1,6 +1,8 @@
 // Replays recorded answers about descriptors and names: reads cases on standard input, one a line, calls the functions
 // named there, and prints for each how many cases agree, and of how many. The crate `replaying` says what a case looks
 // like; the input's first lines say what each function's arguments and answers are.
+#![tactic(auto)]
+
 mod cutting;
 mod reading;
 mod writing;

@@ -3,6 +3,8 @@
 // `replaying` says what a case looks like; the input's first lines say what each function's arguments and answers are. A
 // line `table` holds the table that the lines after it ask about, and the types that `join` and `assign` ask about; a line
 // `t_check` holds the table that it asks about itself.
+#![tactic(auto)]
+
 mod asking;
 mod cutting;
 mod judging;
@@ -14,7 +16,7 @@ use replaying::{cases, parts, report, text};
 const NAMES: [u8; 40] = *b"table pair ancestors join assign t_check";
 
 // What a line came to: how many numbers the table has after it, the place of the line's name, and the verdict.
-#[derive(Drop)]
+#[derive(Clone, Copy)]
 struct Outcome {
     held: usize,
     place: usize,

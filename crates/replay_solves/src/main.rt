@@ -2,6 +2,8 @@
 // of line how many cases agree, and of how many. The crate `replaying` says what a case looks like; the input's first lines
 // say what stands in a line. A line `table` holds the table that the problems after it are over. The slices that are lent are
 // full of a pattern, and what a solve must leave alone is looked at too.
+#![tactic(auto)]
+
 mod calling;
 mod cutting;
 mod judging;
@@ -20,7 +22,7 @@ const NO_PROBLEM: [u64; 18] = [
 ];
 
 // What a line came to: how many numbers the table has after it, the place of the line's name, and the verdict.
-#[derive(Drop)]
+#[derive(Clone, Copy)]
 struct Outcome {
     held: usize,
     place: usize,

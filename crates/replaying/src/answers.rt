@@ -3,7 +3,7 @@ ghost use Rattle.std.specs.Prelude.{◌≡◌, true, cond, ◌↔◌, [], ◌∷
 ghost use Rattle.replaying.specs.Replaying.{verdict, Judges};
 
 // Whether they agree; Unread where a line is no case or the arguments are not in the function's form.
-#[derive(Drop)]
+#[derive(Clone, Copy)]
 pub enum Verdict {
     Agrees,
     Differs,

@@ -6,7 +6,7 @@ use crate::report::{COMMENT, UNREAD};
 use crate::{parts, text};
 
 // The place of the name among the names; how many numbers there are, and how many of them are arguments.
-#[derive(Drop)]
+#[derive(Clone, Copy)]
 pub struct Case {
     pub place: usize,
     pub count: usize,
@@ -39,7 +39,7 @@ const X: usize = 18;
 
 // A line as far as it is read: the numbers that are whole, how many bytes are in the store, how many numbers stood before the
 // equals sign (0 before it is read: every function has an argument), and what the next number is so far.
-#[derive(Drop)]
+#[derive(Clone, Copy)]
 struct Reading {
     state: usize,
     count: usize,

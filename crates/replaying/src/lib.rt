@@ -3,6 +3,8 @@
 //
 // A case is a line: `name arguments = answers`, one blank between. A number has at most 16 lower-case hex digits. Bytes are
 // one word, x and two digits a byte. A list is its length and then its members. A line that starts with # is no case.
+#![tactic(auto)]
+
 pub mod answers;
 pub mod cases;
 pub mod lists;

@@ -27,7 +27,7 @@ pub fn end_before(a: &[u64], at: usize, more: usize) -> usize
 }
 
 // Where the members of a list stand; both 0 for no list, since the length of one stands before its members.
-#[derive(Drop)]
+#[derive(Clone, Copy)]
 pub struct Span {
     pub start: usize,
     pub end: usize,

@@ -31,7 +31,7 @@ fn one_more(counts: &mut [u64], at: usize)
 }
 
 // Which counts a line is in: of the cases that agree, and of all.
-#[derive(Drop)]
+#[derive(Clone, Copy)]
 struct Entry {
     agree: usize,
     all: usize,

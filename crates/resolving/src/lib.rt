@@ -1,5 +1,7 @@
 // What lattice.rs asks of one component's bounds: the type that they produce, the element of an array, and the answer by five
 // ways. Bounds are type words in lent slices, a slice for each kind, in the order of types.
+#![tactic(auto)]
+
 ghost use Rattle.std.specs.Prelude.{◌≡◌, [], map};
 ghost use Rattle.ty.specs.Words.{Legal, type_of};
 ghost use Rattle.ty.specs.Answers.{maybe_word};

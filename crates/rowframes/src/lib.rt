@@ -1,4 +1,6 @@
 // The frames of rows, 01 to 09, and of a layer that is opened, 0e: the fields of a body, the row's own function, the numbers after it.
+#![tactic(auto)]
+
 ghost use Rattle.std.specs.Prelude.{◌≡◌, ◌-◌, ◌%◌, ◌≤◌, ◌<◌, length, take, drop, get_or};
 ghost use Rattle.sorted.specs.Sorted.{Sorted};
 ghost use Rattle.rows.specs.Rows.{name_row, filled};

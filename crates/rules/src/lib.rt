@@ -1,5 +1,7 @@
 // The rules of a turn in their order, from what was copied before the first insertion: what is produced and the fallbacks to the targets,
 // the upper and exact bounds to the sources, elements and arrays to the array constraints. The first refusal ends it.
+#![tactic(auto)]
+
 ghost use Rattle.std.specs.Prelude.{◌≡◌};
 ghost use Rattle.sorted.specs.Sorted.{Sorted};
 ghost use Rattle.solving.specs.Queue.{Below};

@@ -1,4 +1,6 @@
 // Turn by turn: the first queue, and the front that has the next turn. (The loop stands above the turn.)
+#![tactic(auto)]
+
 ghost use Rattle.std.specs.Prelude.{◌≡◌, ◌++◌, ◌≤◌, ◌<◌, length, drop};
 ghost use Rattle.view.specs.View.{numbers};
 ghost use Rattle.running.specs.Running.{started, taken};
@@ -7,7 +9,7 @@ use inserting::State;
 use queue::{fill, pop};
 
 // Whose turn it is, and the solve without it in the queue.
-#[derive(Drop)]
+#[derive(Clone, Copy)]
 pub struct Taken {
     pub root: u64,
     pub state: State,

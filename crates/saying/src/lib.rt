@@ -1,4 +1,6 @@
 // One line read and answered: its frame against the state, and what it says at the end of a lent buffer.
+#![tactic(auto)]
+
 ghost use Rattle.std.specs.Prelude.{◌≡◌, ◌+◌, ◌≤◌, length};
 ghost use Rattle.lineout.specs.Printed.{Puts};
 ghost use Rattle.framestate.specs.FrameState.{store_of};
@@ -14,7 +16,7 @@ use stepping::frame;
 pub const MOST: usize = 81920;
 
 // The numbers of the state after a line, and how many bytes of the buffer wait to be written.
-#[derive(Drop)]
+#[derive(Clone, Copy)]
 pub struct Spoken {
     pub numbers: Numbers,
     pub filled: usize,

@@ -1,5 +1,7 @@
 // How what a component's state gives is sent: the type that is produced, its element, its array. A type goes by its rank, so that a pass makes
 // keys without asking for it again.
+#![tactic(auto)]
+
 ghost use Rattle.std.specs.Prelude.{◌≡◌};
 ghost use Rattle.ty.specs.Types.{Array};
 ghost use Rattle.ty.specs.Words.{Legal, type_of};

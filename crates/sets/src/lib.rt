@@ -1,9 +1,11 @@
 // A set of numbers below 1,024 as sixteen words of 64 bits: the number i is bit i % 64, from the low end, of word i / 64.
 // A larger number is never a member: to put it in or to take it out changes nothing.
+#![tactic(auto)]
+
 ghost use Rattle.std.specs.Prelude.{◌≡◌, length, replicate};
 ghost use Rattle.sets.specs.Sets.{at, member, insert, remove, unite, intersect, subtract, members, first, same_words};
 
-#[derive(Drop)]
+#[derive(Clone, Copy)]
 pub struct Set {
     pub words: [u64; 16],
 }

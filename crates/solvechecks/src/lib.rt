@@ -1,5 +1,7 @@
 // What a solve over slices is refused with outside its rows, and what is left then: 22 for a lent slice that is too short, 3 for columns of
 // unequal length, 9 where the rows are taken and java/lang/Object is not among the names. Numbers alone, so that an edit is checked in seconds.
+#![tactic(auto)]
+
 ghost use Rattle.std.specs.Prelude.{◌≡◌, length, replicate};
 ghost use Rattle.problemcolumns.specs.ProblemColumns.{even_rows};
 ghost use Rattle.solver.specs.Solver.{counted};

@@ -1,5 +1,7 @@
 // A solve over slices: no slice too short, columns of equal length, the class table built from its columns in local arrays, then the
 // problem's rows and the solve over it. What is refused before the solve leaves answers and columns as they came.
+#![tactic(auto)]
+
 ghost use Rattle.solvedoor.specs.SolveDoor.{SolvesInBy};
 ghost use Rattle.solvedoor.specs.Inside.{SolvesOfBy, AskedSolve, AskedOver};
 

@@ -1,5 +1,7 @@
 // The frame of a solve, 0a: 9 without java/lang/Object, else the solve of the problem whose rows stand in parts of one slice. Its answers go in
 // front of a lent slice, a word a variable; its columns and its work are locals.
+#![tactic(auto)]
+
 ghost use Rattle.std.specs.Prelude.{◌≡◌, ◌≤◌, length};
 ghost use Rattle.lattice.specs.World.{world_of};
 ghost use Rattle.solving.specs.Solving.{solve};

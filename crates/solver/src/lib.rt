@@ -1,4 +1,6 @@
 // A solve over tables: the given bounds are loaded, and the run leaves the final table where they were loaded to.
+#![tactic(auto)]
+
 ghost use Rattle.std.specs.Prelude.{◌≡◌, map};
 ghost use Rattle.lattice.specs.World.{world_of};
 ghost use Rattle.solving.specs.Solving.{propagate};

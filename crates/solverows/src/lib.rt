@@ -1,5 +1,7 @@
 // The solve of a problem's columns over a class table that was built: the problem's rows into local arrays, their refusal or the lack of
 // java/lang/Object, and the solve of what the arrays keep. Only the solve writes answers and columns, and only where it is not refused.
+#![tactic(auto)]
+
 ghost use Rattle.lattice.specs.World.{world_of};
 ghost use Rattle.solving.specs.Solving.{solve};
 ghost use Rattle.solves.specs.SolveResult.{SolvesBy};

@@ -1,5 +1,7 @@
 // The solve of a problem that sorted slices keep: incoming links, the run over the front of the lent work, and, unless it was refused,
 // the answers and the final bounds at the front of the lent slices. The whole work is zero afterwards.
+#![tactic(auto)]
+
 ghost use Rattle.std.specs.Prelude.{◌≡◌, ◌≤◌, length};
 ghost use Rattle.std.proofs.Math.Seq.{paste};
 ghost use Rattle.lattice.specs.World.{world_of};

@@ -1,4 +1,6 @@
 // One line against the state of frames: HEX, the head, the frame of its kind. The state stands in four slices; a refused line changes none of them.
+#![tactic(auto)]
+
 ghost use Rattle.std.specs.Prelude.{◌≡◌, true, false, ◌≤◌, length, drop, get_or};
 ghost use Rattle.frames.specs.Frames.{frame};
 ghost use Rattle.framelaws.specs.Reached.{BytesIn};

@@ -1,4 +1,6 @@
 // The least common supertype, from hierarchy.rs, over the class tables as `hierarchy` reads them.
+#![tactic(auto)]
+
 ghost use Rattle.std.specs.Prelude.{◌≡◌, true, cond, ℕ, ◌≤◌, ◌<◌, length};
 ghost use Rattle.sets.specs.Sets.{MembersBelow, at, member, members, remove, intersect};
 ghost use Rattle.view.specs.View.{reached, ancestors, supertype, number_of};

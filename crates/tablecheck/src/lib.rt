@@ -1,4 +1,6 @@
 // Where a class table is refused. It is built as a question builds it; where a row is refused, its rows are gone through once more for the first.
+#![tactic(auto)]
+
 ghost use Rattle.std.specs.Prelude.{◌≡◌, length};
 ghost use Rattle.columns.specs.Given.{given, given_by};
 ghost use Rattle.layers.specs.Stacks.{ground};
@@ -16,7 +18,7 @@ use tables::{MARKS, PAIRS, Tables};
 
 // A refusal, the part of the table that it is about (0 columns of unequal length, 1 names, 2 records, 3 no name is
 // java/lang/Object), and the first refused row of the names or records; zeros where nothing is refused.
-#[derive(Drop)]
+#[derive(Clone, Copy)]
 pub struct TableCheck {
     pub refusal: u64,
     pub part: u64,
@@ -24,7 +26,7 @@ pub struct TableCheck {
 }
 
 // The refusal of the first record that is refused, and its row; 0 and the number of records where none is.
-#[derive(Drop)]
+#[derive(Clone, Copy)]
 pub(crate) struct Stop {
     pub refusal: u64,
     pub row: u64,

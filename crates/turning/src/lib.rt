@@ -1,5 +1,7 @@
 // A turn: what a component's state gives, from its copy and as far as a link asks for it, and the rules that send it on. The component's own
 // keys and its own flows are each read several times, so they are cut out once.
+#![tactic(auto)]
+
 ghost use Rattle.std.specs.Prelude.{◌≡◌, true, ◌≤◌, ◌<◌, length};
 ghost use Rattle.inserting.specs.Store.{store};
 ghost use Rattle.rules.specs.Rules.{links_in};
@@ -111,7 +113,7 @@ fn shape_if(
 }
 
 // What a turn gathers before its first insertion: what is sent, and how many ranks were copied.
-#[derive(Drop)]
+#[derive(Clone, Copy)]
 pub struct Gathered {
     pub produced: Sent,
     pub element: Sent,

@@ -1,4 +1,6 @@
 // Types of ty.rs as words of 64 bits: which words are types, the constants, and what is asked of one type alone.
+#![tactic(auto)]
+
 ghost use Rattle.std.specs.Prelude.{◌≡◌, ◌+◌, ◌-◌, ◌*◌, ◌/◌, ◌%◌, ◌^◌, ◌≤◌, ◌<◌, take};
 ghost use Rattle.order.specs.Lists.{elem};
 ghost use Rattle.ty.specs.Types.{is_known, is_primitive, is_object, is_array, is_reference, wide_category, all_wide, is_wide, is_concrete, categories, concrete_hint, hint_of_list, mask_with};
@@ -29,26 +31,26 @@ const ARRAY: u64 = 10;
 pub const NO_TYPE: u64 = 7;
 
 // A type: dimensions (8 bits), tag (8 bits; 0 primitive, 1 class, 2 Unknown), payload (48 bits).
-#[derive(Drop)]
+#[derive(Clone, Copy)]
 pub struct TypeWord {
     pub word: u64,
 }
 
 // A word from outside: a type, or refusal 7.
-#[derive(Drop)]
+#[derive(Clone, Copy)]
 pub enum Decoded {
     Good(TypeWord),
     Refused(u64),
 }
 
-#[derive(Drop)]
+#[derive(Clone, Copy)]
 pub enum MaybeType {
     Is(TypeWord),
     Nothing,
 }
 
 // The array of a type; of one with 255 dimensions there is none.
-#[derive(Drop)]
+#[derive(Clone, Copy)]
 pub enum Arrayed {
     Of(TypeWord),
     Deep,

@@ -1,5 +1,7 @@
 // typeline: reads hex frames on standard input, one a line, and prints what they say. Lines may have any bytes and any length; a state of fixed
 // size and one buffer of output are all that it keeps.
+#![tactic(auto)]
+
 mod input;
 mod output;
 
@@ -14,7 +16,7 @@ use tables::Tables;
 
 // What goes from line to line: the numbers of the state, how many lines are past, how many bytes there are of the line so far, how much of the
 // output waits, and whether the input ended.
-#[derive(Drop)]
+#[derive(Clone, Copy)]
 struct State {
     numbers: Numbers,
     lines: u64,

@@ -1,4 +1,6 @@
 // Well-formed UTF-8 by Unicode's table 3-7: how far the bytes of a part of a slice are whole sequences.
+#![tactic(auto)]
+
 ghost use Rattle.std.specs.Prelude.{◌≡◌, true, cond, [], ◌∷◌, ◌+◌, ◌-◌, ◌≤◌, ◌<◌, eqb, length, take, drop};
 ghost use Rattle.std.proofs.Math.Seq.{slice};
 ghost use Rattle.utf8.specs.Utf8.{◌‥◌, matches, sequence, ascii, valid_prefix, well_formed};

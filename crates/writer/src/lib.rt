@@ -1,4 +1,6 @@
 // Types and methods written as descriptors, from words over a table of names: lengths first, then the bytes.
+#![tactic(auto)]
+
 ghost use Rattle.std.specs.Prelude.{◌≡◌, true, ◌+◌, ◌≤◌, length, take, drop, replicate};
 ghost use Rattle.std.proofs.lemmas.List.Edits.{sets};
 ghost use Rattle.text.specs.Text.{byte};
@@ -20,7 +22,7 @@ const SHORT: u64 = 22;
 const PARAMETERS: usize = 255;
 
 // How much was written; or a refusal, and nothing was.
-#[derive(Drop)]
+#[derive(Clone, Copy)]
 pub struct Written {
     pub refusal: u64,
     pub length: u64,
