@@ -1,0 +1,20 @@
+-- `fill` meets its contract: what leads through a class that is not left is there.
+use borrow.Author.Rules.{rules}
+use native.Mathlib.Omega.{arith}
+use mathlib.Core.Path.{◌≡◌, sym, ap, ◌∙◌}
+use Prim.Native.Nat.{ℕ, ◌≤◌}
+use lib.ListN.{length, length-replicate}
+use Rattle.sets.specs.Sets.{at, members, first}
+use Rattle.sets.specs.Bits.{first-le}
+use Rattle.sets.proofs.Good.{array-length}
+use Rattle.view.specs.Frontier.{left-less}
+use Rattle.tables.specs.Table.{view_of, view-good}
+use Rattle.ancestry.specs.Rows.{rows_room}
+use Rattle.ancestry.specs.Closure.{Closing, closing-start, closing-next, closing-end}
+use Rattle.ancestry.proofs.fill.Given as goal
+
+abbrev pub invariant-loop-k : goal.invariant-loop-k
+invariant-loop-k l = (l.k ≡ first (at l.left.words) 1024) × (l.t.names ≤ 1024) × (length l.rows ≡ rows_room) × (length l.initial.left.words ≡ 16) × Closing (view_of l.pairs l.marks l.t) l.initial.left.words l.left.words l.rows
+
+abbrev pub decreases-loop-k : goal.decreases-loop-k
+decreases-loop-k l = length (members (at l.left.words) 0 1024)

@@ -1,0 +1,10 @@
+-- `bp_supertype` meets its contract: the answer of the question, and the work that it leaves.
+use borrow.Author.Rules.{rules}
+use mathlib.Core.Path.{ap, ◌∙◌}
+use Rattle.questions.specs.Questions.{value_of, answer_of}
+use Rattle.bracepuffin.specs.Boundary.{number_answer, supertype_told}
+use Rattle.bracepuffin.proofs.bp_supertype.Goals as goal
+
+pub returns : goal.returns
+unfolding value_of answer_of supertype_told
+returns c = let r = c.ask-a.ensures in (c.number_answer.ensures ∙ ap number_answer r.result, r.memory)

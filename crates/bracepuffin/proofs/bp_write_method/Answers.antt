@@ -1,0 +1,8 @@
+-- `bp_write_method` meets its contract: the answer of the writer, and the output that it leaves.
+use borrow.Author.Rules.{rules}
+use mathlib.Core.Path.{ap, ◌∙◌}
+use Rattle.bracepuffin.specs.Boundary.{written_answer}
+use Rattle.bracepuffin.proofs.bp_write_method.Goals as goal
+
+pub returns : goal.returns
+returns c = let w = c.write_method.ensures in record { result = c.written_answer.ensures ∙ ap written_answer w.result; memory = w.memory }

@@ -1,0 +1,20 @@
+-- The test of a block meets its contract: after k bytes, `found` says whether the first ';' is among them.
+use borrow.Author.Rules.{rules}
+use borrow.Author.Tests.{lt-ltb, le-ltb, ltb-true, ltb-false}
+use mathlib.Core.Path.{◌≡◌, refl, sym, ap, ◌∙◌}
+use mathlib.Core.Bool.{Bool, true, false}
+use mathlib.Core.List.{List}
+use mathlib.Core.Logic.{⊎_elim}
+use Prim.Native.Nat.{ℕ, ◌+◌, ◌-◌, ◌≤◌, ◌<◌}
+use native.Mathlib.Omega.{arith}
+use lib.Dec.{ltb}
+use lib.ListN.{length, drop, get_or}
+use Rattle.descriptor.specs.Read.{index_of}
+use Rattle.descriptor.specs.Steps.{index-here, index-later, index-past}
+use Rattle.descriptor.proofs.ends_in_block.Given as goal
+
+abbrev pub invariant-loop-k : goal.invariant-loop-k
+invariant-loop-k l = (l.i + 8 ≤ length l.s) × (l.k ≤ 8) × (l.found ≡ ltb (index_of 59 (drop l.i l.s)) l.k)
+
+abbrev pub decreases-loop-k : goal.decreases-loop-k
+decreases-loop-k l = 8 - l.k

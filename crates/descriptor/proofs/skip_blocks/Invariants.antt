@@ -1,0 +1,16 @@
+-- The passing of blocks meets its contract: the search from `from` is the search from `i`, past each block without a ';'.
+use borrow.Author.Rules.{rules}
+use borrow.Author.Tests.{ltb-false}
+use mathlib.Core.Path.{◌≡◌, refl, sym, ◌∙◌}
+use Prim.Native.Nat.{◌+◌, ◌-◌, ◌≤◌}
+use native.Mathlib.Omega.{arith}
+use lib.ListN.{length, drop}
+use Rattle.descriptor.specs.Read.{index_of}
+use Rattle.descriptor.specs.Steps.{index-past}
+use Rattle.descriptor.proofs.skip_blocks.Given as goal
+
+abbrev pub invariant-loop-i : goal.invariant-loop-i
+invariant-loop-i l = (l.i ≤ length l.s) × (l.from + index_of 59 (drop l.from l.s) ≡ l.i + index_of 59 (drop l.i l.s))
+
+abbrev pub decreases-loop-i : goal.decreases-loop-i
+decreases-loop-i l = length l.s - l.i

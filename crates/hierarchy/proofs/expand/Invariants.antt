@@ -1,0 +1,20 @@
+-- `expand` meets its contract: what is left to expand are the members of `left`, and c is the least of them.
+use borrow.Author.Rules.{rules}
+use native.Mathlib.Omega.{arith}
+use mathlib.Core.Path.{◌≡◌, refl, sym, ap₂, ◌∙◌}
+use mathlib.Core.List.{List}
+use Prim.Native.Nat.{ℕ}
+use lib.ListN.{length}
+use Rattle.sets.specs.Sets.{at, members, first}
+use Rattle.view.specs.View.{with_parents}
+use Rattle.tables.specs.Table.{view_of}
+use Rattle.hierarchy.proofs.Steps.{expand-step, expand-end}
+use Rattle.view.specs.Frontier.{left-less}
+use Rattle.hierarchy.proofs.expand.Given as goal
+
+abbrev pub invariant-loop-c : goal.invariant-loop-c
+invariant-loop-c l = (l.c ≡ first (at l.left.words) 1024)
+    × (with_parents (view_of l.pairs l.marks l.t) l.initial.all.words (members (at l.initial.left.words) 0 1024) ≡ with_parents (view_of l.pairs l.marks l.t) l.all.words (members (at l.left.words) 0 1024))
+
+abbrev pub decreases-loop-c : goal.decreases-loop-c
+decreases-loop-c l = length (members (at l.left.words) 0 1024)

@@ -1,0 +1,6 @@
+-- `reaches` meets its contract.
+use borrow.Author.Rules.{rules}
+use Rattle.hierarchy.proofs.reaches.Goals as goal
+
+pub returns : goal.returns
+returns c = c.walk_to-w.ensures.tells

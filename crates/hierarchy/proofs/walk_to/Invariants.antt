@@ -1,0 +1,14 @@
+-- `walk_to` meets its contract: at each turn the walk stands at level k; the measure is the number of levels left.
+use borrow.Author.Rules.{rules}
+use native.Mathlib.Omega.{arith}
+use mathlib.Core.Path.{sym, ◌∙◌}
+use Prim.Native.Nat.{◌-◌}
+use Rattle.tables.specs.Table.{view_of}
+use Rattle.hierarchy.proofs.Walks.{Standing, standing-start, standing-next, walked-found, walked-last, walked-end}
+use Rattle.hierarchy.proofs.walk_to.Given as goal
+
+abbrev pub invariant-loop-k : goal.invariant-loop-k
+invariant-loop-k l = Standing (view_of l.pairs l.marks l.t) l.x l.y l.seen.words l.front.words l.k
+
+abbrev pub decreases-loop-k : goal.decreases-loop-k
+decreases-loop-k l = l.t.names - l.k

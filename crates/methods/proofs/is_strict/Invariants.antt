@@ -1,0 +1,17 @@
+-- The loop meets its contract: whether the name is strict is whether what is left from `i` goes on strictly.
+use borrow.Author.Rules.{rules}
+use mathlib.Core.Path.{◌≡◌, refl, sym, ap, ◌∙◌}
+use mathlib.Core.Bool.{Bool, false, not}
+use Prim.Native.Nat.{◌+◌, ◌-◌, ◌≤◌}
+use native.Mathlib.Omega.{arith}
+use lib.Dec.{eqb}
+use lib.ListN.{length, get_or, take, drop}
+use Rattle.methods.specs.Strict.{pick_b, parts-end, parts-at}
+use Rattle.descriptor.specs.Read.{parts_from, strict_name}
+use Rattle.methods.proofs.is_strict.Given as goal
+
+abbrev pub invariant-loop-i : goal.invariant-loop-i
+invariant-loop-i l = (l.i ≤ l.to) × (l.to ≤ length l.s) × (strict_name (take (l.to - l.from) (drop l.from l.s)) ≡ parts_from l.begun (take (l.to - l.i) (drop l.i l.s)))
+
+abbrev pub decreases-loop-i : goal.decreases-loop-i
+decreases-loop-i l = l.to - l.i

@@ -1,0 +1,48 @@
+-- The test of a block meets its contract: the names differ in it where they differ in its first k bytes or in the rest.
+use borrow.Author.Rules.{rules}
+use mathlib.Core.Path.{◌≡◌, sym, ap, ap₂, ◌∙◌}
+use mathlib.Core.Bool.{Bool, ◌||◌, or-true, or-false}
+use mathlib.Core.Logic.{⊎_elim}
+use Prim.Native.Nat.{ℕ, ◌+◌, ◌-◌, ◌≤◌}
+use native.Mathlib.Omega.{arith}
+use lib.ListN.{length}
+use lib.Seq.{slice}
+use Rattle.nameorder.proofs.Block.{differ, same-first, other-first, none-left}
+use Rattle.nameorder.proofs.differ_in_block.Goals as goal
+
+pub loop-k-init : goal.loop-k-init
+loop-k-init c = let a = c.args in
+    let start : a.i ≡ a.i + 0 = omega arith in
+    (c.requires.0, c.requires.1, omega arith, ap (λ (n : ℕ). differ (slice n (a.i + 8) a.a.now) (slice n (a.i + 8) a.b.now)) start)
+
+pub loop-k-preserved : goal.loop-k-preserved
+loop-k-preserved c = let a = c.args in
+    let l = c.loop-k in
+    let x = a.a.now in
+    let y = a.b.now in
+    let i = a.i in
+    let next : i + l.k + 1 ≡ i + (l.k + 1) = omega arith in (
+      l.invariant.0,
+      l.invariant.1,
+      omega arith,
+      l.invariant.3
+          ∙ ⊎_elim
+          (λ w. ap (λ (t : Bool). l.differ || t) (other-first x y (i + l.k) (i + 8) (omega arith) l.invariant.0 l.invariant.1 w.0.taken) ∙ rw w.1 (or-true l.differ))
+          (λ w.
+          ap₂ ◌||◌ (sym w.1)
+          (same-first x y (i + l.k) (i + 8) (omega arith) l.invariant.0 l.invariant.1 w.0.left
+          ∙ ap (λ (n : ℕ). differ (slice n (i + 8) x) (slice n (i + 8) y)) next))
+          c.if-a-i.branch,
+    )
+
+pub returns : goal.returns
+returns c = let a = c.args in
+    let l = c.loop-k in
+    let x = a.a.now in
+    let y = a.b.now in
+    let end : a.i + l.k ≡ a.i + 8 = omega arith in
+    sym
+    (l.invariant.3
+    ∙ ap (λ (n : ℕ). l.differ || differ (slice n (a.i + 8) x) (slice n (a.i + 8) y)) end
+    ∙ ap (λ (t : Bool). l.differ || t) (none-left x y (a.i + 8))
+    ∙ or-false l.differ)

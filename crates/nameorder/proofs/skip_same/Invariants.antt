@@ -1,0 +1,15 @@
+-- The passing of equal blocks meets its contract: the names stand to each other as they do from i on.
+use borrow.Author.Rules.{rules}
+use mathlib.Core.Path.{◌≡◌, refl, sym, ◌∙◌}
+use Prim.Native.Nat.{◌+◌, ◌-◌, ◌≤◌}
+use native.Mathlib.Omega.{arith}
+use lib.ListN.{length, drop}
+use Rattle.order.specs.Compare.{compare_lists}
+use Rattle.nameorder.proofs.Block.{past}
+use Rattle.nameorder.proofs.skip_same.Given as goal
+
+abbrev pub invariant-loop-i : goal.invariant-loop-i
+invariant-loop-i l = (l.n ≤ length l.a) × (l.n ≤ length l.b) × (l.i ≤ l.n) × (compare_lists l.a l.b ≡ compare_lists (drop l.i l.a) (drop l.i l.b))
+
+abbrev pub decreases-loop-i : goal.decreases-loop-i
+decreases-loop-i l = l.n - l.i

@@ -1,0 +1,82 @@
+-- `check_names` meets its contract. The invariant: what is refused is what the rows from i on are refused, after the i names passed.
+use borrow.Author.Rules.{rules}
+use mathlib.Core.Path.{◌≡◌, sym, ◌∙◌}
+use mathlib.Core.List.{List}
+use Prim.Native.Nat.{ℕ, ◌+◌, ◌-◌, ◌≤◌, ◌<◌}
+use native.Mathlib.Omega.{arith}
+use native.Mathlib.Numerals.{add-one}
+use lib.ListN.{length, get_or, drop, drop_of_length-le}
+use lib.Seq.{drop-cons}
+use borrow.Author.Tests.{eq-eqb, ne_eqb}
+use Rattle.checks.specs.Checks.{or_else, else-none, else-some}
+use Rattle.names.specs.Names.{name_of, check_row, check_rows, check_names}
+use Rattle.names.specs.Table.{GoodRow, row-checked}
+use Rattle.names.proofs.check_names.Goals as goal
+
+-- ---- the rows from i on
+module _ (bytes ats lens last : List ℕ) (i total : ℕ) where
+  -- row i, then the others
+  rows-at : i < length ats → i < length lens
+      → check_rows bytes (drop i ats) (drop i lens) last i total
+      ≡ or_else (check_row bytes (get_or ats i 0) (get_or lens i 0) last i total)
+      (check_rows bytes (drop (i + 1) ats) (drop (i + 1) lens) (name_of bytes (get_or ats i 0) (get_or lens i 0)) (i + 1) (total + get_or lens i 0))
+  unfolding check_rows
+  rows-at h k = rw (add-one, drop-cons ats i 0, drop-cons lens i 0)
+
+  row-refused : (r : ℕ) → i < length ats → i < length lens → r ≡ check_row bytes (get_or ats i 0) (get_or lens i 0) last i total → (r ≡ 0 → ⊥)
+      → check_rows bytes (drop i ats) (drop i lens) last i total ≡ r
+  row-refused r h k e z = rw (rows-at h k, ← e) (else-some r _ z)
+
+  row-passed : (r : ℕ) → i < length ats → i < length lens → r ≡ check_row bytes (get_or ats i 0) (get_or lens i 0) last i total → r ≡ 0
+      → check_rows bytes (drop i ats) (drop i lens) last i total
+      ≡ check_rows bytes (drop (i + 1) ats) (drop (i + 1) lens) (name_of bytes (get_or ats i 0) (get_or lens i 0)) (i + 1) (total + get_or lens i 0)
+  row-passed r h k e z = rw (rows-at h k, ← e) (else-none r _ z)
+
+  rows-end : length ats ≤ i → check_rows bytes (drop i ats) (drop i lens) last i total ≡ 0
+  unfolding check_rows
+  rows-end h = rw (drop_of_length-le ats {i = i} h)
+
+-- a row that is passed is good
+good : (c : tie.Else2 invariant-loop decreases-loop) → let a = c.before.before.before.before.before.before.before.before.before.before.args in
+    let l = c.before.before.before.before.before.loop in
+    let s = a.names.now in
+    GoodRow s (get_or a.name-at.now l.i 0) (get_or a.name-len.now l.i 0) (name_of s l.last l.span) l.i l.total
+good c = row-checked _ _ _ _ _ _ (sym c.before.check-row.ensures ∙ c.if2.false)
+
+pub returns-then-name_at-name_len : goal.returns-then-name_at-name_len
+unfolding check_names
+returns-then-name_at-name_len c = rw (ne_eqb _ _ c.if-name_at-name_len.true)
+
+pub loop-i-init : goal.loop-i-init
+unfolding check_names
+loop-i-init c = (omega arith, c.if-name_at-name_len.false, omega arith, omega arith, omega arith, rw (eq-eqb _ _ c.if-name_at-name_len.false))
+
+pub returns-then-refusal-ne0 : goal.returns-then-refusal-ne0
+returns-then-refusal-ne0 c = let a = c.args in
+    let l = c.loop-i in
+    let s = a.names.now in
+    let r = c.check_row-refusal in
+    sym (l.invariant.5 ∙ row-refused s a.name-at.now a.name-len.now (name_of s l.last l.span) l.i l.total r.result (omega arith) (omega arith) r.ensures c.if-refusal-ne0.true)
+
+pub overflow_add-total : goal.overflow_add-total
+overflow_add-total c = let g = good c in omega arith
+
+pub loop-i-preserved : goal.loop-i-preserved
+loop-i-preserved c = let a = c.args in
+    let l = c.loop-i in
+    let s = a.names.now in
+    let r = c.check_row-refusal in
+    let g = good c in (
+      omega arith,
+      l.invariant.1,
+      g.inside.starts,
+      g.inside.ends,
+      g.short,
+      l.invariant.5 ∙ row-passed s a.name-at.now a.name-len.now (name_of s l.last l.span) l.i l.total r.result (omega arith) (omega arith) r.ensures c.if-refusal-ne0.false,
+    )
+
+pub returns : goal.returns
+returns c = let a = c.args in
+    let l = c.loop-i in
+    let s = a.names.now in
+    sym (l.invariant.5 ∙ rows-end s a.name-at.now a.name-len.now (name_of s l.last l.span) l.i l.total (omega arith))

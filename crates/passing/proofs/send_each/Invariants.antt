@@ -1,0 +1,19 @@
+-- `send_each` meets its contract: what is left are the links from i on.
+use borrow.Author.Rules.{rules}
+use mathlib.Core.Path.{◌≡◌, refl, sym, ap, ◌∙◌}
+use Prim.Native.Nat.{◌+◌, ◌-◌, ◌%◌, ◌≤◌}
+use native.Mathlib.Omega.{arith}
+use lib.ListN.{length, drop, get_or}
+use Rattle.solving.specs.Solving.{to_one, to_each}
+use Rattle.inserting.specs.Store.{store, put_all, sent_types, Ready}
+use Rattle.inserting.specs.Laws.{all-stopped, sent-base}
+use Rattle.passing.specs.Passes.{seconds}
+use Rattle.passing.specs.Steps.{one-given, next-ready, each-put, each-done}
+use Rattle.passing.proofs.send_each.Given as goal
+
+abbrev pub invariant-loop-i : goal.invariant-loop-i
+invariant-loop-i l = (l.i ≤ length l.links) × (length l.a ≡ length l.initial.a) × (length l.ring ≡ length l.initial.ring) × Ready (store l.a l.ring l.state)
+    × (put_all (to_each 0 l.kind (sent_types l.t) (seconds l.links)) (store l.initial.a l.initial.ring l.initial.state) ≡ put_all (to_each 0 l.kind (sent_types l.t) (drop l.i (seconds l.links))) (store l.a l.ring l.state))
+
+abbrev pub decreases-loop-i : goal.decreases-loop-i
+decreases-loop-i l = length l.links - l.i

@@ -1,0 +1,33 @@
+-- `build_problem` meets its contract: the refusal of the count or of the variables, or the entries after them.
+use borrow.Author.Rules.{rules}
+use mathlib.Core.Path.{sym, ◌∙◌}
+use native.Mathlib.Omega.{arith}
+use Rattle.problems.specs.Problems.{Columns}
+use Rattle.problemcolumns.specs.ProblemColumns.{columns_in}
+use Rattle.problemcolumns.specs.Laws.{head-refused, head-passed, entered-taken}
+use Rattle.problemcolumns.specs.Steps.{words-fit}
+use Rattle.problemcolumns.proofs.build_problem.Goals as goal
+
+abbrev columns : tie.Start → Columns
+
+columns s =
+    let a = s.args in
+    columns_in a.components a.var-comp.now a.bnd-comp.now a.bnd-kind.now a.bnd-type.now a.flow-src.now a.flow-dst.now a.up-src.now a.up-dst.now a.read-arr.now a.read-res.now a.write-arr.now a.write-val.now
+
+pub returns-then-refusal-ne0 : goal.returns-then-refusal-ne0
+returns-then-refusal-ne0 c = let a = c.args in
+    let head = c.check_head-refusal in
+    head-refused a.names (columns c) head.result head.ensures c.if-refusal-ne0.true a.bounds.now a.flows.now a.uppers.now a.reads.now a.writes.now
+
+pub build_entries-requires : goal.build_entries-requires
+build_entries-requires c = let passed = head-passed c.args.names (columns c) (sym c.check_head-refusal.ensures ∙ c.if-refusal-ne0.false) in
+    (c.requires.0, passed.0, c.requires.1, c.requires.2)
+
+pub returns : goal.returns
+returns c = let a = c.args in
+    let passed = head-passed a.names (columns c) (sym c.check_head-refusal.ensures ∙ c.if-refusal-ne0.false) in
+    let entries = c.build_entries in
+    entered-taken a.names (columns c) c.requires.0 (words-fit a.bnd-type.now (λ i. omega (arith, (c.type_inv.bnd_type i).fits))) passed.0 passed.1
+    a.bounds.now entries.new.bounds a.flows.now entries.new.flows
+    a.uppers.now entries.new.uppers a.reads.now entries.new.reads
+    a.writes.now entries.new.writes entries.result entries.ensures

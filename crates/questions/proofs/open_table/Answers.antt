@@ -1,0 +1,11 @@
+-- `open_table` meets its contract: the slices hold what the rows say where nothing is refused.
+use borrow.Author.Rules.{rules}
+use Rattle.columns.specs.Given.{given}
+use Rattle.questions.specs.Laws.{opens}
+use Rattle.questions.proofs.open_table.Goals as goal
+
+pub returns : goal.returns
+returns c = let a = c.args in
+    let t = c.build_table-o in
+    let k = c.with_checks in
+    opens (given a.names.now a.name-at.now a.name-len.now a.rec-flags.now a.rec-class.now a.rec-at.now a.rec-len.now a.parents.now) a.types a.a a.b _ _ t.result t.ensures k.result k.ensures.0 k.ensures.1

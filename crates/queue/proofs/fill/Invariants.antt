@@ -1,0 +1,18 @@
+-- `fill` meets its contract: after i steps the first i components stand in the ring and in the set.
+use borrow.Author.Rules.{rules}
+use mathlib.Core.Path.{◌≡◌, refl, sym, ap, ◌∙◌}
+use mathlib.Core.List.{List, ◌++◌}
+use Prim.Native.Nat.{ℕ, ◌+◌, ◌-◌, ◌≤◌}
+use native.Mathlib.Omega.{arith}
+use lib.ListN.{length, drop, set, length-set}
+use Rattle.sets.specs.Sets.{insert}
+use Rattle.view.specs.View.{numbers}
+use Rattle.queue.specs.Ring.{first_set}
+use Rattle.queue.specs.Laws.{first-more, numbers-more}
+use Rattle.queue.proofs.fill.Given as goal
+
+abbrev pub invariant-loop-i : goal.invariant-loop-i
+invariant-loop-i l = (l.i ≤ l.n) × (length l.ring ≡ 512) × (l.queued.words ≡ first_set l.i) × (l.ring ≡ numbers 0 l.i ++ drop l.i l.initial.ring)
+
+abbrev pub decreases-loop-i : goal.decreases-loop-i
+decreases-loop-i l = l.n - l.i

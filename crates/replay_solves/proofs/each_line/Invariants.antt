@@ -1,0 +1,12 @@
+-- `each_line` is safe and ends: a line ends inside the input.
+use borrow.Author.Rules.{rules}
+use mathlib.Core.Path.{◌≡◌}
+use Prim.Native.Nat.{◌+◌, ◌-◌, ◌^◌, ◌<◌}
+use lib.ListN.{length}
+use Rattle.replay_solves.proofs.each_line.Given as goal
+
+abbrev pub invariant-loop-i : goal.invariant-loop-i
+invariant-loop-i l = (length l.input < 2 ^ 63) × (length l.table ≡ length l.initial.table) × (length l.store ≡ length l.initial.store) × (length l.counts ≡ length l.initial.counts)
+
+abbrev pub decreases-loop-i : goal.decreases-loop-i
+decreases-loop-i l = length l.input + 1 - l.i

@@ -1,0 +1,11 @@
+-- `sum` meets its contract: what is added so far is the sum of the first k.
+use Rattle.std.proofs.Common.{◌≡◌, ℕ, ◌+◌, ◌-◌, ◌*◌, ◌%◌, ◌^◌, ◌≤◌, get_or, refl, ap, ◌∙◌, arith, rules}
+use Rattle.replaying.specs.Report.{total}
+use Rattle.replaying.specs.ReportLaws.{total-step}
+use Rattle.replaying.proofs.report.sum.Given as goal
+
+abbrev pub invariant-loop-k : goal.invariant-loop-k
+invariant-loop-k l = (l.k ≤ l.n) × (l.s ≡ total l.counts l.first l.k)
+
+abbrev pub decreases-loop-k : goal.decreases-loop-k
+decreases-loop-k l = l.n - l.k

@@ -1,0 +1,13 @@
+-- `only_concrete` meets its contract: a word is kept as it is, or not at all.
+use borrow.Author.Rules.{rules}
+use mathlib.Core.Path.{sym, ap, ◌∙◌, subst}
+use Rattle.candidates.specs.Maybe.{LegalMaybe, maybe_type}
+use Rattle.resolving.specs.Laws.{concrete-is, kept-legal}
+use Rattle.resolving.proofs.only_concrete.Goals as goal
+
+pub returns-in-Is : goal.returns-in-Is
+returns-in-Is c = let a = c.args in
+    let u = c.in-Is.u in
+    let e = c.in-Is.is in
+    let b = c.is_concrete.result in
+    (subst LegalMaybe (sym c.kept.ensures) (kept-legal a.t u e b c.requires), ap maybe_type c.kept.ensures ∙ concrete-is a.t u e b c.is_concrete.ensures)

@@ -1,0 +1,11 @@
+-- `byte_at` meets its contract: a byte is below 256.
+use borrow.Author.Rules.{rules}
+use mathlib.Core.Path.{refl}
+use native.Mathlib.Omega.{arith}
+use Rattle.rowframes.proofs.byte_at.Goals as goal
+
+pub overflow_cast-result : goal.overflow_cast-result
+overflow_cast-result c = omega (arith, c.type_inv.body c.args.i)
+
+pub returns : goal.returns
+returns c = (refl, omega (arith, c.type_inv.body c.args.i))

@@ -1,0 +1,16 @@
+-- `load` meets its contract: after i steps the first i keys stand in their places.
+use borrow.Author.Rules.{rules}
+use mathlib.Core.Path.{◌≡◌, refl, ap, ◌∙◌}
+use mathlib.Core.List.{List, ◌++◌}
+use Prim.Native.Nat.{ℕ, ◌+◌, ◌-◌, ◌≤◌}
+use native.Mathlib.Omega.{arith}
+use lib.ListN.{length, length-set, take, drop, get_or, set}
+use lib.Seq.{take-length}
+use Rattle.running.specs.Laws.{load-more}
+use Rattle.running.proofs.load.Given as goal
+
+abbrev pub invariant-loop-i : goal.invariant-loop-i
+invariant-loop-i l = (l.i ≤ length l.given) × (length l.a ≡ length l.initial.a) × (l.a ≡ take l.i l.given ++ drop l.i l.initial.a)
+
+abbrev pub decreases-loop-i : goal.decreases-loop-i
+decreases-loop-i l = length l.given - l.i

@@ -1,0 +1,40 @@
+-- `say_line` meets its contract: what the frame leaves, and what it says at the end of the buffer.
+use Prim.Native.Nat.{zero-le}
+use Rattle.saying.specs.Printing.{speaks, inside, answers-end, answers-few, filled-in}
+use Rattle.saying.proofs.say_line.Goals as goal
+
+pub frame-f-requires : goal.frame-f-requires
+frame-f-requires c = (c.requires.0, c.requires.1)
+
+pub slice_bounds-put_said-count : goal.slice_bounds-put_said-count
+slice_bounds-put_said-count c = zero-le
+
+pub slice_bounds-put_said-start : goal.slice_bounds-put_said-start
+slice_bounds-put_said-start c = zero-le
+
+pub slice_bounds-put_said-end : goal.slice_bounds-put_said-end
+slice_bounds-put_said-end c = answers-end c.args.n.variables c.args.answers.now c.frame-f.new.answers c.requires.0.ready.within.variables c.frame-f.auto.1.1.1.1.1.0 c.requires.1
+
+pub put_said-m-requires : goal.put_said-m-requires
+put_said-m-requires c = (c.requires.2, answers-few c.args.n.variables c.args.answers.now _ c.requires.0.ready.within.variables c.frame-f.auto.1.1.1.1.1.0 c.requires.1)
+
+pub shape_of-last : goal.shape_of-last
+shape_of-last c = c.frame-f.auto.1.0
+
+pub shape_of-pairs : goal.shape_of-pairs
+shape_of-pairs c = c.frame-f.auto.1.1.0
+
+pub shape_of-marks : goal.shape_of-marks
+shape_of-marks c = c.frame-f.auto.1.1.1.0
+
+pub shape_of-rows : goal.shape_of-rows
+shape_of-rows c = c.frame-f.auto.1.1.1.1.0
+
+pub shape_of-answers : goal.shape_of-answers
+shape_of-answers c = c.frame-f.auto.1.1.1.1.1.0
+
+pub shape_of-out : goal.shape_of-out
+shape_of-out c = c.put_said-m.auto.0
+
+pub returns : goal.returns
+returns c = let f = c.frame-f in let p = c.put_said-m in (speaks c.args.line.now c.args.last.now c.args.pairs.now c.args.marks.now c.args.rows.now f.new.last f.new.pairs f.new.marks f.new.rows c.args.answers.now f.new.answers c.args.n c.requires.0 f.result c.args.number c.args.filled c.args.out.now _ p.result f.ensures.0 p.ensures, (f.ensures.1, inside _ c.args.filled c.args.out.now _ p.result p.ensures (filled-in c.args.filled c.args.out.now c.requires.2) p.auto.0))

@@ -1,0 +1,47 @@
+-- `solve_rows` meets its contract: the refusal of the rows, the lack of Object, or the solve of what the arrays keep.
+use borrow.Author.Rules.{rules}
+use Rattle.lattice.specs.World.{world_of}
+use Rattle.problems.specs.Problems.{Columns}
+use Rattle.problemcolumns.specs.ProblemColumns.{columns_in}
+use Rattle.problemcolumns.specs.Laws.{taken-counts}
+use Rattle.solverows.specs.Laws.{refused-rows, refusal-is, object-there, parts-keep, parts-are, rows-solved}
+use Rattle.solverows.proofs.solve_rows.Goals as goal
+
+abbrev columns : tie.Start → Columns
+
+columns s =
+    let a = s.args in
+    columns_in a.components a.var-comp.now a.bnd-comp.now a.bnd-kind.now a.bnd-type.now a.flow-src.now a.flow-dst.now a.up-src.now a.up-dst.now a.read-arr.now a.read-res.now a.write-arr.now a.write-val.now
+
+pub build_problem-n-requires : goal.build_problem-n-requires
+build_problem-n-requires c = let p = c.requires in
+    (p.0.1, p.1, (search rules, search rules, search rules, search rules, search rules))
+
+pub returns-then-refusal-ne0 : goal.returns-then-refusal-ne0
+returns-then-refusal-ne0 c = let a = c.args in
+    let b = c.build_problem-n in
+    let k = c.rows_refusal-refusal in
+    let f = c.refuse in
+    let e = refusal-is a.t.names (columns c) _ _ _ _ _ _ _ _ _ _ b.result b.ensures a.t.object k.result k.ensures in
+    refused-rows a.answers.now a.out-comp.now a.out-kind.now a.out-type.now a.work.now _ f.result k.result f.ensures.0 f.ensures.1 (world_of a.pairs.now a.marks.now a.t) a.t (columns c) c.if-refusal-ne0.true e
+
+pub solve_kept-requires : goal.solve_kept-requires
+solve_kept-requires c = let a = c.args in
+    let b = c.build_problem-n in
+    let k = c.rows_refusal-refusal in
+    let z = c.if-refusal-ne0.false in
+    let p = c.requires.0 in (
+      (p.0, (p.1, p.2 (object-there a.t.names (columns c) _ _ _ _ _ _ _ _ _ _ b.result b.ensures a.t.object k.result k.ensures z))),
+      taken-counts a.t.names (columns c) _ _ _ _ _ _ _ _ _ _ b.result b.ensures,
+      parts-keep a.t.names (columns c) _ _ _ _ _ _ _ _ _ _ b.result b.ensures a.t.object k.result k.ensures z,
+      c.requires.2,
+    )
+
+pub returns : goal.returns
+returns c = let a = c.args in
+    let b = c.build_problem-n in
+    let k = c.rows_refusal-refusal in
+    let z = c.if-refusal-ne0.false in
+    let e = refusal-is a.t.names (columns c) _ _ _ _ _ _ _ _ _ _ b.result b.ensures a.t.object k.result k.ensures in
+    let q = parts-are a.t.names (columns c) _ _ _ _ _ _ _ _ _ _ b.result b.ensures a.t.object k.result k.ensures z in
+    rows-solved (world_of a.pairs.now a.marks.now a.t) a.t (columns c) _ k.result e z q _ _ _ c.solve_kept.ensures

@@ -1,0 +1,16 @@
+-- `contains` meets its contract. The invariant: the digits passed do not have d.
+use borrow.Author.Rules.{rules}
+use borrow.Author.Tests.{eq-eqb, ne_eqb}
+use mathlib.Core.Path.{◌≡◌, refl, sym, ap, ◌∙◌}
+use mathlib.Core.Bool.{Bool, ◌||◌}
+use Prim.Native.Nat.{◌+◌, ◌-◌, ◌≤◌}
+use native.Mathlib.Omega.{arith}
+use Rattle.order.specs.Lists.{elem}
+use Rattle.ty.specs.Steps.{rest_of, elem-step, elem-none}
+use Rattle.ty.proofs.contains.Given as goal
+
+abbrev pub invariant-loop-i : goal.invariant-loop-i
+invariant-loop-i l = (l.from ≤ l.i) × (l.i ≤ l.n) × (elem l.d (rest_of l.load l.n l.from) ≡ elem l.d (rest_of l.load l.n l.i))
+
+abbrev pub decreases-loop-i : goal.decreases-loop-i
+decreases-loop-i l = l.n - l.i

@@ -1,0 +1,19 @@
+-- `types_length` meets its contract. Invariant: the sum so far and what is left make the whole.
+use borrow.Author.Rules.{rules}
+use mathlib.Core.Path.{◌≡◌}
+use Prim.Native.Nat.{◌≤◌, ◌+◌, ◌-◌, ◌*◌}
+use native.Mathlib.Omega.{arith}
+use mathlib.Core.Bool.{true}
+use lib.ListN.{length, drop}
+use Rattle.ty.specs.Words.{all_legal}
+use Rattle.writer.specs.Steps.{words_size, size-next, size-none, legal-front}
+use Rattle.writer.proofs.types_length.Given as goal
+
+abbrev pub invariant-loop-i : goal.invariant-loop-i
+invariant-loop-i l = (l.i ≤ length l.words)
+    × (l.n ≤ 512 * l.i)
+    × (words_size l.name_len l.words ≡ l.n + words_size l.name_len (drop l.i l.words))
+    × (all_legal (length l.name_len) (drop l.i l.words) ≡ true)
+
+abbrev pub decreases-loop-i : goal.decreases-loop-i
+decreases-loop-i l = length l.words - l.i
