@@ -15,13 +15,13 @@ use Rattle.candidates.proofs.group_of.Goals as goal
 
 pub loop-i-init : goal.loop-i-init
 loop-i-init c = let a = c.args in (
-      omega arith,
-      refl,
-      refl,
-      subst (λ (ts : List ArgType). Grouped (world_of a.pairs.now a.marks.now a.t) ts (head_of a.candidate.word) true c.empty.result.words)
-          (sym (types-end a.upper.now (length a.upper.now) (omega arith)))
-          (grouped-none (world_of a.pairs.now a.marks.now a.t) (head_of a.candidate.word) c.empty.result.words c.empty.ensures),
-    )
+  omega arith,
+  refl,
+  refl,
+  subst (λ (ts : List ArgType). Grouped (world_of a.pairs.now a.marks.now a.t) ts (head_of a.candidate.word) true c.empty.result.words)
+      (sym (types-end a.upper.now (length a.upper.now) (omega arith)))
+      (grouped-none (world_of a.pairs.now a.marks.now a.t) (head_of a.candidate.word) c.empty.result.words c.empty.ensures),
+)
 
 pub with_other-next-requires : goal.with_other-next-requires
 with_other-next-requires c = let p = c.requires in

@@ -22,8 +22,8 @@ returns-then-other-head c = let a = c.args in
 
 pub returns : goal.returns
 returns c = let a = c.args in (
-      refl,
-      λ ts old.
-          grouped-other (world_of a.pairs.now a.marks.now a.t) a.g.head ts a.g.classes.words old a.other.word c.if-other-head.false a.candidate.word c.requires.1
-          c.is_assignable-rest.result c.is_assignable-rest.ensures,
-    )
+  refl,
+  λ ts old.
+      grouped-other (world_of a.pairs.now a.marks.now a.t) a.g.head ts a.g.classes.words old a.other.word c.if-other-head.false a.candidate.word c.requires.1
+      c.is_assignable-rest.result c.is_assignable-rest.ensures,
+)

@@ -52,15 +52,15 @@ pub returns-in_default : goal.returns-in_default
 unfolding letter_of
 returns-in_default c =
     simp (
-  ne_eqb _ _ c.in_default.rest.1,
-  ne_eqb _ _ c.in_default.rest.0.1,
-  ne_eqb _ _ c.in_default.rest.0.0.1,
-  ne_eqb _ _ c.in_default.rest.0.0.0.1,
-  ne_eqb _ _ c.in_default.rest.0.0.0.0.1,
-  ne_eqb _ _ c.in_default.rest.0.0.0.0.0.1,
-  ne_eqb _ _ c.in_default.rest.0.0.0.0.0.0.1,
-  ne_eqb _ _ c.in_default.rest.0.0.0.0.0.0.0.1,
-  ne_eqb _ _ c.in_default.rest.0.0.0.0.0.0.0.0.1,
-  ne_eqb _ _ c.in_default.rest.0.0.0.0.0.0.0.0.0.1,
-  ne_eqb _ _ c.in_default.rest.0.0.0.0.0.0.0.0.0.0.1,
-)
+      ne_eqb _ _ c.in_default.rest.1,
+      ne_eqb _ _ c.in_default.rest.0.1,
+      ne_eqb _ _ c.in_default.rest.0.0.1,
+      ne_eqb _ _ c.in_default.rest.0.0.0.1,
+      ne_eqb _ _ c.in_default.rest.0.0.0.0.1,
+      ne_eqb _ _ c.in_default.rest.0.0.0.0.0.1,
+      ne_eqb _ _ c.in_default.rest.0.0.0.0.0.0.1,
+      ne_eqb _ _ c.in_default.rest.0.0.0.0.0.0.0.1,
+      ne_eqb _ _ c.in_default.rest.0.0.0.0.0.0.0.0.1,
+      ne_eqb _ _ c.in_default.rest.0.0.0.0.0.0.0.0.0.1,
+      ne_eqb _ _ c.in_default.rest.0.0.0.0.0.0.0.0.0.0.1,
+    )

@@ -29,9 +29,7 @@ joins =
 
 -- ONE TEST over its 121 cells
 tested : T (every (row 11 cell) 0 joins)
-
 unfolding joins cell join_categories same_type compare compare_numbers join_primitive narrow under_double elem word_of pack
-
 tested = tt
 
 pub returns : goal.returns

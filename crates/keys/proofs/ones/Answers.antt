@@ -15,17 +15,13 @@ table f zero = []
 table f (suc n) = f zero ∷ table (λ k. f (suc k)) n
 
 entry : (f : ℕ → ℕ) (n k : ℕ) → k < n → get_or (table f n) k 0 ≡ f k
-
 unfolding table
-
 entry f zero k h = absurd (omega arith)
 entry f (suc n) zero h = refl
 entry f (suc n) (suc k) h = entry (λ k. f (suc k)) n k (omega arith)
 
 ones-below : (n : ℕ) → n < 12 → 0x11111111111 - 0x11111111111 / 2 ^ (4 * n) ≡ pack 11 (replicate n 1)
-
 unfolding pack table
-
 ones-below n h =
     sym (entry (λ (k : ℕ). 0x11111111111 - 0x11111111111 / 2 ^ (4 * k)) 12 n h) ∙ entry (λ (k : ℕ). pack 11 (replicate k 1)) 12 n h
 

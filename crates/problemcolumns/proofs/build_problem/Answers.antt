@@ -9,7 +9,6 @@ use Rattle.problemcolumns.specs.Steps.{words-fit}
 use Rattle.problemcolumns.proofs.build_problem.Goals as goal
 
 abbrev columns : tie.Start → Columns
-
 columns s =
     let a = s.args in
     columns_in a.components a.var-comp.now a.bnd-comp.now a.bnd-kind.now a.bnd-type.now a.flow-src.now a.flow-dst.now a.up-src.now a.up-dst.now a.read-arr.now a.read-res.now a.write-arr.now a.write-val.now

@@ -8,13 +8,11 @@ use Rattle.solvedoor.specs.Laws.{refused-of, table-refused, table-solved}
 use Rattle.solvedoor.proofs.solve_over.Goals as goal
 
 abbrev table : tie.Start → Given
-
 table s =
     let a = s.args in
     given a.names.now a.name-at.now a.name-len.now a.rec-flags.now a.rec-class.now a.rec-at.now a.rec-len.now a.parents.now
 
 abbrev columns : tie.Start → Columns
-
 columns s =
     let a = s.args in
     columns_in a.components a.var-comp.now a.bnd-comp.now a.bnd-kind.now a.bnd-type.now a.flow-src.now a.flow-dst.now a.up-src.now a.up-dst.now a.read-arr.now a.read-res.now a.write-arr.now a.write-val.now

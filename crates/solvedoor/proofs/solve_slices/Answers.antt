@@ -9,19 +9,16 @@ use Rattle.solvedoor.specs.Laws.{roomy, door-long, lengths-refused, lengths-good
 use Rattle.solvedoor.proofs.solve_slices.Goals as goal
 
 abbrev table : tie.Start → Given
-
 table s =
     let a = s.args in
     given a.names.now a.name-at.now a.name-len.now a.rec-flags.now a.rec-class.now a.rec-at.now a.rec-len.now a.parents.now
 
 abbrev columns : tie.Start → Columns
-
 columns s =
     let a = s.args in
     columns_in a.components a.var-comp.now a.bnd-comp.now a.bnd-kind.now a.bnd-type.now a.flow-src.now a.flow-dst.now a.up-src.now a.up-dst.now a.read-arr.now a.read-res.now a.write-arr.now a.write-val.now
 
 abbrev slices : tie.Start → Lent
-
 slices s =
     let a = s.args in
     lent a.answers.now a.out-comp.now a.out-kind.now a.out-type.now a.work.now

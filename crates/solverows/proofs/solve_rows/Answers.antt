@@ -8,7 +8,6 @@ use Rattle.solverows.specs.Laws.{refused-rows, refusal-is, object-there, parts-k
 use Rattle.solverows.proofs.solve_rows.Goals as goal
 
 abbrev columns : tie.Start → Columns
-
 columns s =
     let a = s.args in
     columns_in a.components a.var-comp.now a.bnd-comp.now a.bnd-kind.now a.bnd-type.now a.flow-src.now a.flow-dst.now a.up-src.now a.up-dst.now a.read-arr.now a.read-res.now a.write-arr.now a.write-val.now
