@@ -48,7 +48,7 @@ answer_from-requires c = let x = c.args in
     let e = cut-parts x.component x.keys.now s r.result r.ensures o.result o.ensures.0 in
     let f = cut-words x.component x.keys.now s r.result r.ensures x.out.now o.new.out o.ensures.1 in (
       p.0,
-      parts-order x.t p.0.1 x.keys.now p.1 x.component x.out.now o.new.out f o.result e (omega (arith, p.3, o.auto.1.1.0)),
+      parts-order x.t p.0.1 x.keys.now p.1 x.component x.out.now o.new.out f o.result e (omega (arith, p.3, o.auto.out)),
       parts-legal x.t p.0.1 x.keys.now p.1 x.component x.out.now o.new.out f o.result e,
     )
 

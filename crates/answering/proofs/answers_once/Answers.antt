@@ -48,7 +48,7 @@ loop-i-preserved c = let x = c.args in
     let o = c.word_of in
     let v = get_or x.variables.now l.i 0 in (
       omega arith,
-      o.auto.1.1.1.1.1.0 ∙ l.invariant.1,
+      o.auto.out ∙ l.invariant.1,
       simp length-set l.invariant.2,
       ap (λ (d : List ℕ). set d l.i o.result) l.invariant.3
           ∙ answer-more (world_of x.pairs.now x.marks.now x.t) (table_in x.keys.now) x.variables.now x.into.now l.i o.result o.ensures (omega arith) p.4,

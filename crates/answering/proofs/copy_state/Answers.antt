@@ -14,14 +14,14 @@ pub copy_words-fallback-requires : goal.copy_words-fallback-requires
 copy_words-fallback-requires c = let x = c.args in
     let p = c.requires in
     let o1 = c.copy_words-domain in
-    (p.0, p.1, omega arith, omega (arith, p.2, five-short x.component x.keys.now p.0, o1.ensures.0, o1.auto.1.1.1.0))
+    (p.0, p.1, omega arith, omega (arith, p.2, five-short x.component x.keys.now p.0, o1.ensures.0, o1.auto.out))
 
 pub copy_words-upper-requires : goal.copy_words-upper-requires
 copy_words-upper-requires c = let x = c.args in
     let p = c.requires in
     let o1 = c.copy_words-domain in
     let o2 = c.copy_words-fallback in
-    (p.0, p.1, omega arith, omega (arith, p.2, five-short x.component x.keys.now p.0, o1.ensures.0, o1.auto.1.1.1.0, o2.ensures.0, o2.auto.1.1.1.0))
+    (p.0, p.1, omega arith, omega (arith, p.2, five-short x.component x.keys.now p.0, o1.ensures.0, o1.auto.out, o2.ensures.0, o2.auto.out))
 
 pub copy_words-lower-requires : goal.copy_words-lower-requires
 copy_words-lower-requires c = let x = c.args in
@@ -29,7 +29,7 @@ copy_words-lower-requires c = let x = c.args in
     let o1 = c.copy_words-domain in
     let o2 = c.copy_words-fallback in
     let o3 = c.copy_words-upper in
-    (p.0, p.1, omega arith, omega (arith, p.2, five-short x.component x.keys.now p.0, o1.ensures.0, o1.auto.1.1.1.0, o2.ensures.0, o2.auto.1.1.1.0, o3.ensures.0, o3.auto.1.1.1.0))
+    (p.0, p.1, omega arith, omega (arith, p.2, five-short x.component x.keys.now p.0, o1.ensures.0, o1.auto.out, o2.ensures.0, o2.auto.out, o3.ensures.0, o3.auto.out))
 
 pub copy_words-exact-requires : goal.copy_words-exact-requires
 copy_words-exact-requires c = let x = c.args in
@@ -38,7 +38,7 @@ copy_words-exact-requires c = let x = c.args in
     let o2 = c.copy_words-fallback in
     let o3 = c.copy_words-upper in
     let o4 = c.copy_words-lower in
-    (p.0, p.1, omega arith, omega (arith, p.2, five-short x.component x.keys.now p.0, o1.ensures.0, o1.auto.1.1.1.0, o2.ensures.0, o2.auto.1.1.1.0, o3.ensures.0, o3.auto.1.1.1.0, o4.ensures.0, o4.auto.1.1.1.0))
+    (p.0, p.1, omega arith, omega (arith, p.2, five-short x.component x.keys.now p.0, o1.ensures.0, o1.auto.out, o2.ensures.0, o2.auto.out, o3.ensures.0, o3.auto.out, o4.ensures.0, o4.auto.out))
 
 pub returns : goal.returns
 returns c = let x = c.args in

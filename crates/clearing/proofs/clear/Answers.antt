@@ -23,7 +23,7 @@ loop-i-preserved c = let a = c.args in
     let block = c.clear_block in (
       refl,
       omega (arith, c.loop-i-test.true, l.invariant.1),
-      block.auto.0 ∙ l.invariant.2,
+      block.auto.work ∙ l.invariant.2,
       block.ensures ∙ ap (λ (w : List ℕ). take l.i w ++ (replicate 16 0 ++ drop (l.i + 16) w)) l.invariant.3 ∙ cleared-more a.work.now l.i 16,
     )
 

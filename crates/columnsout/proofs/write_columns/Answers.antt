@@ -22,11 +22,11 @@ loop-i-preserved c = let a = c.args in
       simp length-set l.invariant.2,
       simp length-set l.invariant.3,
       ap (λ (o : List ℕ). set o l.i c.key_component-component.result) l.invariant.4
-          ∙ front-more key_component k a.out-comp.now l.i c.key_component-component.result c.key_component-component.ensures (omega arith) c.requires.0,
+          ∙ front-more key_component k a.out_comp.now l.i c.key_component-component.result c.key_component-component.ensures (omega arith) c.requires.0,
       ap (λ (o : List ℕ). set o l.i c.key_kind-kind.result) l.invariant.5
-          ∙ front-more key_kind k a.out-kind.now l.i c.key_kind-kind.result c.key_kind-kind.ensures (omega arith) c.requires.1,
+          ∙ front-more key_kind k a.out_kind.now l.i c.key_kind-kind.result c.key_kind-kind.ensures (omega arith) c.requires.1,
       ap (λ (o : List ℕ). set o l.i c.key_type-t.result.word) l.invariant.6
-          ∙ front-more word_in k a.out-type.now l.i c.key_type-t.result.word c.key_type-t.ensures (omega arith) c.requires.2,
+          ∙ front-more word_in k a.out_type.now l.i c.key_type-t.result.word c.key_type-t.ensures (omega arith) c.requires.2,
     )
 
 pub returns : goal.returns
@@ -34,7 +34,7 @@ returns c = let a = c.args in
     let l = c.loop-i in
     let e : l.i ≡ length a.keys.now = omega arith in
     record {
-      components-are = l.invariant.4 ∙ ap (front key_component a.keys.now a.out-comp.now) e;
-      kinds-are = l.invariant.5 ∙ ap (front key_kind a.keys.now a.out-kind.now) e;
-      types-are = l.invariant.6 ∙ ap (front word_in a.keys.now a.out-type.now) e;
+      components-are = l.invariant.4 ∙ ap (front key_component a.keys.now a.out_comp.now) e;
+      kinds-are = l.invariant.5 ∙ ap (front key_kind a.keys.now a.out_kind.now) e;
+      types-are = l.invariant.6 ∙ ap (front word_in a.keys.now a.out_type.now) e;
     }

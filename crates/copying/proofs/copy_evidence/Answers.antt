@@ -28,7 +28,7 @@ pub copy_words-requires : goal.copy_words-requires
 copy_words-requires c = let x = c.args in
     let p = c.requires in
     let o = c.copy_words-exact in
-    (p.0, p.1, omega arith, omega (arith, p.2, o.auto.1.1.1.0, run-short x.component 3 x.keys.now p.0))
+    (p.0, p.1, omega arith, omega (arith, p.2, o.auto.out, run-short x.component 3 x.keys.now p.0))
 
 pub returns : goal.returns
 returns c = let x = c.args in

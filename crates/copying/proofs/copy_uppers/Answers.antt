@@ -13,7 +13,7 @@ pub copy_ranks-requires : goal.copy_ranks-requires
 copy_ranks-requires c = let x = c.args in
     let p = c.requires in
     let o = c.copy_ranks-upper in
-    (p.0, p.1, omega arith, omega (arith, p.2, o.ensures.0, o.auto.1.1.1.0, two-short x.component 2 4 x.keys.now p.0 (omega arith)))
+    (p.0, p.1, omega arith, omega (arith, p.2, o.ensures.0, o.auto.out, two-short x.component 2 4 x.keys.now p.0 (omega arith)))
 
 pub returns : goal.returns
 returns c = let x = c.args in

@@ -11,10 +11,10 @@ use borrow.Author.Rules.{rules}
 use Rattle.joins.proofs.in_both.Goals as goal
 
 -- what was kept is what both have
-members : (c : tie.After-keep-members) → c.keep-members.result ≡ list_load (in_both (categories (type_of c.before.before.before.args.left.word)) (categories (type_of c.before.before.before.args.right.word)))
+members : (c : tie.After-keep-members) → c.keep_members.result ≡ list_load (in_both (categories (type_of c.before.before.before.args.left.word)) (categories (type_of c.before.before.before.args.right.word)))
 members c =
     let a = c.before.before.before.args in
-    c.keep-members.ensures.0
+    c.keep_members.ensures.0
     ∙ both-load a.left.word a.right.word c.before.before.before.requires.2 _ _ c.before.before.load.ensures c.before.categories.ensures
 
 pub keep_members-load-requires : goal.keep_members-load-requires

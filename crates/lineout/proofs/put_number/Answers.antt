@@ -10,8 +10,8 @@ put_byte-requires c = let p = c.requires in
     let n = number-short c.args.n (omega arith) in
     let a = c.put_letter-a.ensures.filled-is in
     let b = c.put_number_or_dash-b.ensures.filled-is in
-    let k = c.put_letter-a.auto.0 in
-    let l = c.put_number_or_dash-b.auto.0 in
+    let k = c.put_letter-a.auto.out in
+    let l = c.put_number_or_dash-b.auto.out in
     omega arith
 
 pub returns : goal.returns

@@ -10,7 +10,7 @@ pub put_decimal-b-requires : goal.put_decimal-b-requires
 put_decimal-b-requires c = let p = c.requires in
     let d = decimal-short c.args.line (omega arith) in
     let a = c.put_letter-a.ensures.filled-is in
-    let k = c.put_letter-a.auto.0 in
+    let k = c.put_letter-a.auto.out in
     omega arith
 
 pub put_byte-c-requires : goal.put_byte-c-requires
@@ -18,8 +18,8 @@ put_byte-c-requires c = let p = c.requires in
     let d = decimal-short c.args.line (omega arith) in
     let a = c.put_letter-a.ensures.filled-is in
     let b = c.put_decimal-b.ensures.filled-is in
-    let k = c.put_letter-a.auto.0 in
-    let l = c.put_decimal-b.auto.0 in
+    let k = c.put_letter-a.auto.out in
+    let l = c.put_decimal-b.auto.out in
     omega arith
 
 pub put_decimal-d-requires : goal.put_decimal-d-requires
@@ -29,9 +29,9 @@ put_decimal-d-requires c = let p = c.requires in
     let a = c.put_letter-a.ensures.filled-is in
     let b = c.put_decimal-b.ensures.filled-is in
     let f = c.put_byte-c.ensures.filled-is in
-    let k = c.put_letter-a.auto.0 in
-    let l = c.put_decimal-b.auto.0 in
-    let m = c.put_byte-c.auto.0 in
+    let k = c.put_letter-a.auto.out in
+    let l = c.put_decimal-b.auto.out in
+    let m = c.put_byte-c.auto.out in
     omega arith
 
 pub put_byte-requires : goal.put_byte-requires
@@ -42,14 +42,14 @@ put_byte-requires c = let p = c.requires in
     let b = c.put_decimal-b.ensures.filled-is in
     let f = c.put_byte-c.ensures.filled-is in
     let g = c.put_decimal-d.ensures.filled-is in
-    let k = c.put_letter-a.auto.0 in
-    let l = c.put_decimal-b.auto.0 in
-    let m = c.put_byte-c.auto.0 in
-    let n = c.put_decimal-d.auto.0 in
+    let k = c.put_letter-a.auto.out in
+    let l = c.put_decimal-b.auto.out in
+    let m = c.put_byte-c.auto.out in
+    let n = c.put_decimal-d.auto.out in
     omega arith
 
 pub shape_of-out : goal.shape_of-out
-shape_of-out c = c.put_byte.auto.0 ∙ c.put_decimal-d.auto.0 ∙ c.put_byte-c.auto.0 ∙ c.put_decimal-b.auto.0 ∙ c.put_letter-a.auto.0
+shape_of-out c = c.put_byte.auto.out ∙ c.put_decimal-d.auto.out ∙ c.put_byte-c.auto.out ∙ c.put_decimal-b.auto.out ∙ c.put_letter-a.auto.out
 
 pub returns : goal.returns
 returns c = let p = c.requires in

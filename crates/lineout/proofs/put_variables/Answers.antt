@@ -26,7 +26,7 @@ loop-i-preserved c = let l = c.loop-i in
     let g = writing-more (variable_lines 0 a.answers.now) (variable_line l.i w) (variable_lines (l.i + 1) (drop (l.i + 1) a.answers.now)) a.filled l.at _ a.out.now l.out _ (omega arith) f v.ensures in
     let e = v.ensures.filled-is in
     let k = line-short l.i w (omega arith) in
-    (omega arith, omega arith, v.auto.0 ∙ l.invariant.2, g)
+    (omega arith, omega arith, v.auto.out ∙ l.invariant.2, g)
 
 pub shape_of-out : goal.shape_of-out
 shape_of-out c = c.loop-i.invariant.2

@@ -24,7 +24,7 @@ loop-k-preserved c = let l = c.loop-k in
     let b = c.put_byte-at in
     let g = writing-step (hex_digits 16 a.w) _ _ a.filled l.at _ a.out.now l.out _ (hex-length 16 a.w) (omega arith) f b.ensures in
     let n = b.ensures.filled-is in
-    (omega arith, omega arith, b.auto.0 ∙ l.invariant.2, g)
+    (omega arith, omega arith, b.auto.out ∙ l.invariant.2, g)
 
 pub shape_of-out : goal.shape_of-out
 shape_of-out c = c.loop-k.invariant.2

@@ -37,11 +37,11 @@ module _ (last name : List ℕ) (count total : ℕ) where
 
 -- past the third test the name is well-formed, past the fourth it is above the last
 formed : (c : tie.Else3) → let n = c.before.before.before.before.before.before.args.name.now in true ≡ well_formed (take (length n - 0) (drop 0 n))
-formed c = sym (not-false c.before.is-well-formed.result c.if3.false) ∙ c.before.is-well-formed.ensures
+formed c = sym (not-false c.before.is_well_formed.result c.if3.false) ∙ c.before.is_well_formed.ensures
 
 above : (c : tie.Else4)
     → let a = c.before.before.before.before.before.before.before.before.args in false ≡ (ltb 0 a.count && not (is_less (compare_lists a.last.now a.name.now)))
-above c = sym c.if4.false ∙ c.before.is-not-above.ensures
+above c = sym c.if4.false ∙ c.before.is_not_above.ensures
 
 pub returns-then-n-eq0 : goal.returns-then-n-eq0
 returns-then-n-eq0 c = let a = c.args in sym (empty a.last.now a.name.now a.count a.total c.if-n-eq0.true)

@@ -40,8 +40,8 @@ module _ (bytes ats lens last : List ℕ) (i total : ℕ) where
 good : (c : tie.Else2 invariant-loop decreases-loop) → let a = c.before.before.before.before.before.before.before.before.before.before.args in
     let l = c.before.before.before.before.before.loop in
     let s = a.names.now in
-    GoodRow s (get_or a.name-at.now l.i 0) (get_or a.name-len.now l.i 0) (name_of s l.last l.span) l.i l.total
-good c = row-checked _ _ _ _ _ _ (sym c.before.check-row.ensures ∙ c.if2.false)
+    GoodRow s (get_or a.name_at.now l.i 0) (get_or a.name_len.now l.i 0) (name_of s l.last l.span) l.i l.total
+good c = row-checked _ _ _ _ _ _ (sym c.before.check_row.ensures ∙ c.if2.false)
 
 pub returns-then-name_at-name_len : goal.returns-then-name_at-name_len
 unfolding check_names
@@ -56,7 +56,7 @@ returns-then-refusal-ne0 c = let a = c.args in
     let l = c.loop-i in
     let s = a.names.now in
     let r = c.check_row-refusal in
-    sym (l.invariant.5 ∙ row-refused s a.name-at.now a.name-len.now (name_of s l.last l.span) l.i l.total r.result (omega arith) (omega arith) r.ensures c.if-refusal-ne0.true)
+    sym (l.invariant.5 ∙ row-refused s a.name_at.now a.name_len.now (name_of s l.last l.span) l.i l.total r.result (omega arith) (omega arith) r.ensures c.if-refusal-ne0.true)
 
 pub overflow_add-total : goal.overflow_add-total
 overflow_add-total c = let g = good c in omega arith
@@ -72,11 +72,11 @@ loop-i-preserved c = let a = c.args in
       g.inside.starts,
       g.inside.ends,
       g.short,
-      l.invariant.5 ∙ row-passed s a.name-at.now a.name-len.now (name_of s l.last l.span) l.i l.total r.result (omega arith) (omega arith) r.ensures c.if-refusal-ne0.false,
+      l.invariant.5 ∙ row-passed s a.name_at.now a.name_len.now (name_of s l.last l.span) l.i l.total r.result (omega arith) (omega arith) r.ensures c.if-refusal-ne0.false,
     )
 
 pub returns : goal.returns
 returns c = let a = c.args in
     let l = c.loop-i in
     let s = a.names.now in
-    sym (l.invariant.5 ∙ rows-end s a.name-at.now a.name-len.now (name_of s l.last l.span) l.i l.total (omega arith))
+    sym (l.invariant.5 ∙ rows-end s a.name_at.now a.name_len.now (name_of s l.last l.span) l.i l.total (omega arith))

@@ -13,7 +13,7 @@ use Rattle.names.proofs.check_row.Goals as goal
 
 -- past the test, the place is good
 placed : (c : tie.Else1) → place_good (length c.before.before.before.args.names.now) c.before.before.before.args.at c.before.before.before.args.len ≡ true
-placed c = sym c.before.is-place.ensures ∙ not-false c.before.is-place.result c.if1.false
+placed c = sym c.before.is_place.ensures ∙ not-false c.before.is_place.result c.if1.false
 
 inside : (c : tie.Else1) → Inside (length c.before.before.before.args.names.now) c.before.before.before.args.at c.before.before.before.args.len
 inside c = let a = c.before.before.before.args in place-inside (length a.names.now) a.at a.len (placed c)

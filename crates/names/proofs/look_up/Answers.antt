@@ -6,8 +6,8 @@ use Rattle.names.proofs.look_up.Goals as goal
 
 pub returns-then-refusal-ne0 : goal.returns-then-refusal-ne0
 returns-then-refusal-ne0 c = let a = c.args in
-    sym (look-refused a.names.now a.name-at.now a.name-len.now a.key.now c.check_names-refusal.result c.check_names-refusal.ensures c.if-refusal-ne0.true)
+    sym (look-refused a.names.now a.name_at.now a.name_len.now a.key.now c.check_names-refusal.result c.check_names-refusal.ensures c.if-refusal-ne0.true)
 
 pub returns : goal.returns
 returns c = let a = c.args in
-    look-searched a.names.now a.name-at.now a.name-len.now a.key.now _ _ c.check_names-refusal.ensures c.if-refusal-ne0.false c.search.ensures
+    look-searched a.names.now a.name_at.now a.name_len.now a.key.now _ _ c.check_names-refusal.ensures c.if-refusal-ne0.false c.search.ensures

@@ -10,8 +10,8 @@ use Rattle.names.proofs.search.Goals as goal
 
 pub loop-low-init : goal.loop-low-init
 loop-low-init c = let a = c.args in
-    bracket-start a.names.now a.name-at.now a.name-len.now a.key.now
-    (checked a.names.now a.name-at.now a.name-len.now c.requires)
+    bracket-start a.names.now a.name_at.now a.name_len.now a.key.now
+    (checked a.names.now a.name_at.now a.name_len.now c.requires)
 
 pub compare_at-order-requires : goal.compare_at-order-requires
 compare_at-order-requires c = let l = c.loop-low in

@@ -37,8 +37,8 @@ loop-i-preserved c = let x = c.args in
     let o = c.send_array-state in
     let p = c.requires in (
       omega arith,
-      o.auto.0 ∙ l.invariant.1,
-      o.auto.1.0 ∙ l.invariant.2,
+      o.auto.a ∙ l.invariant.1,
+      o.auto.ring ∙ l.invariant.2,
       next-ready (array_rule 0 x.kind (sent_types x.element) 0 (sent_types x.array) x.root (pair_of (get_or x.links.now l.i 0))) (store l.a l.ring l.state) (store o.new.a o.new.ring o.result) (array-given x.kind (sent_types x.element) (sent_types x.array) x.root (get_or x.links.now l.i 0) (below-at 262144 x.links.now l.i p.1 (omega arith)) p.2 (sent-base x.element p.3) (sent-base x.array p.4)) l.invariant.3 o.ensures c.if-state-ne0.false,
       l.invariant.4 ∙ arrays-put x.kind (sent_types x.element) (sent_types x.array) x.root x.links.now l.i (store l.a l.ring l.state) (omega arith)
           ∙ ap (put_all (array_rules 0 x.kind (sent_types x.element) 0 (sent_types x.array) x.root (drop (l.i + 1) (map pair_of x.links.now)))) (sym o.ensures),

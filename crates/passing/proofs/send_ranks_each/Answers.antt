@@ -37,8 +37,8 @@ loop-i-preserved c = let x = c.args in
     let o = c.send_ranks_to-state in
     let p = c.requires in (
       omega arith,
-      o.auto.0 ∙ l.invariant.1,
-      o.auto.1.0 ∙ l.invariant.2,
+      o.auto.a ∙ l.invariant.1,
+      o.auto.ring ∙ l.invariant.2,
       next-ready (to_one 0 x.kind (map unrank x.ranks.now) (get_or x.links.now l.i 0 % 512)) (store l.a l.ring l.state) (store o.new.a o.new.ring o.result) (one-given x.kind (get_or x.links.now l.i 0 % 512) (map unrank x.ranks.now) p.1 (omega arith) (ranked-base x.ranks.now p.2)) l.invariant.3 o.ensures c.if-state-ne0.false,
       l.invariant.4 ∙ each-put x.kind (map unrank x.ranks.now) x.links.now l.i (store l.a l.ring l.state) (omega arith)
           ∙ ap (put_all (to_each 0 x.kind (map unrank x.ranks.now) (drop (l.i + 1) (seconds x.links.now)))) (sym o.ensures),

@@ -36,8 +36,8 @@ loop-i-preserved c = let x = c.args in
     let o = c.insert_bound-state in
     let p = c.requires in (
       omega arith,
-      o.auto.0 ∙ l.invariant.1,
-      o.auto.1.0 ∙ l.invariant.2,
+      o.auto.a ∙ l.invariant.1,
+      o.auto.ring ∙ l.invariant.2,
       next-ready (to_one 0 x.kind (unrank (get_or x.ranks.now l.i 0) ∷ []) x.component) (store l.a l.ring l.state) (store o.new.a o.new.ring o.result) (one-given x.kind x.component (unrank (get_or x.ranks.now l.i 0) ∷ []) p.2 p.1 (ranked-one (get_or x.ranks.now l.i 0) (ranked-at x.ranks.now l.i p.3 (omega arith)))) l.invariant.3 (o.ensures ∙ one-bound x.kind x.component (unrank (get_or x.ranks.now l.i 0)) (store l.a l.ring l.state) l.invariant.3.good.going) c.if-state-ne0.false,
       l.invariant.4 ∙ ranks-put x.kind x.component x.ranks.now l.i (store l.a l.ring l.state) (omega arith) l.invariant.3.good.going
           ∙ ap (put_all (to_one 0 x.kind (drop (l.i + 1) (map unrank x.ranks.now)) x.component)) (sym o.ensures),

@@ -28,8 +28,8 @@ shape_of-bounds-then-row-ne0 c = let a = c.args in
     let row = c.add_bound-row in
     let i = l.i in
     let e = take l.n l.bounds in
-    let one = bound_row a.names a.components (get_or a.bnd-comp.now i 0) (get_or a.bnd-kind.now i 0) (get_or a.bnd-type.now i 0) e in
-    let stays = bound-stays a.names a.components (get_or a.bnd-comp.now i 0) (get_or a.bnd-kind.now i 0) (get_or a.bnd-type.now i 0) e l.invariant.6 (let t = length-take-le l.n l.bounds (omega (arith, l.invariant.3, l.invariant.4)) in omega (arith, t, l.invariant.3)) in
+    let one = bound_row a.names a.components (get_or a.bnd_comp.now i 0) (get_or a.bnd_kind.now i 0) (get_or a.bnd_type.now i 0) e in
+    let stays = bound-stays a.names a.components (get_or a.bnd_comp.now i 0) (get_or a.bnd_kind.now i 0) (get_or a.bnd_type.now i 0) e l.invariant.6 (let t = length-take-le l.n l.bounds (omega (arith, l.invariant.3, l.invariant.4)) in omega (arith, t, l.invariant.3)) in
     (turned 4096 l.n a.bounds.now l.bounds _ one row.result l.invariant.3 l.invariant.4 l.invariant.5 l.invariant.7 stays row.ensures).as-long
 
 pub returns-then-row-ne0 : goal.returns-then-row-ne0
@@ -39,9 +39,9 @@ returns-then-row-ne0 c = let a = c.args in
     let row = c.add_bound-row in
     let i = l.i in
     let e = take l.n l.bounds in
-    let one = bound_row a.names a.components (get_or a.bnd-comp.now i 0) (get_or a.bnd-kind.now i 0) (get_or a.bnd-type.now i 0) e in
-    let stays = bound-stays a.names a.components (get_or a.bnd-comp.now i 0) (get_or a.bnd-kind.now i 0) (get_or a.bnd-type.now i 0) e l.invariant.6 (let t = length-take-le l.n l.bounds (omega (arith, l.invariant.3, l.invariant.4)) in omega (arith, t, l.invariant.3)) in
-    adds-by (l.invariant.8 ∙ bounds-stop a.names a.components a.bnd-comp.now a.bnd-kind.now a.bnd-type.now i e h (omega (arith, h, l.invariant.1)) (omega (arith, h, l.invariant.2)) _ _ row.result row.ensures c.if-row-ne0.true)
+    let one = bound_row a.names a.components (get_or a.bnd_comp.now i 0) (get_or a.bnd_kind.now i 0) (get_or a.bnd_type.now i 0) e in
+    let stays = bound-stays a.names a.components (get_or a.bnd_comp.now i 0) (get_or a.bnd_kind.now i 0) (get_or a.bnd_type.now i 0) e l.invariant.6 (let t = length-take-le l.n l.bounds (omega (arith, l.invariant.3, l.invariant.4)) in omega (arith, t, l.invariant.3)) in
+    adds-by (l.invariant.8 ∙ bounds-stop a.names a.components a.bnd_comp.now a.bnd_kind.now a.bnd_type.now i e h (omega (arith, h, l.invariant.1)) (omega (arith, h, l.invariant.2)) _ _ row.result row.ensures c.if-row-ne0.true)
     (adds-last 4096 l.n a.bounds.now l.bounds _ one row.result l.invariant.3 l.invariant.4 l.invariant.5 l.invariant.7 stays row.ensures)
 
 pub loop-i-preserved : goal.loop-i-preserved
@@ -51,8 +51,8 @@ loop-i-preserved c = let a = c.args in
     let row = c.add_bound-row in
     let i = l.i in
     let e = take l.n l.bounds in
-    let one = bound_row a.names a.components (get_or a.bnd-comp.now i 0) (get_or a.bnd-kind.now i 0) (get_or a.bnd-type.now i 0) e in
-    let stays = bound-stays a.names a.components (get_or a.bnd-comp.now i 0) (get_or a.bnd-kind.now i 0) (get_or a.bnd-type.now i 0) e l.invariant.6 (let t = length-take-le l.n l.bounds (omega (arith, l.invariant.3, l.invariant.4)) in omega (arith, t, l.invariant.3)) in
+    let one = bound_row a.names a.components (get_or a.bnd_comp.now i 0) (get_or a.bnd_kind.now i 0) (get_or a.bnd_type.now i 0) e in
+    let stays = bound-stays a.names a.components (get_or a.bnd_comp.now i 0) (get_or a.bnd_kind.now i 0) (get_or a.bnd_type.now i 0) e l.invariant.6 (let t = length-take-le l.n l.bounds (omega (arith, l.invariant.3, l.invariant.4)) in omega (arith, t, l.invariant.3)) in
     let turn = turned 4096 l.n a.bounds.now l.bounds _ one row.result l.invariant.3 l.invariant.4 l.invariant.5 l.invariant.7 stays row.ensures in (
       omega (arith, h),
       l.invariant.1,
@@ -62,8 +62,8 @@ loop-i-preserved c = let a = c.args in
       turn.as-long,
       turn.ordered,
       turn.front,
-      l.invariant.8 ∙ bounds-step a.names a.components a.bnd-comp.now a.bnd-kind.now a.bnd-type.now i e h (omega (arith, h, l.invariant.1)) (omega (arith, h, l.invariant.2)) _ _ row.result row.ensures c.if-row-ne0.false
-          ∙ ap (bound_run a.names a.components (drop (i + 1) a.bnd-comp.now) (drop (i + 1) a.bnd-kind.now) (drop (i + 1) a.bnd-type.now)) (sym turn.entries),
+      l.invariant.8 ∙ bounds-step a.names a.components a.bnd_comp.now a.bnd_kind.now a.bnd_type.now i e h (omega (arith, h, l.invariant.1)) (omega (arith, h, l.invariant.2)) _ _ row.result row.ensures c.if-row-ne0.false
+          ∙ ap (bound_run a.names a.components (drop (i + 1) a.bnd_comp.now) (drop (i + 1) a.bnd_kind.now) (drop (i + 1) a.bnd_type.now)) (sym turn.entries),
     )
 
 pub shape_of-bounds : goal.shape_of-bounds
@@ -72,5 +72,5 @@ shape_of-bounds c = c.loop-i.invariant.5
 pub returns : goal.returns
 returns c = let a = c.args in
     let l = c.loop-i in
-    adds-by (l.invariant.8 ∙ bounds-end a.names a.components a.bnd-comp.now a.bnd-kind.now a.bnd-type.now l.i (take l.n l.bounds) (omega arith))
+    adds-by (l.invariant.8 ∙ bounds-end a.names a.components a.bnd_comp.now a.bnd_kind.now a.bnd_type.now l.i (take l.n l.bounds) (omega arith))
     (adds-end l.n a.bounds.now l.bounds (omega (arith, l.invariant.3, l.invariant.4)) l.invariant.7)

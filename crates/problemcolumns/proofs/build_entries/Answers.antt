@@ -9,7 +9,7 @@ use Rattle.problemcolumns.proofs.build_entries.Goals as goal
 abbrev columns : tie.Start → Columns
 columns s =
     let a = s.args in
-    columns_in a.components a.var-comp.now a.bnd-comp.now a.bnd-kind.now a.bnd-type.now a.flow-src.now a.flow-dst.now a.up-src.now a.up-dst.now a.read-arr.now a.read-res.now a.write-arr.now a.write-val.now
+    columns_in a.components a.var_comp.now a.bnd_comp.now a.bnd_kind.now a.bnd_type.now a.flow_src.now a.flow_dst.now a.up_src.now a.up_dst.now a.read_arr.now a.read_res.now a.write_arr.now a.write_val.now
 
 pub add_bounds-b-requires : goal.add_bounds-b-requires
 add_bounds-b-requires c = let e = evens (columns c) c.requires.2 in
@@ -31,7 +31,7 @@ pub add_pairs_after-w-requires : goal.add_pairs_after-w-requires
 add_pairs_after-w-requires c = (c.requires.1, (evens (columns c) c.requires.2).writes, omega (arith, c.requires.3.4))
 
 pub shape_of-bounds : goal.shape_of-bounds
-shape_of-bounds c = c.add_bounds-b.auto.1.1.1.1.1.0
+shape_of-bounds c = c.add_bounds-b.auto.bounds
 
 pub returns : goal.returns
 returns c = let a = c.args in

@@ -11,7 +11,7 @@ use Rattle.problemcolumns.proofs.build_problem.Goals as goal
 abbrev columns : tie.Start → Columns
 columns s =
     let a = s.args in
-    columns_in a.components a.var-comp.now a.bnd-comp.now a.bnd-kind.now a.bnd-type.now a.flow-src.now a.flow-dst.now a.up-src.now a.up-dst.now a.read-arr.now a.read-res.now a.write-arr.now a.write-val.now
+    columns_in a.components a.var_comp.now a.bnd_comp.now a.bnd_kind.now a.bnd_type.now a.flow_src.now a.flow_dst.now a.up_src.now a.up_dst.now a.read_arr.now a.read_res.now a.write_arr.now a.write_val.now
 
 pub returns-then-refusal-ne0 : goal.returns-then-refusal-ne0
 returns-then-refusal-ne0 c = let a = c.args in
@@ -26,7 +26,7 @@ pub returns : goal.returns
 returns c = let a = c.args in
     let passed = head-passed a.names (columns c) (sym c.check_head-refusal.ensures ∙ c.if-refusal-ne0.false) in
     let entries = c.build_entries in
-    entered-taken a.names (columns c) c.requires.0 (words-fit a.bnd-type.now (λ i. omega (arith, (c.type_inv.bnd_type i).fits))) passed.0 passed.1
+    entered-taken a.names (columns c) c.requires.0 (words-fit a.bnd_type.now (λ i. omega (arith, (c.type_inv.bnd_type i).fits))) passed.0 passed.1
     a.bounds.now entries.new.bounds a.flows.now entries.new.flows
     a.uppers.now entries.new.uppers a.reads.now entries.new.reads
     a.writes.now entries.new.writes entries.result entries.ensures

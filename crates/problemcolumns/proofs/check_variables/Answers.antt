@@ -17,7 +17,7 @@ pub returns-then-refusal-ne0 : goal.returns-then-refusal-ne0
 returns-then-refusal-ne0 c = let a = c.args in
     let l = c.loop-i in
     let check = c.check_variable-refusal in
-    let stop = variables-stop a.components a.var-comp.now l.i c.loop-i-test.true check.result check.ensures c.if-refusal-ne0.true in
+    let stop = variables-stop a.components a.var_comp.now l.i c.loop-i-test.true check.result check.ensures c.if-refusal-ne0.true in
     sym (ap (λ (s : Ran). s.refusal) (l.invariant.1 ∙ stop))
 
 pub loop-i-preserved : goal.loop-i-preserved
@@ -25,9 +25,9 @@ loop-i-preserved c = let a = c.args in
     let l = c.loop-i in
     let h = c.loop-i-test.true in
     let check = c.check_variable-refusal in
-    (omega (arith, h), l.invariant.1 ∙ variables-step a.components a.var-comp.now l.i h check.result check.ensures c.if-refusal-ne0.false)
+    (omega (arith, h), l.invariant.1 ∙ variables-step a.components a.var_comp.now l.i h check.result check.ensures c.if-refusal-ne0.false)
 
 pub returns : goal.returns
 returns c = let a = c.args in
     let l = c.loop-i in
-    sym (ap (λ (s : Ran). s.refusal) (l.invariant.1 ∙ variables-end a.components a.var-comp.now l.i (omega arith)))
+    sym (ap (λ (s : Ran). s.refusal) (l.invariant.1 ∙ variables-end a.components a.var_comp.now l.i (omega arith)))

@@ -26,5 +26,5 @@ returns-then-read_arr-read_res c = simp (eq-eqb _ _ c.if-bnd_comp-bnd_kind.false
 
 pub returns : goal.returns
 returns c = let a = c.args in
-    even-last a.bnd-comp a.bnd-kind a.bnd-type a.flow-src a.flow-dst a.up-src a.up-dst a.read-arr a.read-res a.write-arr a.write-val
+    even-last a.bnd_comp a.bnd_kind a.bnd_type a.flow_src a.flow_dst a.up_src a.up_dst a.read_arr a.read_res a.write_arr a.write_val
     c.if-bnd_comp-bnd_kind.false c.if-bnd_comp-bnd_type.false c.if-flow_src-flow_dst.false c.if-up_src-up_dst.false c.if-read_arr-read_res.false

@@ -23,7 +23,7 @@ pub loop-state-init : goal.loop-state-init
 loop-state-init c = let x = c.args in
     let p = c.requires in
     let q = c.start-state in
-    (refl, q.auto.0 ∙ p.ring-room, refl, refl, refl, first-of x.pairs.now x.marks.now x.t x.a.now x.count x.ring.now x.words.now x.fallbacks.now x.uppers.now x.flows.now x.incoming.now x.reads.now x.writes.now x.components p q.new.ring q.result q.ensures.0 q.ensures.1, first-ahead x.pairs.now x.marks.now x.t x.a.now x.count x.ring.now x.words.now x.fallbacks.now x.uppers.now x.flows.now x.incoming.now x.reads.now x.writes.now x.components p q.result q.ensures.0)
+    (refl, q.auto.ring ∙ p.ring-room, refl, refl, refl, first-of x.pairs.now x.marks.now x.t x.a.now x.count x.ring.now x.words.now x.fallbacks.now x.uppers.now x.flows.now x.incoming.now x.reads.now x.writes.now x.components p q.new.ring q.result q.ensures.0 q.ensures.1, first-ahead x.pairs.now x.marks.now x.t x.a.now x.count x.ring.now x.words.now x.fallbacks.now x.uppers.now x.flows.now x.incoming.now x.reads.now x.writes.now x.components p q.result q.ensures.0)
 
 pub take_front-front-requires : goal.take_front-front-requires
 take_front-front-requires c = let x = c.args in
@@ -43,35 +43,35 @@ overflow_add-turns c = let l = c.loop-state in
     omega (arith, l.invariant.6)
 
 pub shape_of-a-then-state-ne0 : goal.shape_of-a-then-state-ne0
-shape_of-a-then-state-ne0 c = c.turn-state.auto.1.1.1.0 ∙ c.loop-state.invariant.0
+shape_of-a-then-state-ne0 c = c.turn-state.auto.a ∙ c.loop-state.invariant.0
 
 pub shape_of-ring-then-state-ne0 : goal.shape_of-ring-then-state-ne0
 shape_of-ring-then-state-ne0 c = let x = c.args in
     let p = c.requires in
     let l = c.loop-state in
     let v = c.turn-state in
-    v.auto.1.1.1.1.0 ∙ l.invariant.1 ∙ sym p.ring-room
+    v.auto.ring ∙ l.invariant.1 ∙ sym p.ring-room
 
 pub shape_of-words-then-state-ne0 : goal.shape_of-words-then-state-ne0
 shape_of-words-then-state-ne0 c = let x = c.args in
     let p = c.requires in
     let l = c.loop-state in
     let v = c.turn-state in
-    v.auto.1.1.1.1.1.1.0 ∙ l.invariant.2
+    v.auto.words ∙ l.invariant.2
 
 pub shape_of-fallbacks-then-state-ne0 : goal.shape_of-fallbacks-then-state-ne0
 shape_of-fallbacks-then-state-ne0 c = let x = c.args in
     let p = c.requires in
     let l = c.loop-state in
     let v = c.turn-state in
-    v.auto.1.1.1.1.1.1.1.0 ∙ l.invariant.3
+    v.auto.fallbacks ∙ l.invariant.3
 
 pub shape_of-uppers-then-state-ne0 : goal.shape_of-uppers-then-state-ne0
 shape_of-uppers-then-state-ne0 c = let x = c.args in
     let p = c.requires in
     let l = c.loop-state in
     let v = c.turn-state in
-    v.auto.1.1.1.1.1.1.1.1.0 ∙ l.invariant.4
+    v.auto.uppers ∙ l.invariant.4
 
 pub returns-then-state-ne0 : goal.returns-then-state-ne0
 returns-then-state-ne0 c = let x = c.args in
@@ -96,11 +96,11 @@ loop-state-preserved c = let x = c.args in
     let o = c.take_front-front in
     let v = c.turn-state in
     let z = goes x.pairs.now x.marks.now x.t x.a.now x.count x.ring.now x.words.now x.fallbacks.now x.uppers.now x.flows.now x.incoming.now x.reads.now x.writes.now x.components p l.turns (store l.a l.ring l.state) l.invariant.5 o.result o.ensures c.loop-state-test.true (store v.new.a v.new.ring v.result) v.ensures c.if-state-ne0.false in (
-      v.auto.1.1.1.0 ∙ l.invariant.0,
-      v.auto.1.1.1.1.0 ∙ l.invariant.1,
-      v.auto.1.1.1.1.1.1.0 ∙ l.invariant.2,
-      v.auto.1.1.1.1.1.1.1.0 ∙ l.invariant.3,
-      v.auto.1.1.1.1.1.1.1.1.0 ∙ l.invariant.4,
+      v.auto.a ∙ l.invariant.0,
+      v.auto.ring ∙ l.invariant.1,
+      v.auto.words ∙ l.invariant.2,
+      v.auto.fallbacks ∙ l.invariant.3,
+      v.auto.uppers ∙ l.invariant.4,
       z.0,
       omega (arith, l.invariant.6, z.1, less x.pairs.now x.marks.now x.t x.a.now x.count x.ring.now x.words.now x.fallbacks.now x.uppers.now x.flows.now x.incoming.now x.reads.now x.writes.now x.components p l.turns (store l.a l.ring l.state) l.invariant.5 o.result o.ensures c.loop-state-test.true),
     )

@@ -10,7 +10,7 @@ use Rattle.questions.proofs.ancestors_of.Goals as goal
 
 pub returns-then-work-lt-ROOM : goal.returns-then-work-lt-ROOM
 returns-then-work-lt-ROOM c = let a = c.args in
-    let g : Given = given a.names.now a.name-at.now a.name-len.now a.rec-flags.now a.rec-class.now a.rec-at.now a.rec-len.now a.parents.now in
+    let g : Given = given a.names.now a.name_at.now a.name_len.now a.rec_flags.now a.rec_class.now a.rec_at.now a.rec_len.now a.parents.now in
     gathers-short g a.class a.work.now c.if-work-lt-ROOM.true c.none_gathered.result c.none_gathered.ensures
 
 pub ask_layers-told-requires : goal.ask_layers-told-requires
@@ -18,18 +18,18 @@ ask_layers-told-requires c = λ e. (refl, refl)
 
 pub returns-then-first_open-rec_flags : goal.returns-then-first_open-rec_flags
 returns-then-first_open-rec_flags c = let a = c.args in
-    let g : Given = given a.names.now a.name-at.now a.name-len.now a.rec-flags.now a.rec-class.now a.rec-at.now a.rec-len.now a.parents.now in
+    let g : Given = given a.names.now a.name_at.now a.name_len.now a.rec_flags.now a.rec_class.now a.rec_at.now a.rec_len.now a.parents.now in
     let d = c.clear in
     let e : length d.new.work ≡ length a.work.now = search rules in
     let told = c.ask_layers-told in
-    gathers-long g a.class a.work.now c.if-work-lt-ROOM.false _ (d.ensures ∙ ap (λ (n : ℕ). replicate n 0) (sym d.auto.0 ∙ e)) told.result.ancestors (told.ensures.1 refl)
+    gathers-long g a.class a.work.now c.if-work-lt-ROOM.false _ (d.ensures ∙ ap (λ (n : ℕ). replicate n 0) (sym d.auto.work ∙ e)) told.result.ancestors (told.ensures.1 refl)
 
 pub ancestors_over-found-requires : goal.ancestors_over-found-requires
 ancestors_over-found-requires c = (room-plain _ _ c.first_open.result c.first_open.ensures c.if-first_open-rec_flags.false (search rules), search rules)
 
 pub returns : goal.returns
 returns c = let a = c.args in
-    let g : Given = given a.names.now a.name-at.now a.name-len.now a.rec-flags.now a.rec-class.now a.rec-at.now a.rec-len.now a.parents.now in
+    let g : Given = given a.names.now a.name_at.now a.name_len.now a.rec_flags.now a.rec_class.now a.rec_at.now a.rec_len.now a.parents.now in
     let d = c.clear-2 in
     let e : length d.new.work ≡ length a.work.now = search rules in
-    gathers-long g a.class a.work.now c.if-work-lt-ROOM.false _ (d.ensures ∙ ap (λ (n : ℕ). replicate n 0) (sym d.auto.0 ∙ e)) c.ancestors_over-found.result c.ancestors_over-found.ensures
+    gathers-long g a.class a.work.now c.if-work-lt-ROOM.false _ (d.ensures ∙ ap (λ (n : ℕ). replicate n 0) (sym d.auto.work ∙ e)) c.ancestors_over-found.result c.ancestors_over-found.ensures

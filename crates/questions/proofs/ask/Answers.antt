@@ -11,7 +11,7 @@ use Rattle.questions.proofs.ask.Goals as goal
 
 pub returns-then-work-lt-ROOM : goal.returns-then-work-lt-ROOM
 returns-then-work-lt-ROOM c = let a = c.args in
-    let g : Given = given a.names.now a.name-at.now a.name-len.now a.rec-flags.now a.rec-class.now a.rec-at.now a.rec-len.now a.parents.now in
+    let g : Given = given a.names.now a.name_at.now a.name_len.now a.rec_flags.now a.rec_class.now a.rec_at.now a.rec_len.now a.parents.now in
     asked-short g a.q a.a a.b a.work.now c.if-work-lt-ROOM.true
 
 pub ask_layers-told-requires : goal.ask_layers-told-requires
@@ -19,18 +19,18 @@ ask_layers-told-requires c = λ e. absurd (false≢true e)
 
 pub returns-then-first_open-rec_flags : goal.returns-then-first_open-rec_flags
 returns-then-first_open-rec_flags c = let a = c.args in
-    let g : Given = given a.names.now a.name-at.now a.name-len.now a.rec-flags.now a.rec-class.now a.rec-at.now a.rec-len.now a.parents.now in
+    let g : Given = given a.names.now a.name_at.now a.name_len.now a.rec_flags.now a.rec_class.now a.rec_at.now a.rec_len.now a.parents.now in
     let d = c.clear in
     let e : length d.new.work ≡ length a.work.now = search rules in
     let told = c.ask_layers-told in
-    asked-long g a.q a.a a.b a.work.now c.if-work-lt-ROOM.false _ (d.ensures ∙ ap (λ (n : ℕ). replicate n 0) (sym d.auto.0 ∙ e)) told.result.answer (told.ensures.0 refl)
+    asked-long g a.q a.a a.b a.work.now c.if-work-lt-ROOM.false _ (d.ensures ∙ ap (λ (n : ℕ). replicate n 0) (sym d.auto.work ∙ e)) told.result.answer (told.ensures.0 refl)
 
 pub ask_over-answer-requires : goal.ask_over-answer-requires
 ask_over-answer-requires c = (room-plain _ _ c.first_open.result c.first_open.ensures c.if-first_open-rec_flags.false (search rules), search rules)
 
 pub returns : goal.returns
 returns c = let a = c.args in
-    let g : Given = given a.names.now a.name-at.now a.name-len.now a.rec-flags.now a.rec-class.now a.rec-at.now a.rec-len.now a.parents.now in
+    let g : Given = given a.names.now a.name_at.now a.name_len.now a.rec_flags.now a.rec_class.now a.rec_at.now a.rec_len.now a.parents.now in
     let d = c.clear-2 in
     let e : length d.new.work ≡ length a.work.now = search rules in
-    asked-long g a.q a.a a.b a.work.now c.if-work-lt-ROOM.false _ (d.ensures ∙ ap (λ (n : ℕ). replicate n 0) (sym d.auto.0 ∙ e)) c.ask_over-answer.result c.ask_over-answer.ensures
+    asked-long g a.q a.a a.b a.work.now c.if-work-lt-ROOM.false _ (d.ensures ∙ ap (λ (n : ℕ). replicate n 0) (sym d.auto.work ∙ e)) c.ask_over-answer.result c.ask_over-answer.ensures

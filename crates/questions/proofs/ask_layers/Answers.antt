@@ -10,14 +10,14 @@ open_table-o-requires c = (room-layers _ _ (search rules), search rules)
 
 pub tell-requires : goal.tell-requires
 tell-requires c = let a = c.args in
-    let g : Given = given a.names.now a.name-at.now a.name-len.now a.rec-flags.now a.rec-class.now a.rec-at.now a.rec-len.now a.parents.now in
+    let g : Given = given a.names.now a.name_at.now a.name_len.now a.rec_flags.now a.rec_class.now a.rec_at.now a.rec_len.now a.parents.now in
     let t = c.of_types-types in
     let o = c.open_table-o in
     opened-askable g a.set a.q t.result t.ensures a.a a.b c.requires _ _ o.result o.ensures (layers-no-rows o.new.pairs (search rules))
 
 pub returns : goal.returns
 returns c = let a = c.args in
-    let g : Given = given a.names.now a.name-at.now a.name-len.now a.rec-flags.now a.rec-class.now a.rec-at.now a.rec-len.now a.parents.now in
+    let g : Given = given a.names.now a.name_at.now a.name_len.now a.rec_flags.now a.rec_class.now a.rec_at.now a.rec_len.now a.parents.now in
     let t = c.of_types-types in
     let o = c.open_table-o in
     opened-tells g a.set a.q t.result t.ensures a.a a.b c.requires _ _ o.result o.ensures _ _ c.tell.ensures

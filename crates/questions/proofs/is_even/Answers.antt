@@ -18,4 +18,4 @@ returns-then-rec_flags-rec_at c = simp (eq-eqb _ _ c.if-name_at-name_len.false, 
 
 pub returns : goal.returns
 returns c = let a = c.args in
-    even-last a.name-at a.name-len a.rec-flags a.rec-class a.rec-at a.rec-len c.if-name_at-name_len.false c.if-rec_flags-rec_class.false c.if-rec_flags-rec_at.false
+    even-last a.name_at a.name_len a.rec_flags a.rec_class a.rec_at a.rec_len c.if-name_at-name_len.false c.if-rec_flags-rec_class.false c.if-rec_flags-rec_at.false

@@ -8,4 +8,4 @@ pub returns : goal.returns
 returns c = let a = c.args in
     let t = c.build_table-o in
     let k = c.with_checks in
-    opens (given a.names.now a.name-at.now a.name-len.now a.rec-flags.now a.rec-class.now a.rec-at.now a.rec-len.now a.parents.now) a.types a.a a.b _ _ t.result t.ensures k.result k.ensures.0 k.ensures.1
+    opens (given a.names.now a.name_at.now a.name_len.now a.rec_flags.now a.rec_class.now a.rec_at.now a.rec_len.now a.parents.now) a.types a.a a.b _ _ t.result t.ensures k.result k.ensures.0 k.ensures.1

@@ -18,7 +18,7 @@ slice_bounds-add_to_stack-end c = let b = c.args.body.now in
     let e = take_all (length b - 3) (drop 3 b) (omega arith) in
     let q = c.put_numbers-k.ensures.0 ∙ ap (λ (x : List ℕ). length (numbers_in x)) e in
     let m = numbers-length (drop 3 b) (omega arith) in
-    let k = c.put_numbers-k.auto.1.0 in
+    let k = c.put_numbers-k.auto.numbers in
     omega arith
 
 pub returns : goal.returns

@@ -36,7 +36,7 @@ send_ranks-requires c = let x = c.args in
     (next-ready (fallback_rule x.flows.now x.root x.fallbacks.now) (store o.new.a o.new.ring o.result) (store v.new.a v.new.ring v.result) (each-given 1 x.root (map unrank x.fallbacks.now) x.flows.now (omega arith) (ranked-base x.fallbacks.now p.4)) (next-ready (target_rule x.flows.now x.root x.produced) (store x.a.now x.ring.now x.s) (store o.new.a o.new.ring o.result) (each-given 3 x.root (sent_types x.produced) x.flows.now (omega arith) (sent-base x.produced p.3)) p.0 o.ensures c.if-first-ne0.false) v.ensures c.if-second-ne0.false, omega arith, search rules, search rules)
 
 pub shape_of-a : goal.shape_of-a
-shape_of-a c = c.send_ranks.auto.0 ∙ c.send_ranks-second.auto.0 ∙ c.send-first.auto.0
+shape_of-a c = c.send_ranks.auto.a ∙ c.send_ranks-second.auto.a ∙ c.send-first.auto.a
 
 pub returns : goal.returns
 returns c = let x = c.args in

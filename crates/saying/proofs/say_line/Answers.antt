@@ -13,28 +13,28 @@ pub slice_bounds-put_said-start : goal.slice_bounds-put_said-start
 slice_bounds-put_said-start c = zero-le
 
 pub slice_bounds-put_said-end : goal.slice_bounds-put_said-end
-slice_bounds-put_said-end c = answers-end c.args.n.variables c.args.answers.now c.frame-f.new.answers c.requires.0.ready.within.variables c.frame-f.auto.1.1.1.1.1.0 c.requires.1
+slice_bounds-put_said-end c = answers-end c.args.n.variables c.args.answers.now c.frame-f.new.answers c.requires.0.ready.within.variables c.frame-f.auto.answers c.requires.1
 
 pub put_said-m-requires : goal.put_said-m-requires
-put_said-m-requires c = (c.requires.2, answers-few c.args.n.variables c.args.answers.now _ c.requires.0.ready.within.variables c.frame-f.auto.1.1.1.1.1.0 c.requires.1)
+put_said-m-requires c = (c.requires.2, answers-few c.args.n.variables c.args.answers.now _ c.requires.0.ready.within.variables c.frame-f.auto.answers c.requires.1)
 
 pub shape_of-last : goal.shape_of-last
-shape_of-last c = c.frame-f.auto.1.0
+shape_of-last c = c.frame-f.auto.last
 
 pub shape_of-pairs : goal.shape_of-pairs
-shape_of-pairs c = c.frame-f.auto.1.1.0
+shape_of-pairs c = c.frame-f.auto.pairs
 
 pub shape_of-marks : goal.shape_of-marks
-shape_of-marks c = c.frame-f.auto.1.1.1.0
+shape_of-marks c = c.frame-f.auto.marks
 
 pub shape_of-rows : goal.shape_of-rows
-shape_of-rows c = c.frame-f.auto.1.1.1.1.0
+shape_of-rows c = c.frame-f.auto.rows
 
 pub shape_of-answers : goal.shape_of-answers
-shape_of-answers c = c.frame-f.auto.1.1.1.1.1.0
+shape_of-answers c = c.frame-f.auto.answers
 
 pub shape_of-out : goal.shape_of-out
-shape_of-out c = c.put_said-m.auto.0
+shape_of-out c = c.put_said-m.auto.out
 
 pub returns : goal.returns
-returns c = let f = c.frame-f in let p = c.put_said-m in (speaks c.args.line.now c.args.last.now c.args.pairs.now c.args.marks.now c.args.rows.now f.new.last f.new.pairs f.new.marks f.new.rows c.args.answers.now f.new.answers c.args.n c.requires.0 f.result c.args.number c.args.filled c.args.out.now _ p.result f.ensures.0 p.ensures, (f.ensures.1, inside _ c.args.filled c.args.out.now _ p.result p.ensures (filled-in c.args.filled c.args.out.now c.requires.2) p.auto.0))
+returns c = let f = c.frame-f in let p = c.put_said-m in (speaks c.args.line.now c.args.last.now c.args.pairs.now c.args.marks.now c.args.rows.now f.new.last f.new.pairs f.new.marks f.new.rows c.args.answers.now f.new.answers c.args.n c.requires.0 f.result c.args.number c.args.filled c.args.out.now _ p.result f.ensures.0 p.ensures, (f.ensures.1, inside _ c.args.filled c.args.out.now _ p.result p.ensures (filled-in c.args.filled c.args.out.now c.requires.2) p.auto.out))

@@ -10,12 +10,12 @@ use Rattle.solvedoor.proofs.solve_over.Goals as goal
 abbrev table : tie.Start → Given
 table s =
     let a = s.args in
-    given a.names.now a.name-at.now a.name-len.now a.rec-flags.now a.rec-class.now a.rec-at.now a.rec-len.now a.parents.now
+    given a.names.now a.name_at.now a.name_len.now a.rec_flags.now a.rec_class.now a.rec_at.now a.rec_len.now a.parents.now
 
 abbrev columns : tie.Start → Columns
 columns s =
     let a = s.args in
-    columns_in a.components a.var-comp.now a.bnd-comp.now a.bnd-kind.now a.bnd-type.now a.flow-src.now a.flow-dst.now a.up-src.now a.up-dst.now a.read-arr.now a.read-res.now a.write-arr.now a.write-val.now
+    columns_in a.components a.var_comp.now a.bnd_comp.now a.bnd_kind.now a.bnd_type.now a.flow_src.now a.flow_dst.now a.up_src.now a.up_dst.now a.read_arr.now a.read_res.now a.write_arr.now a.write_val.now
 
 pub build_table-o-requires : goal.build_table-o-requires
 build_table-o-requires c = let p = c.requires in
@@ -26,7 +26,7 @@ returns-then-o-ne0 c = let a = c.args in
     let o = c.build_table-o in
     let f = c.refuse in
     let n = c.if-o-ne0.true in
-    refused-of a.answers.now a.out-comp.now a.out-kind.now a.out-type.now a.work.now _ f.result o.result.refusal f.ensures.0 f.ensures.1 (table c) (columns c) n (table-refused (table c) (columns c) c.requires.2 _ _ o.result o.ensures n)
+    refused-of a.answers.now a.out_comp.now a.out_kind.now a.out_type.now a.work.now _ f.result o.result.refusal f.ensures.0 f.ensures.1 (table c) (columns c) n (table-refused (table c) (columns c) c.requires.2 _ _ o.result o.ensures n)
 
 pub solve_rows-requires : goal.solve_rows-requires
 solve_rows-requires c = let o = c.build_table-o in

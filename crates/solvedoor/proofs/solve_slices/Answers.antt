@@ -11,23 +11,23 @@ use Rattle.solvedoor.proofs.solve_slices.Goals as goal
 abbrev table : tie.Start → Given
 table s =
     let a = s.args in
-    given a.names.now a.name-at.now a.name-len.now a.rec-flags.now a.rec-class.now a.rec-at.now a.rec-len.now a.parents.now
+    given a.names.now a.name_at.now a.name_len.now a.rec_flags.now a.rec_class.now a.rec_at.now a.rec_len.now a.parents.now
 
 abbrev columns : tie.Start → Columns
 columns s =
     let a = s.args in
-    columns_in a.components a.var-comp.now a.bnd-comp.now a.bnd-kind.now a.bnd-type.now a.flow-src.now a.flow-dst.now a.up-src.now a.up-dst.now a.read-arr.now a.read-res.now a.write-arr.now a.write-val.now
+    columns_in a.components a.var_comp.now a.bnd_comp.now a.bnd_kind.now a.bnd_type.now a.flow_src.now a.flow_dst.now a.up_src.now a.up_dst.now a.read_arr.now a.read_res.now a.write_arr.now a.write_val.now
 
 abbrev slices : tie.Start → Lent
 slices s =
     let a = s.args in
-    lent a.answers.now a.out-comp.now a.out-kind.now a.out-type.now a.work.now
+    lent a.answers.now a.out_comp.now a.out_kind.now a.out_type.now a.work.now
 
 pub returns-then-short-ne0 : goal.returns-then-short-ne0
 returns-then-short-ne0 c = let a = c.args in
     let k = c.lengths_refusal-short in
     let f = c.refuse_lengths in
-    door-lengths (table c) (columns c) a.answers.now a.out-comp.now a.out-kind.now a.out-type.now a.work.now _ f.result k.result f.ensures.0 f.ensures.1 c.if-short-ne0.true (lengths-refused (columns c) (slices c) k.result k.ensures)
+    door-lengths (table c) (columns c) a.answers.now a.out_comp.now a.out_kind.now a.out_type.now a.work.now _ f.result k.result f.ensures.0 f.ensures.1 c.if-short-ne0.true (lengths-refused (columns c) (slices c) k.result k.ensures)
 
 pub solve_layers-requires : goal.solve_layers-requires
 solve_layers-requires c = let k = c.lengths_refusal-short in

@@ -10,7 +10,7 @@ use Rattle.solverows.proofs.solve_rows.Goals as goal
 abbrev columns : tie.Start → Columns
 columns s =
     let a = s.args in
-    columns_in a.components a.var-comp.now a.bnd-comp.now a.bnd-kind.now a.bnd-type.now a.flow-src.now a.flow-dst.now a.up-src.now a.up-dst.now a.read-arr.now a.read-res.now a.write-arr.now a.write-val.now
+    columns_in a.components a.var_comp.now a.bnd_comp.now a.bnd_kind.now a.bnd_type.now a.flow_src.now a.flow_dst.now a.up_src.now a.up_dst.now a.read_arr.now a.read_res.now a.write_arr.now a.write_val.now
 
 pub build_problem-n-requires : goal.build_problem-n-requires
 build_problem-n-requires c = let p = c.requires in
@@ -22,7 +22,7 @@ returns-then-refusal-ne0 c = let a = c.args in
     let k = c.rows_refusal-refusal in
     let f = c.refuse in
     let e = refusal-is a.t.names (columns c) _ _ _ _ _ _ _ _ _ _ b.result b.ensures a.t.object k.result k.ensures in
-    refused-rows a.answers.now a.out-comp.now a.out-kind.now a.out-type.now a.work.now _ f.result k.result f.ensures.0 f.ensures.1 (world_of a.pairs.now a.marks.now a.t) a.t (columns c) c.if-refusal-ne0.true e
+    refused-rows a.answers.now a.out_comp.now a.out_kind.now a.out_type.now a.work.now _ f.result k.result f.ensures.0 f.ensures.1 (world_of a.pairs.now a.marks.now a.t) a.t (columns c) c.if-refusal-ne0.true e
 
 pub solve_kept-requires : goal.solve_kept-requires
 solve_kept-requires c = let a = c.args in

@@ -12,7 +12,7 @@ pub returns-then-refusal-ne0 : goal.returns-then-refusal-ne0
 returns-then-refusal-ne0 c = let x = c.args in
     let p = c.requires in
     let o = c.run_problem-c in
-    run-refused x.pairs.now x.marks.now x.t x.components x.variables.now x.bounds.now x.flows.now x.uppers.now x.reads.now x.writes.now p.0 p.1 o.new.a o.result o.ensures c.if-refusal-ne0.true (lent x.into.now x.out-comp.now x.out-kind.now x.out-type.now x.a.now) (lent x.into.now x.out-comp.now x.out-kind.now x.out-type.now o.new.a) refl refl refl refl
+    run-refused x.pairs.now x.marks.now x.t x.components x.variables.now x.bounds.now x.flows.now x.uppers.now x.reads.now x.writes.now p.0 p.1 o.new.a o.result o.ensures c.if-refusal-ne0.true (lent x.into.now x.out_comp.now x.out_kind.now x.out_type.now x.a.now) (lent x.into.now x.out_comp.now x.out_kind.now x.out_type.now o.new.a) refl refl refl refl
 
 pub slice_bounds-write_solution-end : goal.slice_bounds-write_solution-end
 slice_bounds-write_solution-end c = let x = c.args in
@@ -43,4 +43,4 @@ returns c = let x = c.args in
     let o = c.run_problem-c in
     let v = c.write_solution in
     let y = run-went x.pairs.now x.marks.now x.t x.components x.variables.now x.bounds.now x.flows.now x.uppers.now x.reads.now x.writes.now p.0 p.1 o.new.a o.result o.ensures c.if-refusal-ne0.false in
-    went-leaves x.pairs.now x.marks.now x.t x.components x.variables.now x.bounds.now x.flows.now x.uppers.now x.reads.now x.writes.now p.0 p.1 o.new.a o.result o.ensures y (take (o.result.bounds - 0) o.new.a) (went-front x.pairs.now x.marks.now x.t x.components x.variables.now x.bounds.now x.flows.now x.uppers.now x.reads.now x.writes.now p.0 p.1 o.new.a o.result o.ensures y) (lent x.into.now x.out-comp.now x.out-kind.now x.out-type.now x.a.now) (lent v.new.into v.new.out_comp v.new.out_kind v.new.out_type o.new.a) v.ensures.0 v.ensures.1
+    went-leaves x.pairs.now x.marks.now x.t x.components x.variables.now x.bounds.now x.flows.now x.uppers.now x.reads.now x.writes.now p.0 p.1 o.new.a o.result o.ensures y (take (o.result.bounds - 0) o.new.a) (went-front x.pairs.now x.marks.now x.t x.components x.variables.now x.bounds.now x.flows.now x.uppers.now x.reads.now x.writes.now p.0 p.1 o.new.a o.result o.ensures y) (lent x.into.now x.out_comp.now x.out_kind.now x.out_type.now x.a.now) (lent v.new.into v.new.out_comp v.new.out_kind v.new.out_type o.new.a) v.ensures.0 v.ensures.1

@@ -16,5 +16,5 @@ returns c = let x = c.args in
       components = o.components;
       kinds = o.kinds;
       types = o.types;
-      work = d.ensures ∙ ap (λ (n : ℕ). replicate n 0) (sym d.auto.0 ∙ e);
+      work = d.ensures ∙ ap (λ (n : ℕ). replicate n 0) (sym d.auto.work ∙ e);
     }

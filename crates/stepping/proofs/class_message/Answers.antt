@@ -7,7 +7,7 @@ pub name_frame-requires : goal.name_frame-requires
 name_frame-requires c = name-needs c.args.kind c.args.body.now c.args.last.now c.args.pairs.now c.args.marks.now c.args.rows.now c.args.n c.requires.0 c.requires.1 c.if-kind-eq1.true
 
 pub shape_of-last-then-kind-eq1 : goal.shape_of-last-then-kind-eq1
-shape_of-last-then-kind-eq1 c = c.name_frame.auto.1.0
+shape_of-last-then-kind-eq1 c = c.name_frame.auto.last
 
 pub returns-then-kind-eq1 : goal.returns-then-kind-eq1
 returns-then-kind-eq1 c = name-step c.args.kind c.args.body.now c.args.last.now c.args.pairs.now c.args.marks.now c.args.rows.now c.args.n c.requires.0 _ _ c.if-kind-eq1.true c.name_frame.ensures
@@ -16,10 +16,10 @@ pub record_frame-requires : goal.record_frame-requires
 record_frame-requires c = let a = c.args in record-needs a.kind a.body.now a.last.now a.pairs.now a.marks.now a.rows.now a.n c.requires.0 c.requires.1 c.if-kind-eq2.true
 
 pub shape_of-pairs-then-kind-eq2 : goal.shape_of-pairs-then-kind-eq2
-shape_of-pairs-then-kind-eq2 c = c.record_frame.auto.1.0
+shape_of-pairs-then-kind-eq2 c = c.record_frame.auto.pairs
 
 pub shape_of-marks-then-kind-eq2 : goal.shape_of-marks-then-kind-eq2
-shape_of-marks-then-kind-eq2 c = c.record_frame.auto.1.1.0
+shape_of-marks-then-kind-eq2 c = c.record_frame.auto.marks
 
 pub returns-then-kind-eq2 : goal.returns-then-kind-eq2
 returns-then-kind-eq2 c = let a = c.args in record-step a.kind a.body.now a.last.now a.pairs.now a.marks.now a.rows.now a.n c.requires.0 _ _ _ c.if-kind-eq2.true c.record_frame.ensures

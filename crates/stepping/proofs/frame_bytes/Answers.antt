@@ -42,13 +42,13 @@ pub class_message-requires : goal.class_message-requires
 class_message-requires c = let a = c.args in (c.requires.0, bytes-headed a.bytes.now (slices_of a.last.now a.pairs.now a.marks.now a.rows.now) (slices_of a.last.now a.pairs.now a.marks.now a.rows.now) a.n c.requires.0.ready a.answers.now a.answers.now (framed (Refused 0) a.n) c.check_head-refusal.result c.check_head-refusal.ensures c.if-refusal-ne0.false, sym c.is_class_kind.ensures ∙ c.if-is_class_kind.true)
 
 pub shape_of-last-then-is_class_kind : goal.shape_of-last-then-is_class_kind
-shape_of-last-then-is_class_kind c = c.class_message.auto.1.1.0
+shape_of-last-then-is_class_kind c = c.class_message.auto.last
 
 pub shape_of-pairs-then-is_class_kind : goal.shape_of-pairs-then-is_class_kind
-shape_of-pairs-then-is_class_kind c = c.class_message.auto.1.1.1.0
+shape_of-pairs-then-is_class_kind c = c.class_message.auto.pairs
 
 pub shape_of-marks-then-is_class_kind : goal.shape_of-marks-then-is_class_kind
-shape_of-marks-then-is_class_kind c = c.class_message.auto.1.1.1.1.0
+shape_of-marks-then-is_class_kind c = c.class_message.auto.marks
 
 pub shape_of-rows-then-is_class_kind : goal.shape_of-rows-then-is_class_kind
 shape_of-rows-then-is_class_kind c = refl
@@ -69,10 +69,10 @@ pub shape_of-marks : goal.shape_of-marks
 shape_of-marks c = refl
 
 pub shape_of-rows : goal.shape_of-rows
-shape_of-rows c = c.later_message.auto.1.1.1.1.1.0
+shape_of-rows c = c.later_message.auto.rows
 
 pub shape_of-answers : goal.shape_of-answers
-shape_of-answers c = c.later_message.auto.1.1.1.1.1.1.0
+shape_of-answers c = c.later_message.auto.answers
 
 pub returns : goal.returns
 returns c = let a = c.args in bytes-passed a.bytes.now (slices_of a.last.now a.pairs.now a.marks.now a.rows.now) (slices_of a.last.now a.pairs.now a.marks.now c.later_message.new.rows) a.n c.requires.0.ready a.answers.now c.later_message.new.answers c.later_message.result c.check_head-refusal.result c.check_head-refusal.ensures c.if-refusal-ne0.false c.later_message.ensures

@@ -9,7 +9,7 @@ pub value_message-requires : goal.value_message-requires
 value_message-requires c = (c.requires.0, c.requires.2, c.requires.3, (is-later c.args.kind c.requires.4).0, c.if-kind-le5.true)
 
 pub shape_of-rows-then-kind-le5 : goal.shape_of-rows-then-kind-le5
-shape_of-rows-then-kind-le5 c = c.value_message.auto.1.1.1.1.1.0
+shape_of-rows-then-kind-le5 c = c.value_message.auto.rows
 
 pub returns-then-kind-le5 : goal.returns-then-kind-le5
 returns-then-kind-le5 c = c.value_message.ensures c.args.answers.now
@@ -18,7 +18,7 @@ pub link_message-requires : goal.link_message-requires
 link_message-requires c = (c.requires.0, c.requires.2, c.if-kind-le5.false, c.if-kind-le9.true)
 
 pub shape_of-rows-then-kind-le9 : goal.shape_of-rows-then-kind-le9
-shape_of-rows-then-kind-le9 c = c.link_message.auto.1.1.1.1.1.0
+shape_of-rows-then-kind-le9 c = c.link_message.auto.rows
 
 pub returns-then-kind-le9 : goal.returns-then-kind-le9
 returns-then-kind-le9 c = c.link_message.ensures c.args.answers.now
@@ -30,7 +30,7 @@ pub shape_of-rows-then-kind-eq10 : goal.shape_of-rows-then-kind-eq10
 shape_of-rows-then-kind-eq10 c = refl
 
 pub shape_of-answers-then-kind-eq10 : goal.shape_of-answers-then-kind-eq10
-shape_of-answers-then-kind-eq10 c = c.solve_frame.auto.1.1.1.0
+shape_of-answers-then-kind-eq10 c = c.solve_frame.auto.answers
 
 pub returns-then-kind-eq10 : goal.returns-then-kind-eq10
 returns-then-kind-eq10 c = solve-step c.args.kind c.args.body.now c.args.last.now c.args.pairs.now c.args.marks.now c.args.rows.now c.args.n c.requires.0 _ c.args.answers.now _ c.if-kind-eq10.true c.solve_frame.ensures

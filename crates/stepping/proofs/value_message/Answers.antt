@@ -24,10 +24,10 @@ pub variable_frame-requires : goal.variable_frame-requires
 variable_frame-requires c = variable-needs c.args.kind c.args.body.now c.args.last.now c.args.pairs.now c.args.marks.now c.args.rows.now c.args.n c.requires.0 c.requires.1 c.if-kind-eq4.true
 
 pub shape_of-rows-then-kind-eq4 : goal.shape_of-rows-then-kind-eq4
-shape_of-rows-then-kind-eq4 c = same_len_mid 0 2048 c.args.rows.now c.variable_frame.new.variables c.variable_frame.auto.1.0
+shape_of-rows-then-kind-eq4 c = same_len_mid 0 2048 c.args.rows.now c.variable_frame.new.variables c.variable_frame.auto.variables
 
 pub returns-then-kind-eq4 : goal.returns-then-kind-eq4
-returns-then-kind-eq4 c = variable-step c.args.kind c.args.body.now c.args.last.now c.args.pairs.now c.args.marks.now c.args.rows.now c.args.n c.requires.0 _ _ c.if-kind-eq4.true c.variable_frame.ensures c.variable_frame.auto.1.0
+returns-then-kind-eq4 c = variable-step c.args.kind c.args.body.now c.args.last.now c.args.pairs.now c.args.marks.now c.args.rows.now c.args.n c.requires.0 _ _ c.if-kind-eq4.true c.variable_frame.ensures c.variable_frame.auto.variables
 
 pub slice_bounds-bound_frame-count : goal.slice_bounds-bound_frame-count
 slice_bounds-bound_frame-count c = below refl
@@ -42,7 +42,7 @@ pub bound_frame-requires : goal.bound_frame-requires
 bound_frame-requires c = bound-needs c.args.kind c.args.body.now c.args.last.now c.args.pairs.now c.args.marks.now c.args.rows.now c.args.n c.requires.0 c.requires.1 (is-5 c.args.kind c.requires.3 c.requires.4 c.if-kind-eq3.false c.if-kind-eq4.false)
 
 pub shape_of-rows : goal.shape_of-rows
-shape_of-rows c = same_len_mid 2048 4096 c.args.rows.now c.bound_frame.new.bounds c.bound_frame.auto.1.0
+shape_of-rows c = same_len_mid 2048 4096 c.args.rows.now c.bound_frame.new.bounds c.bound_frame.auto.bounds
 
 pub returns : goal.returns
-returns c = bound-step c.args.kind c.args.body.now c.args.last.now c.args.pairs.now c.args.marks.now c.args.rows.now c.args.n c.requires.0 _ _ (is-5 c.args.kind c.requires.3 c.requires.4 c.if-kind-eq3.false c.if-kind-eq4.false) (bound-needs c.args.kind c.args.body.now c.args.last.now c.args.pairs.now c.args.marks.now c.args.rows.now c.args.n c.requires.0 c.requires.1 (is-5 c.args.kind c.requires.3 c.requires.4 c.if-kind-eq3.false c.if-kind-eq4.false)).0 c.requires.2 c.bound_frame.ensures c.bound_frame.auto.1.0
+returns c = bound-step c.args.kind c.args.body.now c.args.last.now c.args.pairs.now c.args.marks.now c.args.rows.now c.args.n c.requires.0 _ _ (is-5 c.args.kind c.requires.3 c.requires.4 c.if-kind-eq3.false c.if-kind-eq4.false) (bound-needs c.args.kind c.args.body.now c.args.last.now c.args.pairs.now c.args.marks.now c.args.rows.now c.args.n c.requires.0 c.requires.1 (is-5 c.args.kind c.requires.3 c.requires.4 c.if-kind-eq3.false c.if-kind-eq4.false)).0 c.requires.2 c.bound_frame.ensures c.bound_frame.auto.bounds

@@ -25,13 +25,13 @@ loop-c-preserved c = let a = c.args in
     let l = c.loop-c in
     let v = view_of a.pairs.now a.marks.now a.t in (
       c.lowest-c-in-loop-c.ensures,
-      l.invariant.1 ∙ strip-step v a.d l.auto.words l.left.words l.c l.invariant.0 (omega arith)
+      l.invariant.1 ∙ strip-step v a.d l.kept.words l.left.words l.c l.invariant.0 (omega arith)
           ∙ ap₂ (λ (s f : List ℕ). strip v a.d s (members (at f) 0 1024))
-          (ap (λ (b : Bool). cond b (remove l.auto.words l.c) l.auto.words) (sym c.reaches.ensures) ∙ sym c.without_if-kept.ensures)
+          (ap (λ (b : Bool). cond b (remove l.kept.words l.c) l.kept.words) (sym c.reaches.ensures) ∙ sym c.without_if-kept.ensures)
           (sym c.without-left.ensures),
     )
 
 pub returns : goal.returns
 returns c = let a = c.args in
     let l = c.loop-c in
-    sym (l.invariant.1 ∙ strip-end (view_of a.pairs.now a.marks.now a.t) a.d l.auto.words l.left.words l.c l.invariant.0 (omega arith))
+    sym (l.invariant.1 ∙ strip-end (view_of a.pairs.now a.marks.now a.t) a.d l.kept.words l.left.words l.c l.invariant.0 (omega arith))

@@ -11,5 +11,5 @@ build_shown-requires c = let p = c.requires in
 
 pub returns : goal.returns
 returns c = let a = c.args in
-    let g : Given = given a.names.now a.name-at.now a.name-len.now a.rec-flags.now a.rec-class.now a.rec-at.now a.rec-len.now a.parents.now in
+    let g : Given = given a.names.now a.name_at.now a.name_len.now a.rec_flags.now a.rec_class.now a.rec_at.now a.rec_len.now a.parents.now in
     built-is g _ _ _ c.build_shown.ensures

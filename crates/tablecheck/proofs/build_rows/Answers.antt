@@ -11,7 +11,7 @@ returns-then-first_open-rec_flags c = c.build_layers.ensures
 
 pub build_plain-requires : goal.build_plain-requires
 build_plain-requires c = let found = c.first_open in
-    (c.requires.0, c.requires.1, none-found c.args.rec-flags.now c.args.rec-flags.now found.result found.ensures c.if-first_open-rec_flags.false)
+    (c.requires.0, c.requires.1, none-found c.args.rec_flags.now c.args.rec_flags.now found.result found.ensures c.if-first_open-rec_flags.false)
 
 pub returns : goal.returns
 returns c = c.build_plain.ensures

@@ -10,7 +10,7 @@ use Rattle.tablecheck.specs.Steps.{fresh-holds, gone-start, gone-end, gone-stop,
 use Rattle.tablecheck.proofs.check_records.Goals as goal
 
 pub loop-i-init : goal.loop-i-init
-loop-i-init c = (omega arith, (fresh-holds _ c.args.t refl c.requires.1 c.lowest-u.result c.lowest-u.ensures).0, gone-start c.args.parents.now c.args.rec-flags.now c.args.rec-class.now c.args.rec-at.now c.args.rec-len.now _ _ refl)
+loop-i-init c = (omega arith, (fresh-holds _ c.args.t refl c.requires.1 c.lowest-u.result c.lowest-u.ensures).0, gone-start c.args.parents.now c.args.rec_flags.now c.args.rec_class.now c.args.rec_at.now c.args.rec_len.now _ _ refl)
 
 pub stack_row-row-requires : goal.stack_row-row-requires
 stack_row-row-requires c = c.loop-i.invariant.1
@@ -20,8 +20,8 @@ returns-then-row-ne0 c = let a = c.args in
     let l = c.loop-i in
     let row = c.stack_row-row in
     let low = c.lowest-u in
-    gone-stop a.parents.now a.rec-flags.now a.rec-class.now a.rec-at.now a.rec-len.now _ l.i (stack_of l.pairs l.marks l.u) l.invariant.2 c.requires.0 c.loop-i-test.true row.result.refusal row.ensures.refusal-is c.if-row-ne0.true
-    ∙ ap (stop_of a.parents.now a.rec-flags.now a.rec-class.now a.rec-at.now a.rec-len.now) (fresh-holds _ a.t refl c.requires.1 low.result low.ensures).1
+    gone-stop a.parents.now a.rec_flags.now a.rec_class.now a.rec_at.now a.rec_len.now _ l.i (stack_of l.pairs l.marks l.u) l.invariant.2 c.requires.0 c.loop-i-test.true row.result.refusal row.ensures.refusal-is c.if-row-ne0.true
+    ∙ ap (stop_of a.parents.now a.rec_flags.now a.rec_class.now a.rec_at.now a.rec_len.now) (fresh-holds _ a.t refl c.requires.1 low.result low.ensures).1
 
 pub overflow_add-i : goal.overflow_add-i
 overflow_add-i c = omega (arith, c.loop-i-test.true, c.well_formed.0)
@@ -33,12 +33,12 @@ loop-i-preserved c = let a = c.args in
     let row = c.stack_row-row in (
       omega (arith, h),
       row.ensures.holds,
-      gone-on a.parents.now a.rec-flags.now a.rec-class.now a.rec-at.now a.rec-len.now _ l.i (stack_of l.pairs l.marks l.u) l.invariant.2 c.requires.0 h row.result.refusal row.ensures.refusal-is c.if-row-ne0.false _ row.ensures.stack-is,
+      gone-on a.parents.now a.rec_flags.now a.rec_class.now a.rec_at.now a.rec_len.now _ l.i (stack_of l.pairs l.marks l.u) l.invariant.2 c.requires.0 h row.result.refusal row.ensures.refusal-is c.if-row-ne0.false _ row.ensures.stack-is,
     )
 
 pub returns : goal.returns
 returns c = let a = c.args in
     let l = c.loop-i in
     let low = c.lowest-u in
-    gone-end a.parents.now a.rec-flags.now a.rec-class.now a.rec-at.now a.rec-len.now _ l.i (stack_of l.pairs l.marks l.u) l.invariant.2 (omega arith)
-    ∙ ap (stop_of a.parents.now a.rec-flags.now a.rec-class.now a.rec-at.now a.rec-len.now) (fresh-holds _ a.t refl c.requires.1 low.result low.ensures).1
+    gone-end a.parents.now a.rec_flags.now a.rec_class.now a.rec_at.now a.rec_len.now _ l.i (stack_of l.pairs l.marks l.u) l.invariant.2 (omega arith)
+    ∙ ap (stop_of a.parents.now a.rec_flags.now a.rec_class.now a.rec_at.now a.rec_len.now) (fresh-holds _ a.t refl c.requires.1 low.result low.ensures).1

@@ -15,11 +15,11 @@ returns-then-whole-ne0 c = c.find_row.ensures
 pub returns-then-t : goal.returns-then-t
 returns-then-t c = let a = c.args in
     let whole = c.build_rows-whole in
-    let g : Given = given a.names.now a.name-at.now a.name-len.now a.rec-flags.now a.rec-class.now a.rec-at.now a.rec-len.now a.parents.now in
+    let g : Given = given a.names.now a.name_at.now a.name_len.now a.rec_flags.now a.rec_class.now a.rec_at.now a.rec_len.now a.parents.now in
     check-object g whole.result whole.ensures c.if-whole-ne0.false (equal-even g c.requires.0 c.requires.1) c.if-t.true
 
 pub returns : goal.returns
 returns c = let a = c.args in
     let whole = c.build_rows-whole in
-    let g : Given = given a.names.now a.name-at.now a.name-len.now a.rec-flags.now a.rec-class.now a.rec-at.now a.rec-len.now a.parents.now in
+    let g : Given = given a.names.now a.name_at.now a.name_len.now a.rec_flags.now a.rec_class.now a.rec_at.now a.rec_len.now a.parents.now in
     check-none g whole.result whole.ensures c.if-whole-ne0.false (equal-even g c.requires.0 c.requires.1) c.if-t.false

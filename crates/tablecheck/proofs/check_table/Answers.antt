@@ -9,15 +9,15 @@ use Rattle.tablecheck.proofs.check_table.Goals as goal
 
 pub check_rows-requires : goal.check_rows-requires
 check_rows-requires c = let a = c.args in
-    let e = even-is (length a.name-at.now) (length a.name-len.now) (length a.rec-flags.now) (length a.rec-class.now) (length a.rec-at.now) (length a.rec-len.now) (sym c.is_even.ensures ∙ c.if-is_even.true) in
+    let e = even-is (length a.name_at.now) (length a.name_len.now) (length a.rec_flags.now) (length a.rec_class.now) (length a.rec_at.now) (length a.rec_len.now) (sym c.is_even.ensures ∙ c.if-is_even.true) in
     (e.0, (e.1, e.2, e.3))
 
 pub returns-then-is_even : goal.returns-then-is_even
 returns-then-is_even c = let a = c.args in
-    let g : Given = given a.names.now a.name-at.now a.name-len.now a.rec-flags.now a.rec-class.now a.rec-at.now a.rec-len.now a.parents.now in
+    let g : Given = given a.names.now a.name_at.now a.name_len.now a.rec_flags.now a.rec_class.now a.rec_at.now a.rec_len.now a.parents.now in
     c.check_rows.ensures ∙ check-even g (sym c.is_even.ensures ∙ c.if-is_even.true)
 
 pub returns : goal.returns
 returns c = let a = c.args in
-    let g : Given = given a.names.now a.name-at.now a.name-len.now a.rec-flags.now a.rec-class.now a.rec-at.now a.rec-len.now a.parents.now in
+    let g : Given = given a.names.now a.name_at.now a.name_len.now a.rec_flags.now a.rec_class.now a.rec_at.now a.rec_len.now a.parents.now in
     check-uneven g (sym c.is_even.ensures ∙ c.if-is_even.false)

@@ -15,7 +15,7 @@ pub slice_bounds-join_all-end : goal.slice_bounds-join_all-end
 slice_bounds-join_all-end c = let x = c.args in
     let p = c.requires in
     let o = c.copy_evidence-m in
-    omega (arith, p.2, o.ensures.0, o.auto.1.1.0, evidence-short x.root x.keys.now (asks-sorted x.pairs.now x.marks.now x.t x.keys.now p.0 x.root))
+    omega (arith, p.2, o.ensures.0, o.auto.out, evidence-short x.root x.keys.now (asks-sorted x.pairs.now x.marks.now x.t x.keys.now p.0 x.root))
 
 pub join_all-requires : goal.join_all-requires
 join_all-requires c = let x = c.args in

@@ -96,7 +96,7 @@ slice_bounds-pass_rules-end c = let x = c.args in
     let o = c.gather-g in
     let q = c.asks-k in
     let z = turn-gathers x.pairs.now x.marks.now x.t x.a.now x.ring.now x.s x.words.now x.fallbacks.now x.uppers.now (part r.result.first r.result.past x.flows.now) x.incoming.now x.reads.now x.writes.now y x.root m.result m.ensures q.result (world_of x.pairs.now x.marks.now x.t) o.result x.fallbacks.now o.new.fallbacks x.uppers.now o.new.uppers o.ensures in
-    omega (arith, (turn-within x.pairs.now x.marks.now x.t x.a.now x.ring.now x.s x.words.now x.fallbacks.now x.uppers.now (part r.result.first r.result.past x.flows.now) x.incoming.now x.reads.now x.writes.now y x.root q.result q.ensures o.result o.new.fallbacks o.new.uppers z.0 z.1 z.2).0, o.auto.1.1.1.1.1.1.1.0, p.0.fallbacks-room)
+    omega (arith, (turn-within x.pairs.now x.marks.now x.t x.a.now x.ring.now x.s x.words.now x.fallbacks.now x.uppers.now (part r.result.first r.result.past x.flows.now) x.incoming.now x.reads.now x.writes.now y x.root q.result q.ensures o.result o.new.fallbacks o.new.uppers z.0 z.1 z.2).0, o.auto.fallbacks, p.0.fallbacks-room)
 
 pub slice_bounds-pass_rules-end-2 : goal.slice_bounds-pass_rules-end-2
 slice_bounds-pass_rules-end-2 c = let x = c.args in
@@ -107,7 +107,7 @@ slice_bounds-pass_rules-end-2 c = let x = c.args in
     let o = c.gather-g in
     let q = c.asks-k in
     let z = turn-gathers x.pairs.now x.marks.now x.t x.a.now x.ring.now x.s x.words.now x.fallbacks.now x.uppers.now (part r.result.first r.result.past x.flows.now) x.incoming.now x.reads.now x.writes.now y x.root m.result m.ensures q.result (world_of x.pairs.now x.marks.now x.t) o.result x.fallbacks.now o.new.fallbacks x.uppers.now o.new.uppers o.ensures in
-    omega (arith, (turn-within x.pairs.now x.marks.now x.t x.a.now x.ring.now x.s x.words.now x.fallbacks.now x.uppers.now (part r.result.first r.result.past x.flows.now) x.incoming.now x.reads.now x.writes.now y x.root q.result q.ensures o.result o.new.fallbacks o.new.uppers z.0 z.1 z.2).1, o.auto.1.1.1.1.1.1.1.1.0, p.0.uppers-room)
+    omega (arith, (turn-within x.pairs.now x.marks.now x.t x.a.now x.ring.now x.s x.words.now x.fallbacks.now x.uppers.now (part r.result.first r.result.past x.flows.now) x.incoming.now x.reads.now x.writes.now y x.root q.result q.ensures o.result o.new.fallbacks o.new.uppers z.0 z.1 z.2).1, o.auto.uppers, p.0.uppers-room)
 
 pub pass_rules-requires : goal.pass_rules-requires
 pass_rules-requires c = let x = c.args in

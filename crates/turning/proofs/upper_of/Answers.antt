@@ -15,7 +15,7 @@ pub slice_bounds-most_specific_upper-end : goal.slice_bounds-most_specific_upper
 slice_bounds-most_specific_upper-end c = let x = c.args in
     let p = c.requires in
     let o = c.copy_words-m in
-    omega (arith, p.2, o.ensures.0, o.auto.1.1.1.0, run-short x.root 2 x.keys.now (asks-sorted x.pairs.now x.marks.now x.t x.keys.now p.0 x.root))
+    omega (arith, p.2, o.ensures.0, o.auto.out, run-short x.root 2 x.keys.now (asks-sorted x.pairs.now x.marks.now x.t x.keys.now p.0 x.root))
 
 pub most_specific_upper-requires : goal.most_specific_upper-requires
 most_specific_upper-requires c = let x = c.args in

@@ -28,7 +28,7 @@ pub loop-i-smaller : goal.loop-i-smaller
 loop-i-smaller c = feed-less (length c.args.chunk.now) c.loop-i.i c.line_end-e.result c.loop-i-test.true c.line_end-e.ensures.0 c.line_end-e.ensures.1
 
 pub loop-i-preserved : goal.loop-i-preserved
-loop-i-preserved c = let v = c.loop-i.invariant in let y = c.piece-t in (feed-more (length c.args.chunk.now) c.line_end-e.result c.line_end-e.ensures.1, v.1, y.ensures.0, y.auto.1.1.1.0 ∙ v.3, y.ensures.1, y.auto.1.1.1.0 ∙ v.5, y.auto.1.1.1.1.0 ∙ v.6, y.auto.1.1.1.1.1.0 ∙ v.7, y.auto.1.1.1.1.1.1.0 ∙ v.8, y.auto.1.1.1.1.1.1.1.0 ∙ v.9, y.auto.1.1.1.1.1.1.1.1.0 ∙ v.10, y.auto.1.1.1.1.1.1.1.1.1.0 ∙ v.11)
+loop-i-preserved c = let v = c.loop-i.invariant in let y = c.piece-t in (feed-more (length c.args.chunk.now) c.line_end-e.result c.line_end-e.ensures.1, v.1, y.ensures.0, y.auto.line ∙ v.3, y.ensures.1, y.auto.line ∙ v.5, y.auto.last ∙ v.6, y.auto.pairs ∙ v.7, y.auto.marks ∙ v.8, y.auto.rows ∙ v.9, y.auto.answers ∙ v.10, y.auto.out ∙ v.11)
 
 pub shape_of-line : goal.shape_of-line
 shape_of-line c = c.loop-i.invariant.5

@@ -28,22 +28,22 @@ pub flush-requires-2 : goal.flush-requires-2
 flush-requires-2 c = tt
 
 pub shape_of-last : goal.shape_of-last
-shape_of-last c = c.whole-t.auto.1.1.0
+shape_of-last c = c.whole-t.auto.last
 
 pub shape_of-pairs : goal.shape_of-pairs
-shape_of-pairs c = c.whole-t.auto.1.1.1.0
+shape_of-pairs c = c.whole-t.auto.pairs
 
 pub shape_of-marks : goal.shape_of-marks
-shape_of-marks c = c.whole-t.auto.1.1.1.1.0
+shape_of-marks c = c.whole-t.auto.marks
 
 pub shape_of-rows : goal.shape_of-rows
-shape_of-rows c = c.whole-t.auto.1.1.1.1.1.0
+shape_of-rows c = c.whole-t.auto.rows
 
 pub shape_of-answers : goal.shape_of-answers
-shape_of-answers c = c.whole-t.auto.1.1.1.1.1.1.0
+shape_of-answers c = c.whole-t.auto.answers
 
 pub shape_of-out : goal.shape_of-out
-shape_of-out c = c.whole-t.auto.1.1.1.1.1.1.1.0
+shape_of-out c = c.whole-t.auto.out
 
 pub returns : goal.returns
 returns c = tt

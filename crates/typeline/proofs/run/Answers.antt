@@ -19,7 +19,7 @@ pub loop-turns-smaller : goal.loop-turns-smaller
 loop-turns-smaller c = turn-less c.loop-turns.turns c.loop-turns-test.true
 
 pub loop-turns-preserved : goal.loop-turns-preserved
-loop-turns-preserved c = let v = c.loop-turns.invariant in let y = c.some-s in (y.ensures.0, y.auto.1.1.0 ∙ v.1, y.ensures.1, y.auto.1.0 ∙ v.3, y.auto.1.1.0 ∙ v.4, y.auto.1.1.1.0 ∙ v.5, y.auto.1.1.1.1.0 ∙ v.6, y.auto.1.1.1.1.1.0 ∙ v.7, y.auto.1.1.1.1.1.1.0 ∙ v.8, y.auto.1.1.1.1.1.1.1.0 ∙ v.9, y.auto.1.1.1.1.1.1.1.1.0 ∙ v.10)
+loop-turns-preserved c = let v = c.loop-turns.invariant in let y = c.some-s in (y.ensures.0, y.auto.line ∙ v.1, y.ensures.1, y.auto.chunk ∙ v.3, y.auto.line ∙ v.4, y.auto.last ∙ v.5, y.auto.pairs ∙ v.6, y.auto.marks ∙ v.7, y.auto.rows ∙ v.8, y.auto.answers ∙ v.9, y.auto.out ∙ v.10)
 
 pub finish-requires : goal.finish-requires
 finish-requires c = let v = c.loop-turns.invariant in (v.0, v.1, v.2)
@@ -31,22 +31,22 @@ pub shape_of-line : goal.shape_of-line
 shape_of-line c = c.loop-turns.invariant.4
 
 pub shape_of-last : goal.shape_of-last
-shape_of-last c = c.finish.auto.1.1.0 ∙ c.loop-turns.invariant.5
+shape_of-last c = c.finish.auto.last ∙ c.loop-turns.invariant.5
 
 pub shape_of-pairs : goal.shape_of-pairs
-shape_of-pairs c = c.finish.auto.1.1.1.0 ∙ c.loop-turns.invariant.6
+shape_of-pairs c = c.finish.auto.pairs ∙ c.loop-turns.invariant.6
 
 pub shape_of-marks : goal.shape_of-marks
-shape_of-marks c = c.finish.auto.1.1.1.1.0 ∙ c.loop-turns.invariant.7
+shape_of-marks c = c.finish.auto.marks ∙ c.loop-turns.invariant.7
 
 pub shape_of-rows : goal.shape_of-rows
-shape_of-rows c = c.finish.auto.1.1.1.1.1.0 ∙ c.loop-turns.invariant.8
+shape_of-rows c = c.finish.auto.rows ∙ c.loop-turns.invariant.8
 
 pub shape_of-answers : goal.shape_of-answers
-shape_of-answers c = c.finish.auto.1.1.1.1.1.1.0 ∙ c.loop-turns.invariant.9
+shape_of-answers c = c.finish.auto.answers ∙ c.loop-turns.invariant.9
 
 pub shape_of-out : goal.shape_of-out
-shape_of-out c = c.finish.auto.1.1.1.1.1.1.1.0 ∙ c.loop-turns.invariant.10
+shape_of-out c = c.finish.auto.out ∙ c.loop-turns.invariant.10
 
 pub returns : goal.returns
 returns c = tt

@@ -13,22 +13,22 @@ pub room-filled-requires : goal.room-filled-requires
 room-filled-requires c = tt
 
 pub shape_of-last : goal.shape_of-last
-shape_of-last c = c.say_line-spoken.auto.1.1.0
+shape_of-last c = c.say_line-spoken.auto.last
 
 pub shape_of-pairs : goal.shape_of-pairs
-shape_of-pairs c = c.say_line-spoken.auto.1.1.1.0
+shape_of-pairs c = c.say_line-spoken.auto.pairs
 
 pub shape_of-marks : goal.shape_of-marks
-shape_of-marks c = c.say_line-spoken.auto.1.1.1.1.0
+shape_of-marks c = c.say_line-spoken.auto.marks
 
 pub shape_of-rows : goal.shape_of-rows
-shape_of-rows c = c.say_line-spoken.auto.1.1.1.1.1.0
+shape_of-rows c = c.say_line-spoken.auto.rows
 
 pub shape_of-answers : goal.shape_of-answers
-shape_of-answers c = c.say_line-spoken.auto.1.1.1.1.1.1.0
+shape_of-answers c = c.say_line-spoken.auto.answers
 
 pub shape_of-out : goal.shape_of-out
-shape_of-out c = c.say_line-spoken.auto.1.1.1.1.1.1.1.0
+shape_of-out c = c.say_line-spoken.auto.out
 
 pub returns : goal.returns
-returns c = let p = c.requires in let y = c.say_line-spoken in (record { stands = y.ensures.1.0; all-answers = y.auto.1.1.1.1.1.1.0 ∙ p.all-answers; all-out = y.auto.1.1.1.1.1.1.1.0 ∙ p.all-out; waits = c.room-filled.ensures }, refl)
+returns c = let p = c.requires in let y = c.say_line-spoken in (record { stands = y.ensures.1.0; all-answers = y.auto.answers ∙ p.all-answers; all-out = y.auto.out ∙ p.all-out; waits = c.room-filled.ensures }, refl)

@@ -17,7 +17,7 @@ put_bytes-requires c = (search rules, simp length-set (omega arith))
 
 pub bounds-out-end : goal.bounds-out-end
 bounds-out-end c = let a = c.args in
-    let k = c.put_bytes.auto.1.1.1.0 in
+    let k = c.put_bytes.auto.out in
     let s = length-set a.out.now a.at 76 in
     omega arith
 

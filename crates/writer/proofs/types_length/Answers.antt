@@ -15,17 +15,17 @@ loop-i-init c = (search rules, search rules, search rules, c.requires.1)
 pub type_length-n-requires : goal.type_length-n-requires
 type_length-n-requires c = let a = c.args in
     let l = c.loop-i in
-    (c.requires.0, (legal-front (length a.name-len.now) a.words.now l.i (omega arith) l.invariant.3).0)
+    (c.requires.0, (legal-front (length a.name_len.now) a.words.now l.i (omega arith) l.invariant.3).0)
 
 pub loop-i-preserved : goal.loop-i-preserved
 loop-i-preserved c = let a = c.args in
     let l = c.loop-i in
-    let e = size-next a.name-len.now a.words.now l.i (omega arith) in
+    let e = size-next a.name_len.now a.words.now l.i (omega arith) in
     let r = c.type_length-n.ensures in
-    (omega arith, omega arith, omega arith, (legal-front (length a.name-len.now) a.words.now l.i (omega arith) l.invariant.3).1)
+    (omega arith, omega arith, omega arith, (legal-front (length a.name_len.now) a.words.now l.i (omega arith) l.invariant.3).1)
 
 pub returns : goal.returns
 returns c = let a = c.args in
     let l = c.loop-i in
-    let e = size-none a.name-len.now a.words.now l.i (omega arith) in
+    let e = size-none a.name_len.now a.words.now l.i (omega arith) in
     (omega arith, omega arith)

@@ -10,7 +10,7 @@ use Rattle.writer.proofs.write_checked_type.Goals as goal
 
 pub returns-then-not-is_legal : goal.returns-then-not-is_legal
 returns-then-not-is_legal c = let a = c.args in
-    wrote-none 7 (type-illegal a.names.now a.name-at.now a.name-len.now a.word (length a.out.now) (fails c.is_legal.ensures c.if-not-is_legal.true-raw))
+    wrote-none 7 (type-illegal a.names.now a.name_at.now a.name_len.now a.word (length a.out.now) (fails c.is_legal.ensures c.if-not-is_legal.true-raw))
     (λ z. omega arith) c.refused.ensures
 
 pub type_length-requires : goal.type_length-requires
@@ -22,15 +22,15 @@ pub returns-then-out-type_length : goal.returns-then-out-type_length
 returns-then-out-type_length c = let a = c.args in
     let p = c.requires in
     let h = holds c.is_legal.ensures c.if-not-is_legal.false-raw in
-    let s = word-size a.names.now a.name-at.now a.name-len.now p a.word h in
+    let s = word-size a.names.now a.name_at.now a.name_len.now p a.word h in
     let r = c.type_length.ensures in
-    wrote-none 22 (type-long a.names.now a.name-at.now a.name-len.now a.word (length a.out.now) h (omega arith)) (λ z. omega arith) c.refused-then-out-type_length.ensures
+    wrote-none 22 (type-long a.names.now a.name_at.now a.name_len.now a.word (length a.out.now) h (omega arith)) (λ z. omega arith) c.refused-then-out-type_length.ensures
 
 pub put_type-end-requires : goal.put_type-end-requires
 put_type-end-requires c = let a = c.args in
     let p = c.requires in
     let h = holds c.is_legal.ensures c.if-not-is_legal.false-raw in
-    let s = word-size a.names.now a.name-at.now a.name-len.now p a.word h in
+    let s = word-size a.names.now a.name_at.now a.name_len.now p a.word h in
     let r = c.type_length.ensures in
     (p, h, omega arith)
 
@@ -38,6 +38,6 @@ pub returns : goal.returns
 returns c = let a = c.args in
     let p = c.requires in
     let h = holds c.is_legal.ensures c.if-not-is_legal.false-raw in
-    let s = word-size a.names.now a.name-at.now a.name-len.now p a.word h in
+    let s = word-size a.names.now a.name_at.now a.name_len.now p a.word h in
     let r = c.type_length.ensures in
-    wrote-all (type-fits a.names.now a.name-at.now a.name-len.now a.word (length a.out.now) h (omega arith)) c.put_type-end.ensures (omega arith)
+    wrote-all (type-fits a.names.now a.name_at.now a.name_len.now a.word (length a.out.now) h (omega arith)) c.put_type-end.ensures (omega arith)

@@ -20,8 +20,8 @@ returns c = let a = c.args in
     let lines = c.put_names-m in
     let names = c.names_in in
     let sums = c.put_sums in
-    let j = lines.auto.0 in
-    let k = sums.auto.0 in
+    let j = lines.auto.out in
+    let k = sums.auto.out in
     let l = lines.ensures.1 in
     let s = sums.ensures.1 in
     let f = c.if-names-gt128.false in

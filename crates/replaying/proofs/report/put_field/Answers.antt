@@ -8,7 +8,7 @@ pub put_decimal-requires : goal.put_decimal-requires
 put_decimal-requires c = let p = c.requires in
     let d = decimal-short c.args.n (omega arith) in
     let a = c.put_byte-m.ensures.filled-is in
-    let k = c.put_byte-m.auto.0 in
+    let k = c.put_byte-m.auto.out in
     omega arith
 
 pub returns : goal.returns

@@ -27,12 +27,12 @@ loop-i-preserved c = let a = c.args in
       omega arith,
       omega arith,
       omega arith,
-      put.auto.0 ∙ l.invariant.3,
+      put.auto.out ∙ l.invariant.3,
       g,
     )
 
 pub shape_of-out : goal.shape_of-out
-shape_of-out c = c.put_counts.auto.0 ∙ c.loop-i.invariant.3
+shape_of-out c = c.put_counts.auto.out ∙ c.loop-i.invariant.3
 
 pub returns : goal.returns
 returns c = let a = c.args in
