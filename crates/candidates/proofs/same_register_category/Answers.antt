@@ -14,13 +14,13 @@ pub returns-then-is_wide : goal.returns-then-is_wide
 returns-then-is_wide c = let a = c.args in
     c.is_wide-then-is_wide.ensures
     ∙ registers-wide (type_of a.left.word) (type_of a.right.word)
-    (sym c.is_primitive.ensures ∙ c.if-is_primitive.true) (sym c.is_primitive-then-is_primitive.ensures ∙ c.if-is_primitive-2.true) (sym c.is_wide-then-is_wide.ensures ∙ c.if-is_wide.true)
+    (sym c.is_primitive.ensures ∙ c.if-is_primitive.true) (sym c.is_primitive-then-is_primitive.ensures ∙ c.if-is_primitive-2.true) (sym c.is_wide.ensures ∙ c.if-is_wide.true)
 
 pub returns-then-is_primitive-2 : goal.returns-then-is_primitive-2
 returns-then-is_primitive-2 c = let a = c.args in
     ap not c.is_wide-then-is_primitive-2.ensures
     ∙ registers-narrow (type_of a.left.word) (type_of a.right.word)
-    (sym c.is_primitive.ensures ∙ c.if-is_primitive.true) (sym c.is_primitive-then-is_primitive.ensures ∙ c.if-is_primitive-2.true) (sym c.is_wide-then-is_primitive-2.ensures ∙ c.if-is_wide.false)
+    (sym c.is_primitive.ensures ∙ c.if-is_primitive.true) (sym c.is_primitive-then-is_primitive.ensures ∙ c.if-is_primitive-2.true) (sym c.is_wide.ensures ∙ c.if-is_wide.false)
 
 pub returns-then-is_primitive : goal.returns-then-is_primitive
 returns-then-is_primitive c = let a = c.args in
