@@ -122,7 +122,7 @@ pass_rules-requires c = let x = c.args in
       y.flows-sorted,
       p.0.incoming-sorted,
       p.0.reads-below,
-      p.0.writes_Below,
+      p.0.writes-below,
       turn-produced x.pairs.now x.marks.now x.t x.a.now x.ring.now x.s x.words.now x.fallbacks.now x.uppers.now (part r.result.first r.result.past x.flows.now) x.incoming.now x.reads.now x.writes.now y x.root q.result q.ensures o.result o.new.fallbacks o.new.uppers z.0 z.1 z.2,
       turn-fallbacks x.pairs.now x.marks.now x.t x.a.now x.ring.now x.s x.words.now x.fallbacks.now x.uppers.now (part r.result.first r.result.past x.flows.now) x.incoming.now x.reads.now x.writes.now y x.root q.result q.ensures o.result o.new.fallbacks o.new.uppers z.0 z.1 z.2,
       turn-uppers x.pairs.now x.marks.now x.t x.a.now x.ring.now x.s x.words.now x.fallbacks.now x.uppers.now (part r.result.first r.result.past x.flows.now) x.incoming.now x.reads.now x.writes.now y x.root q.result q.ensures o.result o.new.fallbacks o.new.uppers z.0 z.1 z.2,
