@@ -4,7 +4,6 @@ use borrow.Author.Tests.{lt-ltb, le-ltb, ltb-true, ltb-false}
 use mathlib.Core.Path.{◌≡◌, refl, sym, ap, ◌∙◌}
 use mathlib.Core.Bool.{Bool, true, false}
 use mathlib.Core.List.{List}
-use mathlib.Core.Logic.{⊎_elim}
 use Prim.Native.Nat.{ℕ, ◌+◌, ◌-◌, ◌≤◌, ◌<◌}
 use native.Mathlib.Omega.{arith}
 use lib.Dec.{ltb}
@@ -12,6 +11,7 @@ use lib.ListN.{length, drop, get_or}
 use Rattle.descriptor.specs.Read.{index_of}
 use Rattle.descriptor.specs.Steps.{index-here, index-later, index-past}
 use Rattle.descriptor.proofs.ends_in_block.Goals as goal
+use Rattle.descriptor.proofs.ends_in_block.Goals.{then-s-i-eq59, else-s-i-eq59}
 
 module _ (s : List ℕ) (i k : ℕ) (h : i + k < length s) where
   abbrev first : ℕ
@@ -40,10 +40,10 @@ loop-k-preserved c = let a = c.args in
     let l = c.loop-k in (
       l.invariant.0,
       omega arith,
-      ⊎_elim
-          (λ w. w.1 ∙ here a.s.now a.i l.k (omega arith) w.0.taken)
-          (λ w. w.1 ∙ l.invariant.2 ∙ later a.s.now a.i l.k (omega arith) w.0.left)
-          c.if-s-i-eq59.branch,
+      elim c.if-s-i-eq59.branch [
+        | then-s-i-eq59 w ↦ w.found-is ∙ here a.s.now a.i l.k (omega arith) w.if-s-i-eq59.true
+        | else-s-i-eq59 w ↦ w.found-is ∙ l.invariant.2 ∙ later a.s.now a.i l.k (omega arith) w.if-s-i-eq59.false
+      ],
     )
 
 pub returns : goal.returns

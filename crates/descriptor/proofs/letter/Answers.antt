@@ -1,6 +1,6 @@
 -- Each arm of the `match` is a case of `letter_of`.
 use mathlib.Core.Path.{sym, ap}
-use borrow.Author.Tests.{ne_eqb}
+use Rattle.std.proofs.Common.{rules}
 use Rattle.descriptor.specs.Read.{letter_of}
 use Rattle.descriptor.proofs.letter.Goals as goal
 
@@ -50,17 +50,4 @@ returns-in-91 c = sym (ap letter_of c.in-91.is)
 
 pub returns-in_default : goal.returns-in_default
 unfolding letter_of
-returns-in_default c =
-    simp (
-      ne_eqb _ _ c.in_default.rest.1,
-      ne_eqb _ _ c.in_default.rest.0.1,
-      ne_eqb _ _ c.in_default.rest.0.0.1,
-      ne_eqb _ _ c.in_default.rest.0.0.0.1,
-      ne_eqb _ _ c.in_default.rest.0.0.0.0.1,
-      ne_eqb _ _ c.in_default.rest.0.0.0.0.0.1,
-      ne_eqb _ _ c.in_default.rest.0.0.0.0.0.0.1,
-      ne_eqb _ _ c.in_default.rest.0.0.0.0.0.0.0.1,
-      ne_eqb _ _ c.in_default.rest.0.0.0.0.0.0.0.0.1,
-      ne_eqb _ _ c.in_default.rest.0.0.0.0.0.0.0.0.0.1,
-      ne_eqb _ _ c.in_default.rest.0.0.0.0.0.0.0.0.0.0.1,
-    )
+returns-in_default c = search rules

@@ -1,6 +1,6 @@
 -- Each arm of the `match` is a case of `stops_at`.
 use mathlib.Core.Path.{sym, ap}
-use borrow.Author.Tests.{ne_eqb}
+use Rattle.std.proofs.Common.{rules}
 use Rattle.methods.specs.Strict.{stops_at}
 use Rattle.methods.proofs.stops.Goals as goal
 
@@ -18,4 +18,4 @@ returns-in-91 c = sym (ap (stops_at c.args.begun) c.in-91.is)
 
 pub returns-in_default : goal.returns-in_default
 unfolding stops_at
-returns-in_default c = simp (ne_eqb _ _ c.in_default.rest.1, ne_eqb _ _ c.in_default.rest.0.1, ne_eqb _ _ c.in_default.rest.0.0.1)
+returns-in_default c = search rules
