@@ -41,7 +41,7 @@ loop-i-preserved c = let a = c.args in
     let f = l.invariant.3 in
     let g : y < 2 ^ 64 = omega (arith, (c.type_inv.words l.i).fits) in
     let r = p.1 l.i (omega arith) in
-    let e = c.join_all.ensures in (
+    let e = c.join-all.ensures in (
       omega arith,
       ap (legal_word a.t.names) e ∙ next-legal a.pairs.now a.marks.now a.t p.0 x y l.invariant.1 r f g,
       l.invariant.2

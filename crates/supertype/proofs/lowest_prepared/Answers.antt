@@ -11,7 +11,7 @@ pub first_near-met-requires : goal.first_near-met-requires
 first_near-met-requires c = c.requires.2
 
 pub start_of-start-requires : goal.start_of-start-requires
-start_of-start-requires c = (c.requires.2, λ d m. (c.first_near-met.ensures.is_in d m).0)
+start_of-start-requires c = (c.requires.2, λ d m. (c.first_near-met.ensures.is-in d m).0)
 
 pub lowest_by_walks-requires-2 : goal.lowest_by_walks-requires-2
 lowest_by_walks-requires-2 c = let p = c.requires in
