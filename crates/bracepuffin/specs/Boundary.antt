@@ -35,7 +35,7 @@ use Rattle.bracepuffin.specs.declared.BpAnswer.{BpAnswer}
 use Rattle.bracepuffin.specs.declared.BpSet.{BpSet}
 use Rattle.bracepuffin.specs.declared.BpTable.{BpTable}
 use Rattle.bracepuffin.specs.declared.BpSolved.{BpSolved}
-use Rattle.lending.specs.Lending.{Slice}
+use Rattle.lending.specs.Lending.{Slice, MutSlice}
 use Rattle.problemcolumns.specs.ProblemColumns.{columns_by}
 
 -- tag 0 a primitive by its category, tag 1 a class by the place of its name
@@ -135,11 +135,11 @@ unfoldable pub solved_told : Given → Columns → Lent → BpSolved
 solved_told g c lent = solved_answer (counts_of (solve_in g c lent))
 
 -- of what the call is lent, in the order of its parameters: the result, and what stands in the slices afterwards
-abbrev pub bp_solved : (names name_at name_len flags class at len parents : Slice) → ℕ → (vc bc bk bt fs fd us ud ra rr wa wv answers oc ok ot work : Slice) → BpSolved
+abbrev pub bp_solved : (names name_at name_len flags class at len parents : Slice) → ℕ → (vc bc bk bt fs fd us ud ra rr wa wv : Slice) → (answers oc ok ot work : MutSlice) → BpSolved
 bp_solved names name_at name_len flags class at len parents n vc bc bk bt fs fd us ud ra rr wa wv answers oc ok ot work =
     solved_told (given_by names name_at name_len flags class at len parents) (columns_by n vc bc bk bt fs fd us ud ra rr wa wv) (lent_by answers oc ok ot work)
 
-abbrev pub SolveLeaves : (names name_at name_len flags class at len parents : Slice) → ℕ → (vc bc bk bt fs fd us ud ra rr wa wv answers oc ok ot work : Slice) → Type 0
+abbrev pub SolveLeaves : (names name_at name_len flags class at len parents : Slice) → ℕ → (vc bc bk bt fs fd us ud ra rr wa wv : Slice) → (answers oc ok ot work : MutSlice) → Type 0
 SolveLeaves names name_at name_len flags class at len parents n vc bc bk bt fs fd us ud ra rr wa wv answers oc ok ot work =
     Leaves (given_by names name_at name_len flags class at len parents) (columns_by n vc bc bk bt fs fd us ud ra rr wa wv)
     (lent_by answers oc ok ot work) (left_by answers oc ok ot work)

@@ -5,7 +5,7 @@ use Rattle.tables.specs.declared.Tables.{Tables}
 use Rattle.rows.specs.declared.Outcome.{Outcome}
 use Rattle.tables.specs.Table.{pairs_room, marks_room}
 use Rattle.rows.specs.Rows.{no_tables, name_row, State, Ran, record_ran, Fills}
-use Rattle.lending.specs.Lending.{Slice, came, became}
+use Rattle.lending.specs.Lending.{Slice, MutSlice, came, came_mut, became}
 
 -- len entries from at on lie inside a slice of that size; the difference does not overflow where the sum would
 unfoldable pub inside : ℕ → ℕ → ℕ → Bool
@@ -59,8 +59,8 @@ abbrev pub built : List ℕ → List ℕ → List ℕ → List ℕ → List ℕ 
 built names ats lens fs cs starts sizes parents marks = table_of (name_rows names ats lens [] no_tables) parents fs cs starts sizes marks
 
 -- of the columns that a function is lent
-abbrev pub built_by : (names ats lens fs cs starts sizes parents marks : Slice) → Ran
-built_by names ats lens fs cs starts sizes parents marks = built (came names) (came ats) (came lens) (came fs) (came cs) (came starts) (came sizes) (came parents) (came marks)
+abbrev pub built_by : (names ats lens fs cs starts sizes parents : Slice) → MutSlice → Ran
+built_by names ats lens fs cs starts sizes parents marks = built (came names) (came ats) (came lens) (came fs) (came cs) (came starts) (came sizes) (came parents) (came_mut marks)
 
 -- columns of equal length, and the two slices of a table in full length
 abbrev pub Roomy : List ℕ → List ℕ → List ℕ → List ℕ → List ℕ → List ℕ → List ℕ → List ℕ → Type 0
@@ -68,5 +68,5 @@ Roomy ats lens fs cs starts sizes pairs marks =
     (length ats ≡ length lens) × (length fs ≡ length cs) × (length fs ≡ length starts) × (length fs ≡ length sizes) × (length pairs ≡ pairs_room) × (length marks ≡ marks_room)
 
 -- what a function leaves in the slices of a table that it is lent
-abbrev pub FillsBy : Ran → (pairs marks : Slice) → Outcome → Type 0
-FillsBy ran pairs marks = Fills ran (came pairs) (became pairs) (became marks)
+abbrev pub FillsBy : Ran → (pairs marks : MutSlice) → Outcome → Type 0
+FillsBy ran pairs marks = Fills ran (came_mut pairs) (became pairs) (became marks)

@@ -5,7 +5,7 @@ use Rattle.std.proofs.Math.Seq.{paste}
 use Rattle.keys.specs.Rank.{key_component, key_kind}
 use Rattle.copying.specs.Copies.{word_in}
 use Rattle.copying.specs.Steps.{paste-more}
-use Rattle.lending.specs.Lending.{Slice, came, became}
+use Rattle.lending.specs.Lending.{Slice, MutSlice, came, came_mut, became}
 
 -- the first n of some keys' parts, in front of a slice; what stands past them stays
 abbrev pub front : (ℕ → ℕ) → List ℕ → List ℕ → ℕ → List ℕ
@@ -18,8 +18,8 @@ pub record Written (keys components kinds types components' kinds' types' : List
   pub types-are : types' ≡ front word_in keys types (length keys)
 
 -- of the slices that a function is lent
-abbrev pub WrittenBy : (keys components kinds types : Slice) → Type 0
-WrittenBy keys components kinds types = Written (came keys) (came components) (came kinds) (came types) (became components) (became kinds) (became types)
+abbrev pub WrittenBy : Slice → (components kinds types : MutSlice) → Type 0
+WrittenBy keys components kinds types = Written (came keys) (came_mut components) (came_mut kinds) (came_mut types) (became components) (became kinds) (became types)
 
 -- one entry more
 pub front-more : (f : ℕ → ℕ) (keys out : List ℕ) (i v : ℕ) → v ≡ f (get_or keys i 0) → i < length keys → length keys ≤ length out

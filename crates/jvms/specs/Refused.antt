@@ -189,7 +189,7 @@ pub trailing-input : {xs : List ℕ} {t : JavaType} → ReturnDescriptor AnyName
 unfolding read_whole
 trailing-input (field {bs} {t} f) h b rest =
     let long : length bs < length (bs ++ b ∷ rest) = simp length-append (omega arith) in
-    finish-later (bs ++ b ∷ rest) (dimensions t) (length bs) _ long _ (rw (zero-add, zero-add) at (prefix f (b ∷ rest) 0 true 0 (omega arith)))
+    finish-later (bs ++ b ∷ rest) (dimensions t) (length bs) _ long _ (simp zero-add at (prefix f (b ∷ rest) 0 true 0 (omega arith)))
 trailing-input void h b rest =
     finish-later (byte "V" ∷ b ∷ rest) 0 1 _ (omega arith) _ (prefix-void (b ∷ rest) 0 0)
 

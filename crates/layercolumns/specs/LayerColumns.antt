@@ -10,7 +10,7 @@ use Rattle.layers.specs.declared.StackTables.{StackTables}
 use Rattle.layers.specs.declared.StackOutcome.{StackOutcome}
 use Rattle.layers.specs.Layers.{layers_room}
 use Rattle.layers.specs.Stacks.{Stack, StackRan, ground, stack_ran, open_ran, stack_of, Holds}
-use Rattle.lending.specs.Lending.{Slice, came}
+use Rattle.lending.specs.Lending.{Slice, MutSlice, came, came_mut}
 use Rattle.gathering.specs.Gathering.{bits_room, keys_in}
 
 -- the flags of a row that opens a layer: 0x80 and the number of the frame that does
@@ -85,8 +85,8 @@ stack_table named parents fs cs ats ls marks =
     cond (eqb named.refusal 0) (stack_rows parents fs cs ats ls s) (record { refusal = named.refusal; state = s })
 
 -- of the columns that a function is lent
-abbrev pub stack_by : (names ats lens fs cs starts sizes parents marks : Slice) → StackRan
-stack_by names ats lens fs cs starts sizes parents marks = stack_table (name_rows (came names) (came ats) (came lens) [] no_tables) (came parents) (came fs) (came cs) (came starts) (came sizes) (came marks)
+abbrev pub stack_by : (names ats lens fs cs starts sizes parents : Slice) → MutSlice → StackRan
+stack_by names ats lens fs cs starts sizes parents marks = stack_table (name_rows (came names) (came ats) (came lens) [] no_tables) (came parents) (came fs) (came cs) (came starts) (came sizes) (came_mut marks)
 
 -- ---- with room for the layers that there are
 

@@ -6,7 +6,7 @@ use Rattle.problems.specs.Problems.{Columns, Placed, problem}
 use Rattle.problems.specs.Stored.{pair_key}
 use Rattle.problems.specs.Kept.{problem_of, Keeps}
 use Rattle.problemcolumns.specs.declared.ProblemCounts.{ProblemCounts}
-use Rattle.lending.specs.Lending.{SliceIn, Slice, came, became}
+use Rattle.lending.specs.Lending.{SliceIn, Slice, MutSlice, came, came_mut, became}
 
 -- the columns that slices are, in the order of the parameters
 abbrev pub columns_in : ℕ → List ℕ → List ℕ → List ℕ → List ℕ → List ℕ → List ℕ → List ℕ → List ℕ → List ℕ → List ℕ → List ℕ → List ℕ → Columns
@@ -69,5 +69,5 @@ pub record Taken (names : ℕ) (c : Columns) (bounds bounds' flows flows' uppers
       → Keeps names c.components c.variables (take r.bounds bounds') (take r.flows flows') (take r.uppers uppers') (take r.reads reads') (take r.writes writes')
 
 -- of the slices that a function is lent
-abbrev pub TakenBy : ℕ → Columns → (bounds flows uppers reads writes : Slice) → ProblemCounts → Type 0
-TakenBy names c bounds flows uppers reads writes = Taken names c (came bounds) (became bounds) (came flows) (became flows) (came uppers) (became uppers) (came reads) (became reads) (came writes) (became writes)
+abbrev pub TakenBy : ℕ → Columns → (bounds flows uppers reads writes : MutSlice) → ProblemCounts → Type 0
+TakenBy names c bounds flows uppers reads writes = Taken names c (came_mut bounds) (became bounds) (came_mut flows) (became flows) (came_mut uppers) (became uppers) (came_mut reads) (became reads) (came_mut writes) (became writes)

@@ -4,7 +4,7 @@ use Rattle.rows.specs.Rows.{filled}
 use Rattle.problems.specs.Problems.{Columns}
 use Rattle.problemrows.specs.ProblemRows.{Ran, refused, taken, count_refusal, variable_row, pair_row, bound_row}
 use Rattle.problemcolumns.specs.declared.ProblemCounts.{ProblemCounts}
-use Rattle.lending.specs.Lending.{Slice, came, became}
+use Rattle.lending.specs.Lending.{MutSlice, came_mut, became}
 
 -- row by row; the first refusal ends
 unfoldable pub variable_run : ℕ → List ℕ → List ℕ → Ran
@@ -65,5 +65,5 @@ pub record Enters (names : ℕ) (c : Columns) (bounds bounds' flows flows' upper
   pub writes-are : writes' ≡ filled (writes_ran names c).entries writes
 
 -- of the slices that a function is lent
-abbrev pub EntersBy : ℕ → Columns → (bounds flows uppers reads writes : Slice) → ProblemCounts → Type 0
-EntersBy names c bounds flows uppers reads writes = Enters names c (came bounds) (became bounds) (came flows) (became flows) (came uppers) (became uppers) (came reads) (became reads) (came writes) (became writes)
+abbrev pub EntersBy : ℕ → Columns → (bounds flows uppers reads writes : MutSlice) → ProblemCounts → Type 0
+EntersBy names c bounds flows uppers reads writes = Enters names c (came_mut bounds) (became bounds) (came_mut flows) (became flows) (came_mut uppers) (became uppers) (came_mut reads) (became reads) (came_mut writes) (became writes)

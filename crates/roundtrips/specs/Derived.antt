@@ -4,7 +4,7 @@ use Rattle.std.proofs.Math.Path.{refl, ap, ap₂, subst}
 use Rattle.std.proofs.Common.{sym, ◌∙◌, arith, lt-ltb, le-leb, leb-true}
 use mathlib.Core.List.{List, [], ◌∷◌, ◌++◌, Memᴰ}
 use Rattle.std.proofs.Math.Option.{Option, some, none, map, bind-eq-some_iff, map-eq-some_iff, some-injective}
-use Prim.Native.Nat.{ℕ, suc, ◌+◌, ◌≤◌}
+use Prim.Native.Nat.{ℕ, suc, ◌≤◌}
 use Rattle.text.specs.Text.{ascii}
 use Rattle.order.specs.Truth.{and-left, and-right}
 use Rattle.ty.specs.Types.{ArgType, Primitive, Object, Array, depth}

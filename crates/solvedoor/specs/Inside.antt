@@ -8,7 +8,7 @@ use Rattle.solving.specs.Solving.{Solution, Unsolved, solve}
 use Rattle.problems.specs.Problems.{Columns, even_problem}
 use Rattle.solvedoor.specs.SolveDoor.{problem_over, solve_checks}
 use Rattle.solving.specs.declared.Counts.{Counts}
-use Rattle.lending.specs.Lending.{Slice, SliceIn}
+use Rattle.lending.specs.Lending.{Slice, SliceIn, MutSlice, MutSliceIn}
 use Rattle.problemcolumns.specs.ProblemColumns.{columns_by, columns_asked}
 use Rattle.solves.specs.SolveResult.{SolvesBy, Roomy, lent_asked}
 use Rattle.layercolumns.specs.LayerColumns.{RoomFor}
@@ -19,17 +19,17 @@ solve_of g c =
     cond (eqb (first_refusal (solve_checks g c)) 0) (solve (rows_world (shown_in g)) (problem_over g c).problem) (Unsolved (first_refusal (solve_checks g c)))
 
 -- of the slices that a function is lent, in the order of its parameters
-abbrev pub SolvesOfBy : (names name_at name_len flags class at len parents : Slice) → ℕ → (vc bc bk bt fs fd us ud ra rr wa wv answers oc ok ot work : Slice) → Counts → Type 0
+abbrev pub SolvesOfBy : (names name_at name_len flags class at len parents : Slice) → ℕ → (vc bc bk bt fs fd us ud ra rr wa wv : Slice) → (answers oc ok ot work : MutSlice) → Counts → Type 0
 SolvesOfBy names name_at name_len flags class at len parents n vc bc bk bt fs fd us ud ra rr wa wv answers oc ok ot work =
     SolvesBy (solve_of (given_by names name_at name_len flags class at len parents) (columns_by n vc bc bk bt fs fd us ud ra rr wa wv)) answers oc ok ot work
 
 -- columns of equal length, and room for what is answered
-abbrev pub AskedSolve : ℕ → (vc bc bk bt fs fd us ud ra rr wa wv answers oc ok ot work : SliceIn) → Type 0
+abbrev pub AskedSolve : ℕ → (vc bc bk bt fs fd us ud ra rr wa wv : SliceIn) → (answers oc ok ot work : MutSliceIn) → Type 0
 AskedSolve n vc bc bk bt fs fd us ud ra rr wa wv answers oc ok ot work =
     (even_problem (columns_asked n vc bc bk bt fs fd us ud ra rr wa wv) ≡ true) × Roomy (length vc.now) (lent_asked answers oc ok ot work)
 
 -- the same, and room for a table that holds nothing yet
-abbrev pub AskedOver : (flags pairs marks : SliceIn) → ℕ → (vc bc bk bt fs fd us ud ra rr wa wv answers oc ok ot work : SliceIn) → Type 0
+abbrev pub AskedOver : SliceIn → (pairs marks : MutSliceIn) → ℕ → (vc bc bk bt fs fd us ud ra rr wa wv : SliceIn) → (answers oc ok ot work : MutSliceIn) → Type 0
 AskedOver flags pairs marks n vc bc bk bt fs fd us ud ra rr wa wv answers oc ok ot work =
     RoomFor flags.now pairs.now × (marks.now ≡ no_marks) × (even_problem (columns_asked n vc bc bk bt fs fd us ud ra rr wa wv) ≡ true)
     × Roomy (length vc.now) (lent_asked answers oc ok ot work)

@@ -10,7 +10,7 @@ use Rattle.solving.specs.declared.Counts.{Counts}
 use Rattle.solving.specs.Solving.{Solution, Unsolved, solve}
 use Rattle.problems.specs.Problems.{Columns, Placed, even_problem, problem}
 use Rattle.solves.specs.SolveResult.{Lent, counts_of, answers_after, components_after, kinds_after, types_after, lent_by, left_by}
-use Rattle.lending.specs.Lending.{Slice}
+use Rattle.lending.specs.Lending.{Slice, MutSlice}
 use Rattle.problemcolumns.specs.ProblemColumns.{columns_by}
 
 -- one word a variable, 4,096 entries a column of bounds, 8,192 words of work
@@ -59,7 +59,7 @@ pub record SolvesIn (g : Given) (c : Columns) (before after : Lent) (r : Counts)
   pub memory : Leaves g c before after
 
 -- of the slices that a function is lent, in the order of its parameters
-abbrev pub SolvesInBy : (names name_at name_len flags class at len parents : Slice) → ℕ → (vc bc bk bt fs fd us ud ra rr wa wv answers oc ok ot work : Slice) → Counts → Type 0
+abbrev pub SolvesInBy : (names name_at name_len flags class at len parents : Slice) → ℕ → (vc bc bk bt fs fd us ud ra rr wa wv : Slice) → (answers oc ok ot work : MutSlice) → Counts → Type 0
 SolvesInBy names name_at name_len flags class at len parents n vc bc bk bt fs fd us ud ra rr wa wv answers oc ok ot work =
     SolvesIn (given_by names name_at name_len flags class at len parents) (columns_by n vc bc bk bt fs fd us ud ra rr wa wv)
     (lent_by answers oc ok ot work) (left_by answers oc ok ot work)

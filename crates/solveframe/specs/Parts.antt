@@ -9,7 +9,7 @@ use Rattle.problems.specs.Held.{Held}
 use Rattle.problems.specs.Kept.{problem_of, Keeps}
 use Rattle.framestate.specs.declared.Numbers.{Numbers}
 use Rattle.framestate.specs.FrameState.{Slices, Sized, Within}
-use Rattle.lending.specs.Lending.{Slice, came, became}
+use Rattle.lending.specs.Lending.{MutSlice, came_mut, became}
 
 -- how long the slice of a problem's rows is
 abbrev pub problem_room : ℕ
@@ -34,10 +34,10 @@ slices_of last pairs marks rows = record {
 }
 
 -- the four slices that a function is lent, as they came, and as they are left
-abbrev pub slices_by : (last pairs marks rows : Slice) → Slices
-slices_by last pairs marks rows = slices_of (came last) (came pairs) (came marks) (came rows)
+abbrev pub slices_by : (last pairs marks rows : MutSlice) → Slices
+slices_by last pairs marks rows = slices_of (came_mut last) (came_mut pairs) (came_mut marks) (came_mut rows)
 
-abbrev pub slices_left : (last pairs marks rows : Slice) → Slices
+abbrev pub slices_left : (last pairs marks rows : MutSlice) → Slices
 slices_left last pairs marks rows = slices_of (became last) (became pairs) (became marks) (became rows)
 
 -- the entries that count

@@ -9,7 +9,7 @@ use Rattle.problems.specs.Kept.{problem_of, Keeps}
 use Rattle.problemcolumns.specs.declared.ProblemCounts.{ProblemCounts}
 use Rattle.solvechecks.specs.SolveChecks.{rows_refusal}
 use Rattle.solving.specs.declared.Counts.{Counts}
-use Rattle.lending.specs.Lending.{SliceIn, Slice, came}
+use Rattle.lending.specs.Lending.{SliceIn, MutSliceIn, Slice, MutSlice, came}
 use Rattle.problemcolumns.specs.ProblemColumns.{columns_asked, columns_by}
 use Rattle.solves.specs.SolveResult.{Roomy, lent_asked, SolvesBy}
 use Rattle.resolving.specs.Bounds.{Classes}
@@ -47,12 +47,12 @@ Built marks t = (length marks ≡ marks_room) × (t.names ≤ 1024) × ((t.objec
 -- ---- of the slices that a function is lent
 
 -- a table that was built, columns of equal length, and room for what is answered
-abbrev pub AskedRows : SliceIn → Tables → ℕ → (vc bc bk bt fs fd us ud ra rr wa wv answers oc ok ot work : SliceIn) → Type 0
+abbrev pub AskedRows : SliceIn → Tables → ℕ → (vc bc bk bt fs fd us ud ra rr wa wv : SliceIn) → (answers oc ok ot work : MutSliceIn) → Type 0
 AskedRows marks t n vc bc bk bt fs fd us ud ra rr wa wv answers oc ok ot work =
     Built marks.now t × (even_problem (columns_asked n vc bc bk bt fs fd us ud ra rr wa wv) ≡ true) × Roomy (length vc.now) (lent_asked answers oc ok ot work)
 
 -- a table with classes, a problem that fronts keep, and room for what is answered
-abbrev pub AskedFront : SliceIn → Tables → ℕ → SliceIn → ProblemCounts → (bounds flows uppers reads writes answers oc ok ot work : SliceIn) → Type 0
+abbrev pub AskedFront : SliceIn → Tables → ℕ → SliceIn → ProblemCounts → (bounds flows uppers reads writes : SliceIn) → (answers oc ok ot work : MutSliceIn) → Type 0
 AskedFront marks t components variables n bounds flows uppers reads writes answers oc ok ot work =
     Classes marks.now t × Fronts n bounds.now flows.now uppers.now reads.now writes.now
     × KeepsFront t.names components variables.now n bounds.now flows.now uppers.now reads.now writes.now
@@ -61,6 +61,6 @@ AskedFront marks t components variables n bounds flows uppers reads writes answe
 abbrev pub front_by : ℕ → Slice → ProblemCounts → (bounds flows uppers reads writes : Slice) → Problem
 front_by components variables n bounds flows uppers reads writes = problem_front components (came variables) n (came bounds) (came flows) (came uppers) (came reads) (came writes)
 
-abbrev pub SolvesRowsBy : World → Tables → ℕ → (vc bc bk bt fs fd us ud ra rr wa wv answers oc ok ot work : Slice) → Counts → Type 0
+abbrev pub SolvesRowsBy : World → Tables → ℕ → (vc bc bk bt fs fd us ud ra rr wa wv : Slice) → (answers oc ok ot work : MutSlice) → Counts → Type 0
 SolvesRowsBy w t n vc bc bk bt fs fd us ud ra rr wa wv answers oc ok ot work =
     SolvesBy (solve_rows w t (columns_by n vc bc bk bt fs fd us ud ra rr wa wv)) answers oc ok ot work

@@ -38,7 +38,7 @@ use Rattle.linking.specs.Linking.{incoming_of}
 use Rattle.linking.specs.Laws.{incoming-sorted, incoming-most, incoming-links}
 use Rattle.columnsout.specs.Columns.{front, Written}
 use Rattle.solves.specs.SolveResult.{Lent, counts_of, answers_after, components_after, kinds_after, types_after, Solves, lent_by, left_by}
-use Rattle.lending.specs.Lending.{Slice, came}
+use Rattle.lending.specs.Lending.{Slice, MutSlice, came}
 
 minus-none : (n : ℕ) → n - 0 ≡ n
 minus-none n = omega arith
@@ -68,7 +68,7 @@ pub record Leaves (s : Solution) (before after : Lent) (r : Counts) : Type 0 whe
   pub types : after.types ≡ types_after s before.types
 
 -- of the slices that a function is lent
-abbrev pub LeavesBy : Solution → (answers components kinds types work : Slice) → Counts → Type 0
+abbrev pub LeavesBy : Solution → (answers components kinds types work : MutSlice) → Counts → Type 0
 LeavesBy s answers components kinds types work = Leaves s (lent_by answers components kinds types work) (left_by answers components kinds types work)
 
 -- the problem that slices keep

@@ -6,7 +6,7 @@ use Rattle.solving.specs.declared.Counts.{Counts}
 use Rattle.solving.specs.Solving.{Bound, room, Solution, Unsolved, Solved}
 use Rattle.solver.specs.Solver.{counted}
 use Rattle.answering.specs.Answering.{answer_word}
-use Rattle.lending.specs.Lending.{SliceIn, Slice, came, became}
+use Rattle.lending.specs.Lending.{MutSliceIn, MutSlice, came_mut, became}
 
 -- the slices: a word a variable; the final bounds in three columns; the work
 pub record Lent : Type 0 where
@@ -20,13 +20,13 @@ abbrev pub lent : List ℕ → List ℕ → List ℕ → List ℕ → List ℕ �
 lent answers components kinds types work = record { answers = answers; components = components; kinds = kinds; types = types; work = work }
 
 -- the slices that a function is lent, as `requires` has them; as they came; and as they are left
-abbrev pub lent_asked : (answers components kinds types work : SliceIn) → Lent
+abbrev pub lent_asked : (answers components kinds types work : MutSliceIn) → Lent
 lent_asked answers components kinds types work = lent answers.now components.now kinds.now types.now work.now
 
-abbrev pub lent_by : (answers components kinds types work : Slice) → Lent
-lent_by answers components kinds types work = lent (came answers) (came components) (came kinds) (came types) (came work)
+abbrev pub lent_by : (answers components kinds types work : MutSlice) → Lent
+lent_by answers components kinds types work = lent (came_mut answers) (came_mut components) (came_mut kinds) (came_mut types) (came_mut work)
 
-abbrev pub left_by : (answers components kinds types work : Slice) → Lent
+abbrev pub left_by : (answers components kinds types work : MutSlice) → Lent
 left_by answers components kinds types work = lent (became answers) (became components) (became kinds) (became types) (became work)
 
 -- how long they must be for so many variables
@@ -74,5 +74,5 @@ pub record Solves (s : Solution) (before after : Lent) (r : Counts) : Type 0 whe
   pub work : after.work ≡ replicate (length before.work) 0
 
 -- of the slices that a function is lent
-abbrev pub SolvesBy : Solution → (answers components kinds types work : Slice) → Counts → Type 0
+abbrev pub SolvesBy : Solution → (answers components kinds types work : MutSlice) → Counts → Type 0
 SolvesBy s answers components kinds types work = Solves s (lent_by answers components kinds types work) (left_by answers components kinds types work)

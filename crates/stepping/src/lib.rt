@@ -40,7 +40,7 @@ fn class_message(
     n: Numbers,
 ) -> Framed
     requires { Stands last.old pairs.old marks.old rows.now n × Headed kind body.now n × (class_kind kind ≡ true) }
-    ensures { Rests (step_of kind body.now (store_of (slices_by last pairs marks rows) n)) (slices_by last pairs marks rows) (slices_of last.new pairs.new marks.new rows.now) result }
+    ensures { Rests (step_of kind body.now (store_of (slices_of last.old pairs.old marks.old rows.now) n)) (slices_of last.old pairs.old marks.old rows.now) (slices_of last.new pairs.new marks.new rows.now) result }
 {
     if kind == 1 {
         return name_frame(body, last, n);
@@ -62,7 +62,7 @@ fn value_message(
     n: Numbers,
 ) -> Framed
     requires { Stands last.now pairs.now marks.now rows.old n × Headed kind body.now n × BytesIn body.now × (3 ≤ kind) × (kind ≤ 5) }
-    ensures { Rests (step_of kind body.now (store_of (slices_by last pairs marks rows) n)) (slices_by last pairs marks rows) (slices_of last.now pairs.now marks.now rows.new) result }
+    ensures { Rests (step_of kind body.now (store_of (slices_of last.now pairs.now marks.now rows.old) n)) (slices_of last.now pairs.now marks.now rows.old) (slices_of last.now pairs.now marks.now rows.new) result }
 {
     if kind == 3 {
         return count_frame(body, n);
@@ -84,7 +84,7 @@ fn link_message(
     n: Numbers,
 ) -> Framed
     requires { Stands last.now pairs.now marks.now rows.old n × Headed kind body.now n × (6 ≤ kind) × (kind ≤ 9) }
-    ensures { Rests (step_of kind body.now (store_of (slices_by last pairs marks rows) n)) (slices_by last pairs marks rows) (slices_of last.now pairs.now marks.now rows.new) result }
+    ensures { Rests (step_of kind body.now (store_of (slices_of last.now pairs.now marks.now rows.old) n)) (slices_of last.now pairs.now marks.now rows.old) (slices_of last.now pairs.now marks.now rows.new) result }
 {
     if kind == 6 {
         return flow_frame(body, &mut rows[6144..8192], n);
@@ -109,7 +109,7 @@ fn question_message(
     n: Numbers,
 ) -> Framed
     requires { Stands last.now pairs.now marks.now rows.now n × Headed kind body.now n × (11 ≤ kind) × (class_kind kind ≡ false) }
-    ensures { Rests (step_of kind body.now (store_of (slices_by last pairs marks rows) n)) (slices_by last pairs marks rows) (slices_by last pairs marks rows) result }
+    ensures { Rests (step_of kind body.now (store_of (slices_of last.now pairs.now marks.now rows.now) n)) (slices_of last.now pairs.now marks.now rows.now) (slices_of last.now pairs.now marks.now rows.now) result }
 {
     if kind == 11 {
         return relation_frame(body, pairs, marks, n);
@@ -132,7 +132,7 @@ fn later_message(
     n: Numbers,
 ) -> Framed
     requires { Stands last.now pairs.now marks.now rows.old n × (length answers.old ≡ 2048) × Headed kind body.now n × BytesIn body.now × (class_kind kind ≡ false) }
-    ensures { Leaves (step_of kind body.now (store_of (slices_by last pairs marks rows) n)) (slices_by last pairs marks rows) (slices_of last.now pairs.now marks.now rows.new) answers.old answers.new result }
+    ensures { Leaves (step_of kind body.now (store_of (slices_of last.now pairs.now marks.now rows.old) n)) (slices_of last.now pairs.now marks.now rows.old) (slices_of last.now pairs.now marks.now rows.new) answers.old answers.new result }
 {
     if kind <= 5 {
         return value_message(kind, body, last, pairs, marks, rows, n);

@@ -81,7 +81,7 @@ module _ (t : Rows) where
   way-path stay = here
   way-path (step {y = y} {z = z} w l) = there (way-path w) ((parents-exactly y z).1 l)
 
-  pub path-way : {n x y : ℕ} → Path (rows_view t) x y n → Way t n x y
+  pub path-way : {x n y : ℕ} → Path (rows_view t) x y n → Way t n x y
   path-way here = stay
   path-way (there {y = y} {p = p} a m) = step (path-way a) ((parents-exactly y p).0 m)
 

@@ -5,13 +5,15 @@
 mod input;
 mod output;
 
-ghost use Rattle.std.specs.Prelude.{◌≡◌, ◌≤◌, length};
+ghost use Rattle.std.specs.Prelude.{◌≡◌, ◌≤◌, IfOk, length};
 ghost use Rattle.typeline.specs.Held.{Holds, empty_layers, empty_numbers, Empty};
 
 use framestate::Numbers;
 use layers::{Layer, StackTables};
 use saying::say_line;
 use sets::Set;
+use std::io;
+use std::io::{ErrorKind, Read, Write};
 use tables::Tables;
 
 // What goes from line to line: the numbers of the state, how many lines are past, how many bytes there are of the line so far, how much of the
@@ -98,6 +100,7 @@ fn no_numbers() -> Numbers
 
 // A whole line: it is answered, and the output goes out where little room is left.
 fn whole(
+    output: &mut impl Write,
     s: State,
     line: &[u8],
     last: &mut [u8],
@@ -106,28 +109,29 @@ fn whole(
     rows: &mut [u64],
     answers: &mut [u64],
     out: &mut [u8],
-) -> State
+) -> io::Result<State>
     requires { Holds last.old pairs.old marks.old rows.old answers.old out.old s.numbers s.filled }
-    ensures { Holds last.new pairs.new marks.new rows.new answers.new out.new result.numbers result.filled × (result.used ≡ 0) }
+    ensures { IfOk result (λ t. Holds last.new pairs.new marks.new rows.new answers.new out.new t.numbers t.filled × (t.used ≡ 0)) }
 {
     let number = std::num::wrapping_add_u64(s.lines, 1);
     let numbers = s.numbers;
     let spoken = say_line(
         line, number, last, pairs, marks, rows, answers, out, s.filled, numbers,
     );
-    let filled = output::room(out, spoken.filled);
+    let filled = output::room(output, out, spoken.filled)?;
     let after = spoken.numbers;
-    State {
+    Ok(State {
         numbers: after,
         lines: number,
         used: 0,
         filled: filled,
         ended: s.ended,
-    }
+    })
 }
 
 // A piece of a line, the last one if the line is whole with it. A line past 1,025 bytes is cut there: it is refused whatever follows.
 fn piece(
+    output: &mut impl Write,
     s: State,
     part: &[u8],
     is_whole: bool,
@@ -138,19 +142,22 @@ fn piece(
     rows: &mut [u64],
     answers: &mut [u64],
     out: &mut [u8],
-) -> State
+) -> io::Result<State>
     requires { Holds last.old pairs.old marks.old rows.old answers.old out.old s.numbers s.filled × (length line.old ≡ 1025) × (s.used ≤ 1025) }
-    ensures { Holds last.new pairs.new marks.new rows.new answers.new out.new result.numbers result.filled × (result.used ≤ 1025) }
+    ensures { IfOk result (λ t. Holds last.new pairs.new marks.new rows.new answers.new out.new t.numbers t.filled × (t.used ≤ 1025)) }
 {
     let used = input::append(line, s.used, part);
     if is_whole {
-        return whole(s, &line[0..used], last, pairs, marks, rows, answers, out);
+        return whole(
+            output, s, &line[0..used], last, pairs, marks, rows, answers, out,
+        );
     }
-    s.with_used(used)
+    Ok(s.with_used(used))
 }
 
 // All that one read brought.
 fn feed(
+    output: &mut impl Write,
     s: State,
     chunk: &[u8],
     line: &mut [u8],
@@ -160,9 +167,9 @@ fn feed(
     rows: &mut [u64],
     answers: &mut [u64],
     out: &mut [u8],
-) -> State
+) -> io::Result<State>
     requires { Holds last.old pairs.old marks.old rows.old answers.old out.old s.numbers s.filled × (length line.old ≡ 1025) × (s.used ≤ 1025) }
-    ensures { Holds last.new pairs.new marks.new rows.new answers.new out.new result.numbers result.filled × (result.used ≤ 1025) }
+    ensures { IfOk result (λ t. Holds last.new pairs.new marks.new rows.new answers.new out.new t.numbers t.filled × (t.used ≤ 1025)) }
 {
     let mut t = s;
     let mut i: usize = 0;
@@ -170,6 +177,7 @@ fn feed(
         let e = input::line_end(chunk, i);
         let is_whole = e < chunk.len();
         t = piece(
+            output,
             t,
             &chunk[i..e],
             is_whole,
@@ -180,14 +188,16 @@ fn feed(
             rows,
             answers,
             out,
-        );
+        )?;
         i = e + 1;
     }
-    t
+    Ok(t)
 }
 
 // One read.
 fn some(
+    input: &mut impl Read,
+    output: &mut impl Write,
     s: State,
     chunk: &mut [u8],
     line: &mut [u8],
@@ -197,20 +207,30 @@ fn some(
     rows: &mut [u64],
     answers: &mut [u64],
     out: &mut [u8],
-) -> State
+) -> io::Result<State>
     requires { Holds last.old pairs.old marks.old rows.old answers.old out.old s.numbers s.filled × (length line.old ≡ 1025) × (s.used ≤ 1025) }
-    ensures { Holds last.new pairs.new marks.new rows.new answers.new out.new result.numbers result.filled × (result.used ≤ 1025) }
+    ensures { IfOk result (λ t. Holds last.new pairs.new marks.new rows.new answers.new out.new t.numbers t.filled × (t.used ≤ 1025)) }
 {
-    let got = libc::read(0, chunk);
-    let n = io::count(got, chunk);
+    let n = match input.read(chunk) {
+        Ok(n) => n,
+        Err(e) => {
+            if e.kind() == ErrorKind::Interrupted {
+                return Ok(s);
+            }
+            return Err(e);
+        }
+    };
     if n == 0 {
-        return s.at_end();
+        return Ok(s.at_end());
     }
-    feed(s, &chunk[..n], line, last, pairs, marks, rows, answers, out)
+    feed(
+        output, s, &chunk[..n], line, last, pairs, marks, rows, answers, out,
+    )
 }
 
 // A last line may lack its LF; then what waits goes out.
 fn finish(
+    output: &mut impl Write,
     s: State,
     line: &[u8],
     last: &mut [u8],
@@ -219,20 +239,23 @@ fn finish(
     rows: &mut [u64],
     answers: &mut [u64],
     out: &mut [u8],
-)
+) -> io::Result<()>
     requires { Holds last.old pairs.old marks.old rows.old answers.old out.old s.numbers s.filled × (length line.now ≡ 1025) × (s.used ≤ 1025) }
 {
     let used = s.used;
     if used == 0 {
-        output::flush(out, s.filled);
-        return;
+        return output::flush(output, out, s.filled);
     }
-    let t = whole(s, &line[0..used], last, pairs, marks, rows, answers, out);
-    output::flush(out, t.filled);
+    let t = whole(
+        output, s, &line[0..used], last, pairs, marks, rows, answers, out,
+    )?;
+    output::flush(output, out, t.filled)
 }
 
 // Reads to the end of the input.
 fn run(
+    input: &mut impl Read,
+    output: &mut impl Write,
     chunk: &mut [u8],
     line: &mut [u8],
     last: &mut [u8],
@@ -241,7 +264,7 @@ fn run(
     rows: &mut [u64],
     answers: &mut [u64],
     out: &mut [u8],
-)
+) -> io::Result<()>
     requires { Holds last.old pairs.old marks.old rows.old answers.old out.old empty_numbers 0 × (length line.old ≡ 1025) }
 {
     let numbers = no_numbers();
@@ -252,15 +275,18 @@ fn run(
         filled: 0,
         ended: false,
     };
-    let mut turns = u64::MAX;
-    while turns > 0 && !s.ended {
-        s = some(s, chunk, line, last, pairs, marks, rows, answers, out);
-        turns -= 1;
+    'reads: for _ in 0..u64::MAX {
+        if s.ended {
+            break;
+        }
+        s = some(
+            input, output, s, chunk, line, last, pairs, marks, rows, answers, out,
+        )?;
     }
-    finish(s, line, last, pairs, marks, rows, answers, out);
+    finish(output, s, line, last, pairs, marks, rows, answers, out)
 }
 
-fn main() {
+fn main(rt: HostRuntime) -> io::Result<()> {
     let mut chunk = [0u8; 65536];
     let mut line = [0u8; 1025];
     let mut last = [0u8; 255];
@@ -270,6 +296,8 @@ fn main() {
     let mut answers = [0u64; 2048];
     let mut out = [0u8; 131072];
     run(
+        &mut rt.stdin(),
+        &mut rt.stdout(),
         &mut chunk,
         &mut line,
         &mut last,
@@ -278,5 +306,5 @@ fn main() {
         &mut rows,
         &mut answers,
         &mut out,
-    );
+    )
 }

@@ -1,24 +1,26 @@
 // Output through a buffer, of which the first `filled` bytes wait to be written.
-ghost use Rattle.std.specs.Prelude.{◌≤◌};
+ghost use Rattle.std.specs.Prelude.{◌≤◌, IfOk};
 
-use libc::STDOUT_FILENO;
+use std::io;
+use std::io::Write;
 
 // So much of the buffer may wait while a line is answered: the rest has room for all that one line prints.
 const WAITING: usize = 49152;
 
-pub(crate) fn flush(out: &[u8], filled: usize) {
+pub(crate) fn flush(output: &mut impl Write, out: &[u8], filled: usize) -> io::Result<()> {
     if filled <= out.len() {
-        io::write_all(STDOUT_FILENO, &out[0..filled]);
+        output.write_all(&out[0..filled])?;
     }
+    Ok(())
 }
 
 // Writes what waits where it is much, and tells how much waits then.
-pub(crate) fn room(out: &[u8], filled: usize) -> usize
-    ensures { result ≤ 49152 }
+pub(crate) fn room(output: &mut impl Write, out: &[u8], filled: usize) -> io::Result<usize>
+    ensures { IfOk result (λ n. n ≤ 49152) }
 {
     if WAITING < filled {
-        flush(out, filled);
-        return 0;
+        flush(output, out, filled)?;
+        return Ok(0);
     }
-    filled
+    Ok(filled)
 }

@@ -60,6 +60,7 @@ every p (x ∷ xs) = p x && every p xs
 
 every-at {ℓ} : {A : Type ℓ} (p : A → Bool) {x : A} {xs : List A} → T (every p xs) → Memᴰ x xs → T (p x)
 unfolding every
+every-at {A = A} p {xs = []} h x6 = elim x6 [ ]
 every-at p {xs = y ∷ ys} h (Memᴰ.head e) = subst (λ z. T (p z)) (sym e) (T-parts (p y) (every p ys) h).0
 every-at p {xs = y ∷ ys} h (Memᴰ.tail m) = every-at p (T-parts (p y) (every p ys) h).1 m
 
@@ -90,6 +91,7 @@ none-above n a bs ((r ∷ row) ∷ rows) h t =
 only-row : (r : Range) (row : List Range) (a : ℕ) (bs : List ℕ) {rows : List (List Range)} → r.lo ≤ a → a ≤ r.hi → T (apart rows)
     → Memᴰ (r ∷ row) rows → first_match rows (a ∷ bs) ≡ cond (matches row bs) (suc (length row)) 0
 unfolding apart starts_apart first_match matches starts_above
+only-row r row a bs {rows = []} l h t x11 = elim x11 [ ]
 only-row r row a bs {rows = x ∷ rows} l h t (Memᴰ.head e) =
     subst (λ (y : List Range). T (starts_apart y rows && apart rows) → first_match (y ∷ rows) (a ∷ bs) ≡ cond (matches row bs) (suc (length row)) 0) e
     (λ u. rw (within-yes r a l h, none-above r.hi a bs rows h (T-parts (every (starts_above r.hi) rows) (apart rows) u).0)) t

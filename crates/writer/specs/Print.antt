@@ -1,6 +1,6 @@
 -- ArgType::to_descriptor and Display of MethodDescriptor of ty.rs: the bytes of a type and of a method.
 -- Added to the Rust: a word for a type, refusals, an output that is lent.
-use Rattle.std.specs.Prelude.{◌≡◌, not, ◌&&◌, List, [], ◌∷◌, ◌++◌, ℕ, zero, suc, ◌+◌, ltb, length, get_or, drop}
+use Rattle.std.specs.Prelude.{◌≡◌, not, ◌&&◌, List, [], ◌∷◌, ◌++◌, ℕ, zero, suc, ltb, length, get_or, drop}
 use Rattle.text.specs.Text.{ascii, byte}
 use Rattle.ty.specs.Types.{ArgType, Primitive, Object, Array, Unknown}
 use Rattle.ty.specs.Words.{type_of, legal_word, all_legal}

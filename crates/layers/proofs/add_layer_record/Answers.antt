@@ -39,6 +39,26 @@ put_marks-requires c = let a = c.args in
       small-class a.pairs.now a.marks.now a.t a.layer c.requires a.flags a.class a.parents.now check.result check.ensures c.if-refusal-ne0.false,
     )
 
+pub overflow_sub-grown : goal.overflow_sub-grown
+overflow_sub-grown c =
+    let a = c.args in
+    let check = c.check_record-refusal in
+    let z = c.if-refusal-ne0.false in
+    let u = c.uncover-left in
+    let p = c.put_pairs-n in
+    let m = c.put_marks in
+    more a.pairs.now a.marks.now a.t a.layer c.requires a.flags a.class a.parents.now check.result check.ensures z _ _ u.ensures.0 u.ensures.1 _ _ _ p.ensures.0 p.ensures.1 m.ensures
+
+pub overflow_add-grown : goal.overflow_add-grown
+overflow_add-grown c =
+    let a = c.args in
+    let check = c.check_record-refusal in
+    let z = c.if-refusal-ne0.false in
+    let u = c.uncover-left in
+    let p = c.put_pairs-n in
+    let m = c.put_marks in
+    record { fits = omega (arith, counted-on a.pairs.now a.marks.now a.t a.layer c.requires a.flags a.class a.parents.now check.result check.ensures z _ _ u.ensures.0 u.ensures.1 _ _ _ p.ensures.0 p.ensures.1 m.ensures, (good a.pairs.now a.marks.now a.t a.layer c.requires a.flags a.class a.parents.now check.result check.ensures z).room) }
+
 pub returns : goal.returns
 returns c = let a = c.args in
     let check = c.check_record-refusal in

@@ -1,15 +1,8 @@
 -- `compare_names` meets its contract. The invariant: the names are compared as their bytes from i on are.
-use borrow.Author.Rules.{rules}
-use mathlib.Core.Path.{◌≡◌, refl, sym, ap₂, ◌∙◌}
-use mathlib.Core.List.{List}
-use Prim.Native.Nat.{ℕ, suc, ◌+◌, ◌-◌, ◌≤◌, ◌<◌, min}
-use native.Mathlib.Numerals.{add-one}
-use native.Mathlib.Omega.{arith}
-use lib.ListN.{length, get_or, drop, drop_of_length-le}
-use lib.Seq.{drop-cons}
-use Rattle.order.specs.Laws.{numbers-same, numbers-by}
-use Rattle.order.specs.Compare.{compare_numbers, compare_lists, then}
-use Rattle.order.specs.declared.Order.{Order}
+use mathlib.Core.Path.{◌≡◌}
+use Prim.Native.Nat.{◌-◌, ◌≤◌, min}
+use lib.ListN.{length, drop}
+use Rattle.order.specs.Compare.{compare_lists}
 use Rattle.nameorder.proofs.compare_names.Given as goal
 
 abbrev pub invariant-loop-i : goal.invariant-loop-i

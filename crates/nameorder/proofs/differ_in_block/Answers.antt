@@ -1,14 +1,12 @@
 -- The test of a block meets its contract: the names differ in it where they differ in its first k bytes or in the rest.
-use borrow.Author.Rules.{rules}
 use mathlib.Core.Path.{◌≡◌, sym, ap, ap₂, ◌∙◌}
 use mathlib.Core.Bool.{Bool, ◌||◌, or-true, or-false}
-use mathlib.Core.Logic.{⊎_elim}
-use Prim.Native.Nat.{ℕ, ◌+◌, ◌-◌, ◌≤◌}
+use Prim.Native.Nat.{ℕ, ◌+◌}
 use native.Mathlib.Omega.{arith}
-use lib.ListN.{length}
 use lib.Seq.{slice}
 use Rattle.nameorder.proofs.Block.{differ, same-first, other-first, none-left}
 use Rattle.nameorder.proofs.differ_in_block.Goals as goal
+use Rattle.nameorder.proofs.differ_in_block.Goals.{then-a-i, else-a-i}
 
 pub loop-k-init : goal.loop-k-init
 loop-k-init c = let a = c.args in
@@ -26,13 +24,12 @@ loop-k-preserved c = let a = c.args in
       l.invariant.1,
       omega arith,
       l.invariant.3
-          ∙ ⊎_elim
-          (λ w. ap (λ (t : Bool). l.differ || t) (other-first x y (i + l.k) (i + 8) (omega arith) l.invariant.0 l.invariant.1 w.0.taken) ∙ rw w.1 (or-true l.differ))
-          (λ w.
-          ap₂ ◌||◌ (sym w.1)
-          (same-first x y (i + l.k) (i + 8) (omega arith) l.invariant.0 l.invariant.1 w.0.left
-          ∙ ap (λ (n : ℕ). differ (slice n (i + 8) x) (slice n (i + 8) y)) next))
-          c.if-a-i.branch,
+          ∙ elim c.if-a-i.branch [
+            | then-a-i w ↦ ap (λ (t : Bool). l.differ || t) (other-first x y (i + l.k) (i + 8) (omega arith) l.invariant.0 l.invariant.1 w.if-a-i.true) ∙ rw w.differ-is (or-true l.differ)
+            | else-a-i w ↦ ap₂ ◌||◌ (sym w.differ-is)
+                (same-first x y (i + l.k) (i + 8) (omega arith) l.invariant.0 l.invariant.1 w.if-a-i.false
+                ∙ ap (λ (n : ℕ). differ (slice n (i + 8) x) (slice n (i + 8) y)) next)
+          ],
     )
 
 pub returns : goal.returns

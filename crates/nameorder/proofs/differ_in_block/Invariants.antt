@@ -1,13 +1,10 @@
 -- The test of a block meets its contract: the names differ in it where they differ in its first k bytes or in the rest.
-use borrow.Author.Rules.{rules}
-use mathlib.Core.Path.{◌≡◌, sym, ap, ap₂, ◌∙◌}
-use mathlib.Core.Bool.{Bool, ◌||◌, or-true, or-false}
-use mathlib.Core.Logic.{⊎_elim}
-use Prim.Native.Nat.{ℕ, ◌+◌, ◌-◌, ◌≤◌}
-use native.Mathlib.Omega.{arith}
+use mathlib.Core.Path.{◌≡◌}
+use mathlib.Core.Bool.{◌||◌}
+use Prim.Native.Nat.{◌+◌, ◌-◌, ◌≤◌}
 use lib.ListN.{length}
 use lib.Seq.{slice}
-use Rattle.nameorder.proofs.Block.{differ, same-first, other-first, none-left}
+use Rattle.nameorder.proofs.Block.{differ}
 use Rattle.nameorder.proofs.differ_in_block.Given as goal
 
 abbrev pub invariant-loop-k : goal.invariant-loop-k

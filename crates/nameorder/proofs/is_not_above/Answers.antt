@@ -1,5 +1,4 @@
 -- `is_not_above` meets its contract: past the blocks in common, the order is that of what is left.
-use borrow.Author.Rules.{rules}
 use mathlib.Core.Path.{◌≡◌, sym, ap, ap₂, ◌∙◌}
 use mathlib.Core.Bool.{not, ◌&&◌}
 use mathlib.Core.List.{List}

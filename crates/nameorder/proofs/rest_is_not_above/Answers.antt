@@ -1,5 +1,4 @@
 -- `rest_is_not_above` meets its contract.
-use borrow.Author.Rules.{rules}
 use mathlib.Core.Path.{◌≡◌}
 use mathlib.Core.Bool.{not, ◌&&◌}
 use mathlib.Core.List.{List}

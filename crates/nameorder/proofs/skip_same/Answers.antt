@@ -1,10 +1,7 @@
 -- The passing of equal blocks meets its contract: the names stand to each other as they do from i on.
-use borrow.Author.Rules.{rules}
-use mathlib.Core.Path.{◌≡◌, refl, sym, ◌∙◌}
-use Prim.Native.Nat.{◌+◌, ◌-◌, ◌≤◌}
+use mathlib.Core.Path.{refl, sym, ◌∙◌}
+use Prim.Native.Nat.{◌+◌}
 use native.Mathlib.Omega.{arith}
-use lib.ListN.{length, drop}
-use Rattle.order.specs.Compare.{compare_lists}
 use Rattle.nameorder.proofs.Block.{past}
 use Rattle.nameorder.proofs.skip_same.Goals as goal
 

@@ -1,5 +1,4 @@
 -- `check_name` meets its contract: its tests in the order of the chain.
-use borrow.Author.Rules.{rules}
 use mathlib.Core.Path.{◌≡◌, refl, sym, ap, ◌∙◌}
 use mathlib.Core.Bool.{Bool, true, false, cond, not, ◌&&◌, ◌||◌}
 use mathlib.Core.List.{List}
@@ -8,7 +7,7 @@ use native.Mathlib.Omega.{arith}
 use lib.Dec.{leb, ltb}
 use lib.ListN.{length, take, drop}
 use lib.Seq.{take_all}
-use borrow.Author.Tests.{eq-eqb, ne_eqb, lt-ltb, le-ltb, not-true, not-false}
+use borrow.Author.Tests.{eq-eqb, ne_eqb, lt-ltb, le-ltb}
 use Rattle.order.specs.Compare.{compare_lists, is_less}
 use Rattle.utf8.specs.Utf8.{well_formed}
 use Rattle.checks.specs.Checks.{first_refusal}
@@ -35,14 +34,6 @@ module _ (last name : List ℕ) (count total : ℕ) where
   sized formed low full z h f l u =
       rw (ne_eqb (length name) 0 z, le-ltb 255 (length name) h, ← l, ← u, ← (f ∙ ap well_formed (take_all (length name - 0) name (omega arith))))
 
--- past the third test the name is well-formed, past the fourth it is above the last
-formed : (c : tie.Else3) → let n = c.before.before.before.before.before.before.args.name.now in true ≡ well_formed (take (length n - 0) (drop 0 n))
-formed c = sym (not-false c.before.is_well_formed.result c.if3.false) ∙ c.before.is_well_formed.ensures
-
-above : (c : tie.Else4)
-    → let a = c.before.before.before.before.before.before.before.before.args in false ≡ (ltb 0 a.count && not (is_less (compare_lists a.last.now a.name.now)))
-above c = sym c.if4.false ∙ c.before.is_not_above.ensures
-
 pub returns-then-n-eq0 : goal.returns-then-n-eq0
 returns-then-n-eq0 c = let a = c.args in sym (empty a.last.now a.name.now a.count a.total c.if-n-eq0.true)
 
@@ -51,17 +42,16 @@ returns-then-n-gt-NAME_BYTES c = let a = c.args in sym (long a.last.now a.name.n
 
 pub returns-then-not-is_well_formed : goal.returns-then-not-is_well_formed
 returns-then-not-is_well_formed c = let a = c.args in
-    let w = c.is_well_formed in
-    sized a.last.now a.name.now a.count a.total false _ _ c.if-n-eq0.false (omega arith) (sym (not-true w.result c.if-not-is_well_formed.true-raw) ∙ w.ensures) refl refl
+    sized a.last.now a.name.now a.count a.total false _ _ c.if-n-eq0.false (omega arith) (sym c.if-not-is_well_formed.true ∙ c.is_well_formed.ensures) refl refl
 
 pub returns-then-is_not_above : goal.returns-then-is_not_above
 returns-then-is_not_above c = let a = c.args in
-    sized a.last.now a.name.now a.count a.total true true _ c.if-n-eq0.false (omega arith) (formed c) (sym c.if-is_not_above.true ∙ c.is_not_above.ensures) refl
+    sized a.last.now a.name.now a.count a.total true true _ c.if-n-eq0.false (omega arith) (sym c.if-not-is_well_formed.false ∙ c.is_well_formed.ensures) (sym c.if-is_not_above.true ∙ c.is_not_above.ensures) refl
 
 pub returns-then-is_full : goal.returns-then-is_full
 returns-then-is_full c = let a = c.args in
-    sized a.last.now a.name.now a.count a.total true false true c.if-n-eq0.false (omega arith) (formed c) (above c) (sym c.if-is_full.true ∙ c.is_full.ensures)
+    sized a.last.now a.name.now a.count a.total true false true c.if-n-eq0.false (omega arith) (sym c.if-not-is_well_formed.false ∙ c.is_well_formed.ensures) (sym c.if-is_not_above.false ∙ c.is_not_above.ensures) (sym c.if-is_full.true ∙ c.is_full.ensures)
 
 pub returns : goal.returns
 returns c = let a = c.args in
-    sized a.last.now a.name.now a.count a.total true false false c.if-n-eq0.false (omega arith) (formed c) (above c) (sym c.if-is_full.false ∙ c.is_full.ensures)
+    sized a.last.now a.name.now a.count a.total true false false c.if-n-eq0.false (omega arith) (sym c.if-not-is_well_formed.false ∙ c.is_well_formed.ensures) (sym c.if-is_not_above.false ∙ c.is_not_above.ensures) (sym c.if-is_full.false ∙ c.is_full.ensures)

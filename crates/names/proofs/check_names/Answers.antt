@@ -1,8 +1,7 @@
 -- `check_names` meets its contract. The invariant: what is refused is what the rows from i on are refused, after the i names passed.
-use borrow.Author.Rules.{rules}
 use mathlib.Core.Path.{◌≡◌, sym, ◌∙◌}
 use mathlib.Core.List.{List}
-use Prim.Native.Nat.{ℕ, ◌+◌, ◌-◌, ◌≤◌, ◌<◌}
+use Prim.Native.Nat.{ℕ, ◌+◌, ◌≤◌, ◌<◌}
 use native.Mathlib.Omega.{arith}
 use native.Mathlib.Numerals.{add-one}
 use lib.ListN.{length, get_or, drop, drop_of_length-le}
@@ -10,7 +9,7 @@ use lib.Seq.{drop-cons}
 use borrow.Author.Tests.{eq-eqb, ne_eqb}
 use Rattle.checks.specs.Checks.{or_else, else-none, else-some}
 use Rattle.names.specs.Names.{name_of, check_row, check_rows, check_names}
-use Rattle.names.specs.Table.{GoodRow, row-checked}
+use Rattle.names.specs.Table.{row-checked}
 use Rattle.names.proofs.check_names.Goals as goal
 
 -- ---- the rows from i on
@@ -36,13 +35,6 @@ module _ (bytes ats lens last : List ℕ) (i total : ℕ) where
   unfolding check_rows
   rows-end h = rw (drop_of_length-le ats {i = i} h)
 
--- a row that is passed is good
-good : (c : tie.Else2 invariant-loop decreases-loop) → let a = c.before.before.before.before.before.before.before.before.before.before.args in
-    let l = c.before.before.before.before.before.loop in
-    let s = a.names.now in
-    GoodRow s (get_or a.name_at.now l.i 0) (get_or a.name_len.now l.i 0) (name_of s l.last l.span) l.i l.total
-good c = row-checked _ _ _ _ _ _ (sym c.before.check_row.ensures ∙ c.if2.false)
-
 pub returns-then-name_at-name_len : goal.returns-then-name_at-name_len
 unfolding check_names
 returns-then-name_at-name_len c = rw (ne_eqb _ _ c.if-name_at-name_len.true)
@@ -59,14 +51,14 @@ returns-then-refusal-ne0 c = let a = c.args in
     sym (l.invariant.5 ∙ row-refused s a.name_at.now a.name_len.now (name_of s l.last l.span) l.i l.total r.result (omega arith) (omega arith) r.ensures c.if-refusal-ne0.true)
 
 pub overflow_add-total : goal.overflow_add-total
-overflow_add-total c = let g = good c in omega arith
+overflow_add-total c = let g = row-checked _ _ _ _ _ _ (sym c.check_row-refusal.ensures ∙ c.if-refusal-ne0.false) in omega arith
 
 pub loop-i-preserved : goal.loop-i-preserved
 loop-i-preserved c = let a = c.args in
     let l = c.loop-i in
     let s = a.names.now in
     let r = c.check_row-refusal in
-    let g = good c in (
+    let g = row-checked _ _ _ _ _ _ (sym c.check_row-refusal.ensures ∙ c.if-refusal-ne0.false) in (
       omega arith,
       l.invariant.1,
       g.inside.starts,

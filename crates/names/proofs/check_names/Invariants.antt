@@ -1,16 +1,8 @@
 -- `check_names` meets its contract. The invariant: what is refused is what the rows from i on are refused, after the i names passed.
-use borrow.Author.Rules.{rules}
-use mathlib.Core.Path.{◌≡◌, sym, ◌∙◌}
-use mathlib.Core.List.{List}
-use Prim.Native.Nat.{ℕ, ◌+◌, ◌-◌, ◌≤◌, ◌<◌}
-use native.Mathlib.Omega.{arith}
-use native.Mathlib.Numerals.{add-one}
-use lib.ListN.{length, get_or, drop, drop_of_length-le}
-use lib.Seq.{drop-cons}
-use borrow.Author.Tests.{eq-eqb, ne_eqb}
-use Rattle.checks.specs.Checks.{or_else, else-none, else-some}
-use Rattle.names.specs.Names.{name_of, check_row, check_rows, check_names}
-use Rattle.names.specs.Table.{GoodRow, row-checked}
+use mathlib.Core.Path.{◌≡◌}
+use Prim.Native.Nat.{◌-◌, ◌≤◌}
+use lib.ListN.{length, drop}
+use Rattle.names.specs.Names.{name_of, check_rows, check_names}
 use Rattle.names.proofs.check_names.Given as goal
 
 abbrev pub invariant-loop-i : goal.invariant-loop-i

@@ -1,5 +1,4 @@
 -- `look_up` meets its contract: the check, then the search.
-use borrow.Author.Rules.{rules}
 use mathlib.Core.Path.{sym}
 use Rattle.names.specs.Lookup.{look-refused, look-searched}
 use Rattle.names.proofs.look_up.Goals as goal

@@ -1,11 +1,6 @@
 -- `search` meets its contract: the middle name settles all on one side of it.
-use borrow.Author.Rules.{rules}
-use mathlib.Core.Path.{sym, ap, ◌∙◌}
-use Prim.Native.Nat.{◌+◌, ◌-◌, ◌/◌}
-use native.Mathlib.Omega.{arith}
-use Rattle.names.specs.Names.{found}
-use Rattle.names.specs.Table.{checked}
-use Rattle.names.proofs.Bracket.{Bracket, bracket-start, bracket-up, bracket-down, bracket-hit, bracket-miss}
+use Prim.Native.Nat.{◌-◌}
+use Rattle.names.proofs.Bracket.{Bracket}
 use Rattle.names.proofs.search.Given as goal
 
 abbrev pub invariant-loop-low : goal.invariant-loop-low

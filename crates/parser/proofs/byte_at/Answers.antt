@@ -1,5 +1,4 @@
 -- `parser::byte_at` meets its contract: each branch's test says which case of `byte_at` holds.
-use borrow.Author.Rules.{rules}
 use borrow.Author.Tests.{le-ltb, lt-ltb}
 use Rattle.parser.proofs.byte_at.Goals as goal
 

@@ -1,5 +1,4 @@
 -- `parser::consume_at` meets its contract: the tests say which case of `consume_at` holds.
-use borrow.Author.Rules.{rules}
 use borrow.Author.Tests.{lt-ltb, le-ltb, eq-eqb, ne_eqb}
 use Rattle.parser.proofs.consume_at.Goals as goal
 

@@ -1,5 +1,4 @@
 -- `parser::type_at` meets its contract: it is what the type reader ensures.
-use borrow.Author.Rules.{rules}
 use Rattle.parser.proofs.type_at.Goals as goal
 
 pub returns : goal.returns

@@ -37,4 +37,4 @@ pub shape_of-out : goal.shape_of-out
 shape_of-out c = c.put_said-m.auto.out
 
 pub returns : goal.returns
-returns c = let f = c.frame-f in let p = c.put_said-m in (speaks c.args.line.now c.args.last.now c.args.pairs.now c.args.marks.now c.args.rows.now f.new.last f.new.pairs f.new.marks f.new.rows c.args.answers.now f.new.answers c.args.n c.requires.0 f.result c.args.number c.args.filled c.args.out.now _ p.result f.ensures.0 p.ensures, (f.ensures.1, inside _ c.args.filled c.args.out.now _ p.result p.ensures (filled-in c.args.filled c.args.out.now c.requires.2) p.auto.out))
+returns c = let f = c.frame-f in let p = c.put_said-m in record { speaks = speaks c.args.line.now c.args.last.now c.args.pairs.now c.args.marks.now c.args.rows.now f.new.last f.new.pairs f.new.marks f.new.rows c.args.answers.now f.new.answers c.args.n c.requires.0 f.result c.args.number c.args.filled c.args.out.now _ p.result f.ensures.leaves p.ensures; stands = (f.ensures.stands, inside _ c.args.filled c.args.out.now _ p.result p.ensures (filled-in c.args.filled c.args.out.now c.requires.2) p.auto.out) }

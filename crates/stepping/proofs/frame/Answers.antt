@@ -16,7 +16,7 @@ pub refuse-requires : goal.refuse-requires
 refuse-requires c = tt
 
 pub returns-then-k-eq0 : goal.returns-then-k-eq0
-returns-then-k-eq0 c = let a = c.args in let d = c.read_line-k in (hex-leaves a.line.now (slices_of a.last.now a.pairs.now a.marks.now a.rows.now) (slices_of a.last.now a.pairs.now a.marks.now a.rows.now) a.n c.requires.0.ready a.answers.now a.answers.now c.refuse.result (line-bad a.line.now (replicate 512 0) d.new.frame d.result d.ensures c.if-k-eq0.true) c.refuse.ensures, stands-same a.last.now a.pairs.now a.marks.now a.rows.now a.n c.requires.0 c.refuse.result 1 c.refuse.ensures)
+returns-then-k-eq0 c = let a = c.args in let d = c.read_line-k in record { leaves = hex-leaves a.line.now (slices_of a.last.now a.pairs.now a.marks.now a.rows.now) (slices_of a.last.now a.pairs.now a.marks.now a.rows.now) a.n c.requires.0.ready a.answers.now a.answers.now c.refuse.result (line-bad a.line.now (replicate 512 0) d.new.frame d.result d.ensures c.if-k-eq0.true) c.refuse.ensures; stands = stands-same a.last.now a.pairs.now a.marks.now a.rows.now a.n c.requires.0 c.refuse.result 1 c.refuse.ensures }
 
 pub slice_bounds-frame_bytes-count : goal.slice_bounds-frame_bytes-count
 slice_bounds-frame_bytes-count c = zero-le
@@ -46,4 +46,4 @@ pub shape_of-answers : goal.shape_of-answers
 shape_of-answers c = c.frame_bytes.auto.answers
 
 pub returns : goal.returns
-returns c = let a = c.args in let d = c.read_line-k in let y = c.frame_bytes in let w = line-leaves a.line.now (slices_of a.last.now a.pairs.now a.marks.now a.rows.now) (slices_of y.new.last y.new.pairs y.new.marks y.new.rows) a.n c.requires.0.ready a.answers.now y.new.answers y.result _ (line-good a.line.now (replicate 512 0) d.new.frame d.result d.ensures c.if-k-eq0.false) (line-bytes a.line.now (replicate 512 0) d.new.frame d.result d.ensures c.if-k-eq0.false) y.ensures in (w, stands-after a.last.now a.pairs.now a.marks.now a.rows.now a.n c.requires.0 y.result a.line.now y.new.last y.new.pairs y.new.marks y.new.rows a.answers.now y.new.answers w y.auto.last y.auto.pairs y.auto.marks y.auto.rows)
+returns c = let a = c.args in let d = c.read_line-k in let y = c.frame_bytes in let w = line-leaves a.line.now (slices_of a.last.now a.pairs.now a.marks.now a.rows.now) (slices_of y.new.last y.new.pairs y.new.marks y.new.rows) a.n c.requires.0.ready a.answers.now y.new.answers y.result _ (line-good a.line.now (replicate 512 0) d.new.frame d.result d.ensures c.if-k-eq0.false) (line-bytes a.line.now (replicate 512 0) d.new.frame d.result d.ensures c.if-k-eq0.false) y.ensures in record { leaves = w; stands = stands-after a.last.now a.pairs.now a.marks.now a.rows.now a.n c.requires.0 y.result a.line.now y.new.last y.new.pairs y.new.marks y.new.rows a.answers.now y.new.answers w y.auto.last y.auto.pairs y.auto.marks y.auto.rows }

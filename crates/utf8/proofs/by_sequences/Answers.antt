@@ -1,12 +1,8 @@
 -- `by_sequences` meets its contract. The loop's invariant: what was passed and the valid prefix from i on make up the valid prefix from the start.
 -- The measure is what is left.
 use borrow.Author.Rules.{rules}
-use mathlib.Core.Path.{◌≡◌, refl, sym, ◌∙◌}
-use Prim.Native.Nat.{◌+◌, ◌-◌, ◌≤◌}
+use mathlib.Core.Path.{refl, sym, ◌∙◌}
 use native.Mathlib.Omega.{arith}
-use lib.ListN.{length}
-use lib.Seq.{slice}
-use Rattle.utf8.specs.Utf8.{valid_prefix}
 use Rattle.utf8.proofs.Part.{pass-in, pass-step, pass-stop, pass-end}
 use Rattle.utf8.proofs.by_sequences.Goals as goal
 

@@ -1,11 +1,8 @@
 -- `clean_block` meets its contract: after k bytes, `bad` is the number of their faults.
-use borrow.Author.Rules.{rules}
-use mathlib.Core.Path.{◌≡◌, refl, ap, ◌∙◌}
-use Prim.Native.Nat.{ℕ, ◌+◌, ◌-◌, ◌≤◌}
-use native.Mathlib.Omega.{arith}
-use lib.Dec.{eqb}
+use mathlib.Core.Path.{◌≡◌}
+use Prim.Native.Nat.{◌+◌, ◌-◌, ◌≤◌}
 use lib.ListN.{length}
-use Rattle.utf8.specs.Seams.{faults, seam-le, faults-le, faults-step}
+use Rattle.utf8.specs.Seams.{faults}
 use Rattle.utf8.proofs.clean_block.Given as goal
 
 abbrev pub invariant-loop-k : goal.invariant-loop-k

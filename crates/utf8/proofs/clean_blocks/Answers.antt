@@ -1,12 +1,10 @@
 -- `clean_blocks` meets its contract: each block goes on from what is clean, and the last one begins within it.
-use borrow.Author.Rules.{rules}
 use borrow.Author.Tests.{eqb-true}
 use mathlib.Core.Path.{sym, ◌∙◌}
 use mathlib.Core.Bool.{false≢true}
-use Prim.Native.Nat.{◌+◌, ◌-◌, ◌≤◌}
+use Prim.Native.Nat.{◌+◌, ◌-◌}
 use native.Mathlib.Omega.{arith}
-use lib.ListN.{length}
-use Rattle.utf8.specs.Seams.{faults, Clean, clean-on}
+use Rattle.utf8.specs.Seams.{faults, clean-on}
 use Rattle.utf8.proofs.clean_blocks.Goals as goal
 
 pub loop-i-init : goal.loop-i-init
@@ -19,10 +17,10 @@ loop-i-preserved c = let a = c.args in
     (omega arith, omega arith, l.invariant.2, l.invariant.3, clean-on a.s.now a.from l.i l.i (l.i + 16) 16 l.invariant.4 e (omega arith) (omega arith))
 
 pub returns-else-clean_block : goal.returns-else-clean_block
-returns-else-clean_block c = absurd (false≢true h)
+returns-else-clean_block c h = absurd (false≢true h)
 
 pub returns : goal.returns
-returns c = let a = c.args in
+returns c h = let a = c.args in
     let l = c.loop-i in
     let e = eqb-true (faults a.s.now (a.to - 18) 16) 0 (sym c.clean_block-2.ensures ∙ h) in
     clean-on a.s.now a.from l.i (a.to - 18) (a.to - 2) 16 l.invariant.4 e (omega arith) (omega arith)

@@ -1,12 +1,7 @@
 -- `clean_blocks` meets its contract: each block goes on from what is clean, and the last one begins within it.
-use borrow.Author.Rules.{rules}
-use borrow.Author.Tests.{eqb-true}
-use mathlib.Core.Path.{sym, ◌∙◌}
-use mathlib.Core.Bool.{false≢true}
 use Prim.Native.Nat.{◌+◌, ◌-◌, ◌≤◌}
-use native.Mathlib.Omega.{arith}
 use lib.ListN.{length}
-use Rattle.utf8.specs.Seams.{faults, Clean, clean-on}
+use Rattle.utf8.specs.Seams.{Clean}
 use Rattle.utf8.proofs.clean_blocks.Given as goal
 
 abbrev pub invariant-loop-i : goal.invariant-loop-i

@@ -1,5 +1,4 @@
 -- `faults_of` meets its contract: the sum of the three tests, each at most 1.
-use borrow.Author.Rules.{rules}
 use mathlib.Core.Path.{ap₂, ◌∙◌}
 use native.Mathlib.Omega.{arith}
 use Rattle.utf8.specs.Seams.{unlike, fault, unlike-le, misfit-le, stray-le}

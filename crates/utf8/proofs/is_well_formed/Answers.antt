@@ -1,6 +1,5 @@
 -- `is_well_formed` meets its contract: the part is well-formed where its valid prefix ends at `to`.
 use Rattle.utf8.proofs.Part.{whole-part}
-use borrow.Author.Rules.{rules}
 use Rattle.utf8.proofs.is_well_formed.Goals as goal
 
 pub returns : goal.returns

@@ -4,7 +4,6 @@ use native.Mathlib.Omega.{arith}
 use Rattle.utf8.specs.Utf8.{table}
 use Rattle.utf8.specs.Rows.{sequence-gap, sequence-past}
 use Rattle.utf8.proofs.Part.{by-row}
-use borrow.Author.Rules.{rules}
 use Rattle.utf8.proofs.longer.Goals as goal
 
 pub returns-in-224 : goal.returns-in-224
@@ -40,7 +39,7 @@ unfolding table
 returns-in-241-to-243 c = by-row 7 _ refl (omega arith) (omega arith) c.three-in-241-to-243.ensures c.length_if-in-241-to-243.ensures
 
 pub returns-in_default : goal.returns-in_default
-returns-in_default c = sym (sequence-gap _ _ c.requires.0 c.if-first-lt194.true)
+returns-in_default c = sym (sequence-gap _ _ c.requires.0 (omega arith))
 
 pub returns-in_default-2 : goal.returns-in_default-2
 returns-in_default-2 c = sym (sequence-past _ _ (omega arith))

@@ -1,5 +1,4 @@
 -- `one` meets its contract: the test of the byte at i is the row's, and past the end no row matches.
-use borrow.Author.Rules.{rules}
 use borrow.Author.Tests.{le-leb, lt-leb}
 use mathlib.Core.Path.{sym, ◌∙◌}
 use Rattle.utf8.specs.Utf8.{◌‥◌, within}

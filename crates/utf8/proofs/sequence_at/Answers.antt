@@ -1,5 +1,4 @@
 -- `sequence_at` meets its contract: a byte below 80 is a whole sequence, and `longer` does the rest.
-use borrow.Author.Rules.{rules}
 use mathlib.Core.Path.{sym, ap, ◌∙◌}
 use Rattle.utf8.specs.Utf8.{sequence}
 use Rattle.utf8.specs.Laws.{ascii-sequence}

@@ -1,5 +1,4 @@
 -- `three` meets its contract: a row is matched where its first range and, one byte on, its rest are.
-use borrow.Author.Rules.{rules}
 use mathlib.Core.Path.{sym, ◌∙◌}
 use mathlib.Core.List.{[], ◌∷◌}
 use native.Mathlib.Omega.{arith}

@@ -1,5 +1,4 @@
 -- `valid_up_to` meets its contract: a part that is ASCII or clean is well-formed, and of any other the sequences tell.
-use borrow.Author.Rules.{rules}
 use mathlib.Core.Path.{sym, ap, ◌∙◌}
 use mathlib.Core.List.{List}
 use Prim.Native.Nat.{ℕ, ◌+◌}

@@ -1,5 +1,4 @@
 -- `letter` meets its contract: the table is the one of the definition.
-use borrow.Author.Rules.{rules}
 use mathlib.Core.Path.{refl}
 use Rattle.text.specs.Text.{ascii}
 use Rattle.writer.specs.Print.{letter_byte}

@@ -1,10 +1,9 @@
 -- `put_brackets` meets its contract. Invariant: what is left to store gives what the whole gives.
 use borrow.Author.Rules.{rules}
-use mathlib.Core.Path.{◌≡◌, refl, sym, ◌∙◌}
-use Prim.Native.Nat.{ℕ, ◌≤◌, ◌+◌, ◌-◌}
+use mathlib.Core.Path.{refl, sym, ◌∙◌}
+use Prim.Native.Nat.{ℕ}
 use native.Mathlib.Omega.{arith}
-use lib.ListN.{length, drop, replicate, length-set, length-replicate, get_or-replicate}
-use lib.Seq.{sets}
+use lib.ListN.{replicate, length-set, length-replicate, get_or-replicate}
 use Rattle.writer.specs.Store.{store-all, store-next, store-none}
 use Rattle.writer.proofs.put_brackets.Goals as goal
 

@@ -1,10 +1,9 @@
 -- `put_bytes` meets its contract. Invariant: what is left to store gives what the whole gives.
 use borrow.Author.Rules.{rules}
-use mathlib.Core.Path.{◌≡◌, refl, sym, ◌∙◌}
-use Prim.Native.Nat.{◌≤◌, ◌+◌, ◌-◌}
+use mathlib.Core.Path.{refl, sym, ◌∙◌}
 use native.Mathlib.Omega.{arith}
-use lib.ListN.{length, take, drop, length-set, length-drop}
-use lib.Seq.{sets, length-take-le, get_or-take, get_or-drop}
+use lib.ListN.{take, drop, length-set, length-drop}
+use lib.Seq.{length-take-le, get_or-take, get_or-drop}
 use Rattle.writer.specs.Store.{store-all, store-next, store-none}
 use Rattle.writer.proofs.put_bytes.Goals as goal
 

@@ -1,11 +1,8 @@
 -- `put_bytes` meets its contract. Invariant: what is left to store gives what the whole gives.
-use borrow.Author.Rules.{rules}
-use mathlib.Core.Path.{◌≡◌, refl, sym, ◌∙◌}
+use mathlib.Core.Path.{◌≡◌}
 use Prim.Native.Nat.{◌≤◌, ◌+◌, ◌-◌}
-use native.Mathlib.Omega.{arith}
-use lib.ListN.{length, take, drop, length-set, length-drop}
-use lib.Seq.{sets, length-take-le, get_or-take, get_or-drop}
-use Rattle.writer.specs.Store.{store-all, store-next, store-none}
+use lib.ListN.{length, take, drop}
+use lib.Seq.{sets}
 use Rattle.writer.proofs.put_bytes.Given as goal
 
 abbrev pub invariant-loop-i : goal.invariant-loop-i

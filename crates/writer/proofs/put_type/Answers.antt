@@ -1,5 +1,4 @@
 -- `put_type` meets its contract: the dimensions, then the base.
-use borrow.Author.Rules.{rules}
 use Prim.Native.Nat.{ℕ}
 use native.Mathlib.Omega.{arith}
 use lib.ListN.{replicate, length-replicate}

@@ -1,13 +1,11 @@
 -- `put_types` meets its contract. Invariant: what is left to store gives what the whole gives.
 use borrow.Author.Rules.{rules}
-use mathlib.Core.Path.{◌≡◌, refl, sym, ap, ◌∙◌}
-use Prim.Native.Nat.{ℕ, ◌≤◌, ◌+◌, ◌-◌}
+use mathlib.Core.Path.{refl, sym, ap, ◌∙◌}
+use Prim.Native.Nat.{ℕ, ◌+◌}
 use native.Mathlib.Omega.{arith}
-use mathlib.Core.Bool.{true}
 use mathlib.Core.List.{List}
 use lib.ListN.{length, drop, get_or, length-append}
 use lib.Seq.{sets}
-use Rattle.ty.specs.Words.{all_legal}
 use Rattle.writer.specs.Print.{print_word, print_words}
 use Rattle.writer.specs.Store.{put-before, put-length}
 use Rattle.writer.specs.Steps.{legal-front, words-next, words-none}

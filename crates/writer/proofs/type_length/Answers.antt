@@ -1,5 +1,4 @@
 -- `type_length` meets its contract.
-use borrow.Author.Rules.{rules}
 use native.Mathlib.Omega.{arith}
 use lib.ListN.{length}
 use Rattle.ty.specs.Words.{load_of}

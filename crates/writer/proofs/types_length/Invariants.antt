@@ -1,12 +1,10 @@
 -- `types_length` meets its contract. Invariant: the sum so far and what is left make the whole.
-use borrow.Author.Rules.{rules}
 use mathlib.Core.Path.{◌≡◌}
 use Prim.Native.Nat.{◌≤◌, ◌+◌, ◌-◌, ◌*◌}
-use native.Mathlib.Omega.{arith}
 use mathlib.Core.Bool.{true}
 use lib.ListN.{length, drop}
 use Rattle.ty.specs.Words.{all_legal}
-use Rattle.writer.specs.Steps.{words_size, size-next, size-none, legal-front}
+use Rattle.writer.specs.Steps.{words_size}
 use Rattle.writer.proofs.types_length.Given as goal
 
 abbrev pub invariant-loop-i : goal.invariant-loop-i

@@ -1,5 +1,4 @@
 -- `write_method` meets its contract: the names' refusal first.
-use borrow.Author.Rules.{rules}
 use mathlib.Core.Path.{sym, ◌∙◌}
 use lib.ListN.{length}
 use Rattle.names.specs.Table.{checked}
@@ -9,7 +8,7 @@ use Rattle.writer.proofs.write_method.Goals as goal
 pub returns-then-refusal-ne0 : goal.returns-then-refusal-ne0
 returns-then-refusal-ne0 c = let a = c.args in
     let k = c.check_names-refusal in
-    wrote-none k.result (method-unnamed a.names.now a.name_at.now a.name_len.now k.result k.ensures a.params.now a.result (length a.out.now) c.if-refusal-ne0.true)
+    wrote-none k.result (method-unnamed a.names.now a.name_at.now a.name_len.now k.result k.ensures a.params.now a.res (length a.out.now) c.if-refusal-ne0.true)
     c.if-refusal-ne0.true c.refused.ensures
 
 pub write_checked_method-requires : goal.write_checked_method-requires
@@ -19,5 +18,5 @@ write_checked_method-requires c = let a = c.args in
 pub returns : goal.returns
 returns c = let a = c.args in
     let k = c.check_names-refusal in
-    wrote-as (method-named a.names.now a.name_at.now a.name_len.now k.result k.ensures a.params.now a.result (length a.out.now) c.if-refusal-ne0.false)
+    wrote-as (method-named a.names.now a.name_at.now a.name_len.now k.result k.ensures a.params.now a.res (length a.out.now) c.if-refusal-ne0.false)
     c.write_checked_method.ensures

@@ -1,5 +1,4 @@
 -- `write_type` meets its contract: the names' refusal first.
-use borrow.Author.Rules.{rules}
 use mathlib.Core.Path.{sym, ◌∙◌}
 use lib.ListN.{length}
 use Rattle.names.specs.Table.{checked}
