@@ -149,7 +149,15 @@ fn piece(
     let used = input::append(line, s.used, part);
     if is_whole {
         return whole(
-            output, s, &line[0..used], last, pairs, marks, rows, answers, out,
+            output,
+            s,
+            &line[0..used],
+            last,
+            pairs,
+            marks,
+            rows,
+            answers,
+            out,
         );
     }
     Ok(s.with_used(used))
@@ -224,7 +232,16 @@ fn some(
         return Ok(s.at_end());
     }
     feed(
-        output, s, &chunk[..n], line, last, pairs, marks, rows, answers, out,
+        output,
+        s,
+        &chunk[..n],
+        line,
+        last,
+        pairs,
+        marks,
+        rows,
+        answers,
+        out,
     )
 }
 
@@ -247,7 +264,15 @@ fn finish(
         return output::flush(output, out, s.filled);
     }
     let t = whole(
-        output, s, &line[0..used], last, pairs, marks, rows, answers, out,
+        output,
+        s,
+        &line[0..used],
+        last,
+        pairs,
+        marks,
+        rows,
+        answers,
+        out,
     )?;
     output::flush(output, out, t.filled)
 }

@@ -1,16 +1,11 @@
 -- `fill` meets its contract: what leads through a class that is not left is there.
-use borrow.Author.Rules.{rules}
-use native.Mathlib.Omega.{arith}
-use mathlib.Core.Path.{◌≡◌, sym, ap, ◌∙◌}
-use Prim.Native.Nat.{ℕ, ◌≤◌}
-use lib.ListN.{length, length-replicate}
+use mathlib.Core.Path.{◌≡◌}
+use Prim.Native.Nat.{◌≤◌}
+use lib.ListN.{length}
 use Rattle.sets.specs.Sets.{at, members, first}
-use Rattle.sets.specs.Bits.{first-le}
-use Rattle.sets.proofs.Good.{array-length}
-use Rattle.view.specs.Frontier.{left-less}
-use Rattle.tables.specs.Table.{view_of, view-good}
+use Rattle.tables.specs.Table.{view_of}
 use Rattle.ancestry.specs.Rows.{rows_room}
-use Rattle.ancestry.specs.Closure.{Closing, closing-start, closing-next, closing-end}
+use Rattle.ancestry.specs.Closure.{Closing}
 use Rattle.ancestry.proofs.fill.Given as goal
 
 abbrev pub invariant-loop-k : goal.invariant-loop-k

@@ -1,5 +1,4 @@
 -- `is_in` meets its contract: it reads the digit of one word.
-use borrow.Author.Rules.{rules}
 use native.Mathlib.Omega.{arith}
 use mathlib.Core.Path.{sym, ap}
 use Prim.Native.Nat.{ℕ}
@@ -10,5 +9,6 @@ use Rattle.ancestry.proofs.is_in.Goals as goal
 
 pub returns : goal.returns
 unfolding member bit
-returns c = let a = c.args in
+returns c =
+    let a = c.args in
     ap (λ (n : ℕ). eqb n 1) (sym (mark-at a.rows.now a.c a.d (omega arith)))

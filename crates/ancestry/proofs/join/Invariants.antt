@@ -1,11 +1,8 @@
 -- `join` meets its contract: at word k the words below k are joined.
-use borrow.Author.Rules.{rules}
-use native.Mathlib.Omega.{arith}
-use mathlib.Core.Path.{◌≡◌, refl}
-use Prim.Native.Nat.{◌+◌, ◌-◌, ◌*◌, ◌<◌}
+use mathlib.Core.Path.{◌≡◌}
+use Prim.Native.Nat.{◌-◌, ◌*◌, ◌<◌}
 use lib.ListN.{length}
-use Rattle.sets.proofs.Good.{array-length}
-use Rattle.ancestry.specs.Rows.{rows_room, Joining, joining-start, joining-more, joining-end}
+use Rattle.ancestry.specs.Rows.{rows_room, Joining}
 use Rattle.ancestry.proofs.join.Given as goal
 
 abbrev pub invariant-loop-k : goal.invariant-loop-k

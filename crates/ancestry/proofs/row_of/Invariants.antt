@@ -1,10 +1,8 @@
 -- `row_of` meets its contract: the words below i are copied.
-use borrow.Author.Rules.{rules}
-use native.Mathlib.Omega.{arith}
-use mathlib.Core.Path.{◌≡◌, refl}
-use Prim.Native.Nat.{◌+◌, ◌-◌, ◌*◌, ◌<◌}
+use mathlib.Core.Path.{◌≡◌}
+use Prim.Native.Nat.{◌-◌, ◌*◌, ◌<◌}
 use lib.ListN.{length}
-use Rattle.ancestry.specs.Rows.{rows_room, Copied, copied-more, copied-all}
+use Rattle.ancestry.specs.Rows.{rows_room, Copied}
 use Rattle.ancestry.proofs.row_of.Given as goal
 
 abbrev pub invariant-loop-i : goal.invariant-loop-i

@@ -1,18 +1,16 @@
 -- `spread` meets its contract: only the front is left to expand, and with each turn more is expanded.
-use borrow.Author.Rules.{rules}
 use native.Mathlib.Omega.{arith}
 use mathlib.Core.Path.{◌≡◌}
-use Prim.Native.Nat.{◌-◌}
-use lib.ListN.{length}
-use Rattle.sets.specs.Sets.{at, subtract, members, first}
+use Rattle.sets.specs.Sets.{at, first}
 use Rattle.sets.specs.Bits.{first-le}
 use Rattle.sets.proofs.Good.{array-length, array-fits}
 use Rattle.tables.specs.Table.{view_of, view-good}
-use Rattle.ancestry.specs.Spread.{Spreading, spreading-start, spreading-next, spreading-less, spreading-end}
+use Rattle.ancestry.specs.Spread.{spreading-start, spreading-next, spreading-less, spreading-end}
 use Rattle.ancestry.proofs.spread.Goals as goal
 
 pub loop-c-init : goal.loop-c-init
-loop-c-init c = let a = c.args in
+loop-c-init c =
+    let a = c.args in
     let p = c.requires in
     let w = c.well_formed.1.1.1.0.1.1.0 in (
       c.lowest-c.ensures,
@@ -21,14 +19,16 @@ loop-c-init c = let a = c.args in
     )
 
 pub loop-c-smaller : goal.loop-c-smaller
-loop-c-smaller c = let a = c.args in
+loop-c-smaller c =
+    let a = c.args in
     let p = c.requires in
     let l = c.loop-c in
     spreading-less (view_of a.pairs.now a.marks.now a.t) (view-good a.pairs.now a.marks.now a.t p.0 p.1) a.s.words p.2 l.seen.words l.front.words l.invariant.1
     c.expand-next.result.words c.difference-front.result.words c.expand-next.ensures c.difference-front.ensures l.c l.invariant.0 (omega arith)
 
 pub loop-c-preserved : goal.loop-c-preserved
-loop-c-preserved c = let a = c.args in
+loop-c-preserved c =
+    let a = c.args in
     let p = c.requires in
     let l = c.loop-c in (
       c.lowest-c-in-loop-c.ensures,
@@ -37,7 +37,8 @@ loop-c-preserved c = let a = c.args in
     )
 
 pub returns : goal.returns
-returns c = let a = c.args in
+returns c =
+    let a = c.args in
     let p = c.requires in
     let l = c.loop-c in
     let e = l.invariant.0 in

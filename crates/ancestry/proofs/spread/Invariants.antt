@@ -1,14 +1,10 @@
 -- `spread` meets its contract: only the front is left to expand, and with each turn more is expanded.
-use borrow.Author.Rules.{rules}
-use native.Mathlib.Omega.{arith}
 use mathlib.Core.Path.{◌≡◌}
 use Prim.Native.Nat.{◌-◌}
 use lib.ListN.{length}
 use Rattle.sets.specs.Sets.{at, subtract, members, first}
-use Rattle.sets.specs.Bits.{first-le}
-use Rattle.sets.proofs.Good.{array-length, array-fits}
-use Rattle.tables.specs.Table.{view_of, view-good}
-use Rattle.ancestry.specs.Spread.{Spreading, spreading-start, spreading-next, spreading-less, spreading-end}
+use Rattle.tables.specs.Table.{view_of}
+use Rattle.ancestry.specs.Spread.{Spreading}
 use Rattle.ancestry.proofs.spread.Given as goal
 
 abbrev pub invariant-loop-c : goal.invariant-loop-c

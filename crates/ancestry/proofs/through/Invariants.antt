@@ -1,10 +1,8 @@
 -- `through` meets its contract: the rows below i are done.
-use borrow.Author.Rules.{rules}
-use native.Mathlib.Omega.{arith}
-use mathlib.Core.Path.{◌≡◌, sym, ◌∙◌}
+use mathlib.Core.Path.{◌≡◌}
 use Prim.Native.Nat.{◌-◌, ◌≤◌, ◌<◌}
 use lib.ListN.{length}
-use Rattle.ancestry.specs.Rows.{rows_room, row, Passing, passing-start, passing-more, passing-end}
+use Rattle.ancestry.specs.Rows.{rows_room, row, Passing}
 use Rattle.ancestry.proofs.through.Given as goal
 
 abbrev pub invariant-loop-i : goal.invariant-loop-i

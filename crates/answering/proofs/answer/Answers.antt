@@ -1,5 +1,4 @@
 -- `answer` meets its contract: the copy from the component's own keys stands for its state.
-use borrow.Author.Rules.{rules}
 use mathlib.Core.Path.{ap, ◌∙◌}
 use native.Mathlib.Omega.{arith}
 use Rattle.ty.specs.Answers.{maybe_word}
@@ -10,27 +9,32 @@ use Rattle.answering.specs.FromFinal.{final-sorted, parts-order, parts-legal, pa
 use Rattle.answering.proofs.answer.Goals as goal
 
 pub offset_bounds-keys-first : goal.offset_bounds-keys-first
-offset_bounds-keys-first c = let x = c.args in
+offset_bounds-keys-first c =
+    let x = c.args in
     let p = c.requires in
     omega (arith, cut-within x.component x.keys.now (final-sorted x.t p.0.1 x.keys.now p.1) c.run-of.result c.run-of.ensures)
 
 pub slice_bounds-copy_state-count : goal.slice_bounds-copy_state-count
-slice_bounds-copy_state-count c = let x = c.args in
+slice_bounds-copy_state-count c =
+    let x = c.args in
     let p = c.requires in
     omega (arith, cut-within x.component x.keys.now (final-sorted x.t p.0.1 x.keys.now p.1) c.run-of.result c.run-of.ensures)
 
 pub slice_bounds-copy_state-start : goal.slice_bounds-copy_state-start
-slice_bounds-copy_state-start c = let x = c.args in
+slice_bounds-copy_state-start c =
+    let x = c.args in
     let p = c.requires in
     omega (arith, cut-within x.component x.keys.now (final-sorted x.t p.0.1 x.keys.now p.1) c.run-of.result c.run-of.ensures)
 
 pub slice_bounds-copy_state-end : goal.slice_bounds-copy_state-end
-slice_bounds-copy_state-end c = let x = c.args in
+slice_bounds-copy_state-end c =
+    let x = c.args in
     let p = c.requires in
     omega (arith, cut-within x.component x.keys.now (final-sorted x.t p.0.1 x.keys.now p.1) c.run-of.result c.run-of.ensures)
 
 pub copy_state-p-requires : goal.copy_state-p-requires
-copy_state-p-requires c = let x = c.args in
+copy_state-p-requires c =
+    let x = c.args in
     let p = c.requires in
     let r = c.run-of in
     let s = final-sorted x.t p.0.1 x.keys.now p.1 in (
@@ -40,7 +44,8 @@ copy_state-p-requires c = let x = c.args in
     )
 
 pub answer_from-requires : goal.answer_from-requires
-answer_from-requires c = let x = c.args in
+answer_from-requires c =
+    let x = c.args in
     let p = c.requires in
     let r = c.run-of in
     let o = c.copy_state-p in
@@ -53,7 +58,8 @@ answer_from-requires c = let x = c.args in
     )
 
 pub returns : goal.returns
-returns c = let x = c.args in
+returns c =
+    let x = c.args in
     let p = c.requires in
     let r = c.run-of in
     let o = c.copy_state-p in

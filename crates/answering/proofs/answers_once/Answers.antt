@@ -1,8 +1,7 @@
 -- `answers_once` meets its contract: after i steps the first i answers stand at the front, and the places tell which components they are of.
-use borrow.Author.Rules.{rules}
 use mathlib.Core.Path.{◌≡◌, refl, ap, ◌∙◌}
 use mathlib.Core.List.{List}
-use Prim.Native.Nat.{ℕ, ◌-◌, ◌≤◌}
+use Prim.Native.Nat.{ℕ}
 use native.Mathlib.Omega.{arith}
 use lib.ListN.{length, get_or, set, length-set}
 use lib.Seq.{paste, paste-zero}
@@ -10,11 +9,12 @@ use Rattle.lattice.specs.World.{world_of}
 use Rattle.passing.specs.Steps.{below-at}
 use Rattle.answering.specs.Answering.{table_in, answer_words}
 use Rattle.answering.specs.FromFinal.{answer-more}
-use Rattle.answering.specs.Once.{Places, places-none, places-next, stands}
+use Rattle.answering.specs.Once.{places-none, places-next, stands}
 use Rattle.answering.proofs.answers_once.Goals as goal
 
 pub loop-i-init : goal.loop-i-init
-loop-i-init c = let x = c.args in
+loop-i-init c =
+    let x = c.args in
     let p = c.requires in
     (omega arith, refl, refl, paste-zero x.into.now 0 (answer_words (world_of x.pairs.now x.marks.now x.t) (table_in x.keys.now) x.variables.now), places-none x.variables.now x.places.now p.5, refl)
 
@@ -25,7 +25,8 @@ pub bounds-places-k : goal.bounds-places-k
 bounds-places-k c = omega (arith, below-at 512 c.args.variables.now c.loop-i.i c.requires.2 (omega arith), c.loop-i.invariant.4.size)
 
 pub word_of-requires : goal.word_of-requires
-word_of-requires c = let x = c.args in
+word_of-requires c =
+    let x = c.args in
     let p = c.requires in
     let l = c.loop-i in (
       p.0,
@@ -42,7 +43,8 @@ pub bounds-places-k-in-loop-i : goal.bounds-places-k-in-loop-i
 bounds-places-k-in-loop-i c = omega (arith, below-at 512 c.args.variables.now c.loop-i.i c.requires.2 (omega arith), c.loop-i.invariant.4.size)
 
 pub loop-i-preserved : goal.loop-i-preserved
-loop-i-preserved c = let x = c.args in
+loop-i-preserved c =
+    let x = c.args in
     let p = c.requires in
     let l = c.loop-i in
     let o = c.word_of in
@@ -57,6 +59,7 @@ loop-i-preserved c = let x = c.args in
     )
 
 pub returns : goal.returns
-returns c = let x = c.args in
+returns c =
+    let x = c.args in
     let l = c.loop-i in
     l.invariant.3 ∙ ap (paste x.into.now 0 (answer_words (world_of x.pairs.now x.marks.now x.t) (table_in x.keys.now) x.variables.now)) (let e : l.i ≡ length x.variables.now = omega arith in e)

@@ -1,16 +1,11 @@
 -- `answers_once` meets its contract: after i steps the first i answers stand at the front, and the places tell which components they are of.
-use borrow.Author.Rules.{rules}
-use mathlib.Core.Path.{◌≡◌, refl, ap, ◌∙◌}
-use mathlib.Core.List.{List}
-use Prim.Native.Nat.{ℕ, ◌-◌, ◌≤◌}
-use native.Mathlib.Omega.{arith}
-use lib.ListN.{length, get_or, set, length-set}
-use lib.Seq.{paste, paste-zero}
+use mathlib.Core.Path.{◌≡◌}
+use Prim.Native.Nat.{◌-◌, ◌≤◌}
+use lib.ListN.{length}
+use lib.Seq.{paste}
 use Rattle.lattice.specs.World.{world_of}
-use Rattle.passing.specs.Steps.{below-at}
 use Rattle.answering.specs.Answering.{table_in, answer_words}
-use Rattle.answering.specs.FromFinal.{answer-more}
-use Rattle.answering.specs.Once.{Places, places-none, places-next, stands}
+use Rattle.answering.specs.Once.{Places}
 use Rattle.answering.proofs.answers_once.Given as goal
 
 abbrev pub invariant-loop-i : goal.invariant-loop-i

@@ -1,5 +1,4 @@
 -- `word_of` meets its contract: what stands there already, or the answer anew.
-use borrow.Author.Rules.{rules}
 use mathlib.Core.Path.{ap, ◌∙◌}
 use native.Mathlib.Omega.{arith}
 use Rattle.lattice.specs.World.{world_of}
@@ -18,5 +17,6 @@ pub returns-then-seen-ne0 : goal.returns-then-seen-ne0
 returns-then-seen-ne0 c = (c.requires.4 c.if-seen-ne0.true).1
 
 pub returns : goal.returns
-returns c = let x = c.args in
+returns c =
+    let x = c.args in
     c.word_in.ensures ∙ ap number_in c.answer-m.ensures ∙ number-word (resolve_state (world_of x.pairs.now x.marks.now x.t) (state_of (table_in x.keys.now) x.component))

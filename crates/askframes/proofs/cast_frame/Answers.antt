@@ -1,5 +1,4 @@
 -- `cast_frame` meets its contract.
-use borrow.Author.Rules.{rules}
 use mathlib.Core.Path.{ap, ap₂, ◌∙◌}
 use mathlib.Core.Bool.{Bool, cond}
 use Prim.Native.Nat.{ℕ}
@@ -11,11 +10,13 @@ use Rattle.askframes.specs.AskFrames.{asked-none, asked-some, same-refusal}
 use Rattle.askframes.proofs.cast_frame.Goals as goal
 
 pub returns-then-refusal-ne0 : goal.returns-then-refusal-ne0
-returns-then-refusal-ne0 c = let a = c.args in
+returns-then-refusal-ne0 c =
+    let a = c.args in
     asked-none _ _ a.n _ (c.check_ask-refusal.ensures ∙ same-refusal a.n.stack.tables _ _ _ _ c.number_at-a.ensures.0 c.number_at-b.ensures.0) _ c.refuse.ensures c.if-refusal-ne0.true
 
 pub returns : goal.returns
-returns c = let a = c.args in
+returns c =
+    let a = c.args in
     let x = c.number_at-a.ensures.0 in
     let y = c.number_at-b.ensures.0 in
     asked-some _ _ a.n _ (c.check_ask-refusal.ensures ∙ same-refusal a.n.stack.tables _ _ _ _ x y) _ _ c.say.ensures (omega arith)

@@ -1,5 +1,4 @@
 -- `say` meets its contract.
-use borrow.Author.Rules.{rules}
 use mathlib.Core.Path.{ap}
 use Rattle.framestate.specs.FrameState.{framed}
 use Rattle.askframes.proofs.say.Goals as goal

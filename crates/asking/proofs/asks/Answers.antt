@@ -1,8 +1,8 @@
 -- `asks` meets its contract: both tests.
-use borrow.Author.Rules.{rules}
 use Rattle.asking.proofs.asks.Goals as goal
 
 pub returns : goal.returns
-returns c = let p = c.asks_produced-produced.ensures in
+returns c =
+    let p = c.asks_produced-produced.ensures in
     let e = c.asks_element-element.ensures in
     λ i. record { produced = p i; element = e i }

@@ -7,9 +7,11 @@ use borrow.Author.Tests.{eq-eqb, ne_eqb}
 use Rattle.asking.proofs.has_side.Goals as goal
 
 pub returns-then-link-root : goal.returns-then-link-root
-returns-then-link-root c = let x = c.args in
+returns-then-link-root c =
+    let x = c.args in
     sym (ap (λ (b : Bool). b || eqb (x.link % 512) x.root) (eq-eqb (x.link / 512) x.root c.if-link-root.true))
 
 pub returns : goal.returns
-returns c = let x = c.args in
+returns c =
+    let x = c.args in
     sym (ap (λ (b : Bool). b || eqb (x.link % 512) x.root) (ne_eqb (x.link / 512) x.root c.if-link-root.false))

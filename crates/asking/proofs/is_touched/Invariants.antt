@@ -1,14 +1,10 @@
 -- `is_touched` meets its contract. Invariant: what is left to test says what the whole says.
-use borrow.Author.Rules.{rules}
-use mathlib.Core.Path.{◌≡◌, sym, ◌∙◌}
-use mathlib.Core.Bool.{true, false}
+use mathlib.Core.Path.{◌≡◌}
 use mathlib.Core.List.{map}
 use Prim.Native.Nat.{◌≤◌, ◌-◌}
-use native.Mathlib.Omega.{arith}
 use lib.ListN.{length, drop}
 use Rattle.solving.specs.LinkKeys.{pair_of}
 use Rattle.asking.specs.Asking.{touches}
-use Rattle.asking.specs.Steps.{touches-next, touches-end}
 use Rattle.asking.proofs.is_touched.Given as goal
 
 abbrev pub invariant-loop-i : goal.invariant-loop-i

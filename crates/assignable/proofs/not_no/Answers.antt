@@ -1,5 +1,4 @@
 -- `not_no` meets its contract.
-use borrow.Author.Rules.{rules}
 use mathlib.Core.Path.{sym, ap}
 use Rattle.lattice.specs.Lattice.{not_no}
 use Rattle.assignable.proofs.not_no.Goals as goal

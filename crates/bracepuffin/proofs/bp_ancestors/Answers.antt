@@ -1,5 +1,4 @@
 -- `bp_ancestors` meets its contract: the answer of the question, and the work that it leaves.
-use borrow.Author.Rules.{rules}
 use mathlib.Core.Path.{ap, ◌∙◌}
 use Rattle.questions.specs.Questions.{ancestors_of}
 use Rattle.bracepuffin.specs.Boundary.{set_answer, ancestors_told}

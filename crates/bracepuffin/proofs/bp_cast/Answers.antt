@@ -1,5 +1,4 @@
 -- `bp_cast` meets its contract: the answer of the question, and the work that it leaves.
-use borrow.Author.Rules.{rules}
 use mathlib.Core.Path.{ap, ◌∙◌}
 use Rattle.questions.specs.Questions.{value_of, answer_of}
 use Rattle.bracepuffin.specs.Boundary.{number_answer, cast_told}

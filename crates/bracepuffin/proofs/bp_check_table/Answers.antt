@@ -1,5 +1,4 @@
 -- `bp_check_table` meets its contract: the answer of the check.
-use borrow.Author.Rules.{rules}
 use mathlib.Core.Path.{ap, ◌∙◌}
 use Rattle.bracepuffin.specs.Boundary.{check_answer}
 use Rattle.bracepuffin.proofs.bp_check_table.Goals as goal

@@ -1,5 +1,4 @@
 -- `bp_lookup` meets its contract: the answer of what is looked up.
-use borrow.Author.Rules.{rules}
 use mathlib.Core.Path.{ap, ◌∙◌}
 use Rattle.bracepuffin.specs.Boundary.{found_answer}
 use Rattle.bracepuffin.proofs.bp_lookup.Goals as goal

@@ -1,5 +1,4 @@
 -- `bp_read_method` meets its contract: the answer of what is read, and the parameter slice that the reader leaves.
-use borrow.Author.Rules.{rules}
 use mathlib.Core.Path.{ap, ◌∙◌}
 use Rattle.bracepuffin.specs.Boundary.{bp_method}
 use Rattle.bracepuffin.proofs.bp_read_method.Goals as goal

@@ -1,5 +1,4 @@
 -- `bp_read_type_strict` meets its contract: the answer of what is read.
-use borrow.Author.Rules.{rules}
 use mathlib.Core.Path.{ap, ◌∙◌}
 use Rattle.bracepuffin.specs.Boundary.{type_answer}
 use Rattle.bracepuffin.proofs.bp_read_type_strict.Goals as goal

@@ -1,5 +1,4 @@
 -- `bp_write_type` meets its contract: the answer of the writer, and the output that it leaves.
-use borrow.Author.Rules.{rules}
 use mathlib.Core.Path.{ap, ◌∙◌}
 use Rattle.bracepuffin.specs.Boundary.{written_answer}
 use Rattle.bracepuffin.proofs.bp_write_type.Goals as goal

@@ -1,5 +1,4 @@
 -- `method_answer` meets its contract, by the base.
-use borrow.Author.Rules.{rules}
 use mathlib.Core.Path.{sym, ap}
 use Rattle.bracepuffin.specs.Boundary.{bp_method_of}
 use Rattle.bracepuffin.proofs.method_answer.Goals as goal

@@ -1,5 +1,4 @@
 -- `type_answer` meets its contract, by what was read.
-use borrow.Author.Rules.{rules}
 use mathlib.Core.Path.{sym, ap, ◌∙◌}
 use Rattle.bracepuffin.specs.Boundary.{type_answer}
 use Rattle.bracepuffin.proofs.type_answer.Goals as goal

@@ -1,5 +1,4 @@
 -- `type_found` meets its contract, by the base.
-use borrow.Author.Rules.{rules}
 use mathlib.Core.Path.{sym, ap}
 use Rattle.bracepuffin.specs.Boundary.{type_found}
 use Rattle.bracepuffin.proofs.type_found.Goals as goal

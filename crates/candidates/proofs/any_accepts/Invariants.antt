@@ -1,13 +1,11 @@
 -- `any_accepts` meets its contract: what is left to ask is the question of the words from `i` on.
-use borrow.Author.Rules.{rules}
-use mathlib.Core.Path.{◌≡◌, refl, sym, ◌∙◌}
+use mathlib.Core.Path.{◌≡◌}
 use mathlib.Core.List.{map}
 use Prim.Native.Nat.{◌-◌, ◌≤◌}
-use native.Mathlib.Omega.{arith}
 use lib.ListN.{length}
 use Rattle.ty.specs.Words.{type_of}
 use Rattle.lattice.specs.Lattice.{any_accepts}
-use Rattle.candidates.specs.Steps.{types_from, any-here, any-later, any-end}
+use Rattle.candidates.specs.Steps.{types_from}
 use Rattle.candidates.proofs.any_accepts.Given as goal
 
 abbrev pub invariant-loop-i : goal.invariant-loop-i

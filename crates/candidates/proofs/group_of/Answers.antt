@@ -1,9 +1,8 @@
 -- `group_of` meets its contract: the group is that of the bounds from `i` on, and one that refuses refuses for all.
-use borrow.Author.Rules.{rules}
 use mathlib.Core.Path.{◌≡◌, refl, sym, ◌∙◌, subst}
 use mathlib.Core.Bool.{Bool, true, false}
 use mathlib.Core.List.{List, ◌∷◌, map}
-use Prim.Native.Nat.{ℕ, ◌-◌, ◌≤◌}
+use Prim.Native.Nat.{ℕ, ◌-◌}
 use native.Mathlib.Omega.{arith}
 use lib.ListN.{length, get_or}
 use Rattle.ty.specs.Types.{ArgType}
@@ -24,12 +23,14 @@ loop-i-init c = let a = c.args in (
 )
 
 pub with_other-next-requires : goal.with_other-next-requires
-with_other-next-requires c = let p = c.requires in
+with_other-next-requires c =
+    let p = c.requires in
     let l = c.loop-i in
     (p.0, (p.1, p.2, sym l.invariant.1), p.3 (l.i - 1) (omega arith))
 
 pub loop-i-preserved : goal.loop-i-preserved
-loop-i-preserved c = let a = c.args in
+loop-i-preserved c =
+    let a = c.args in
     let l = c.loop-i in
     let n = c.with_other-next in
     let w = world_of a.pairs.now a.marks.now a.t in (
@@ -43,7 +44,8 @@ loop-i-preserved c = let a = c.args in
     )
 
 pub returns-else-next : goal.returns-else-next
-returns-else-next c = let a = c.args in
+returns-else-next c =
+    let a = c.args in
     let l = c.loop-i in
     let n = c.with_other-next in
     let w = world_of a.pairs.now a.marks.now a.t in (
@@ -57,7 +59,8 @@ returns-else-next c = let a = c.args in
     )
 
 pub returns : goal.returns
-returns c = let a = c.args in
+returns c =
+    let a = c.args in
     let l = c.loop-i in
     let w = world_of a.pairs.now a.marks.now a.t in (
       l.invariant.1,

@@ -1,16 +1,11 @@
 -- `group_of` meets its contract: the group is that of the bounds from `i` on, and one that refuses refuses for all.
-use borrow.Author.Rules.{rules}
-use mathlib.Core.Path.{◌≡◌, refl, sym, ◌∙◌, subst}
-use mathlib.Core.Bool.{Bool, true, false}
-use mathlib.Core.List.{List, ◌∷◌, map}
-use Prim.Native.Nat.{ℕ, ◌-◌, ◌≤◌}
-use native.Mathlib.Omega.{arith}
-use lib.ListN.{length, get_or}
-use Rattle.ty.specs.Types.{ArgType}
-use Rattle.ty.specs.Words.{type_of}
+use mathlib.Core.Path.{◌≡◌}
+use mathlib.Core.Bool.{true}
+use Prim.Native.Nat.{◌≤◌}
+use lib.ListN.{length}
 use Rattle.lattice.specs.World.{world_of}
-use Rattle.candidates.specs.Steps.{types_from, types-before, types-end}
-use Rattle.candidates.specs.Groups.{head_of, Grouped, grouped-none, grouped-shut}
+use Rattle.candidates.specs.Steps.{types_from}
+use Rattle.candidates.specs.Groups.{head_of, Grouped}
 use Rattle.candidates.proofs.group_of.Given as goal
 
 abbrev pub invariant-loop-i : goal.invariant-loop-i

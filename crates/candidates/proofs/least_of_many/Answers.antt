@@ -1,9 +1,8 @@
 -- `least_of_many` meets its contract: the best so far is the least hint of the bounds from `i` on.
-use borrow.Author.Rules.{rules}
 use mathlib.Core.Path.{◌≡◌, sym, ap, ◌∙◌}
 use mathlib.Core.List.{map}
 use mathlib.Core.Option.{Option}
-use Prim.Native.Nat.{ℕ, ◌-◌, ◌≤◌}
+use Prim.Native.Nat.{ℕ, ◌-◌}
 use native.Mathlib.Omega.{arith}
 use lib.ListN.{length, get_or}
 use Rattle.ty.specs.Types.{ArgType, concrete_hint}
@@ -13,11 +12,12 @@ use Rattle.lattice.specs.Lattice.{candidate, least_hint, most_specific_upper}
 use Rattle.lattice.specs.World.{world_of}
 use Rattle.candidates.specs.Maybe.{maybe-word}
 use Rattle.candidates.specs.Steps.{types_from, least-end, least-step}
-use Rattle.candidates.specs.Groups.{BestOf, grouped-zero, best-along, best-itself}
+use Rattle.candidates.specs.Groups.{grouped-zero, best-along, best-itself}
 use Rattle.candidates.proofs.least_of_many.Goals as goal
 
 pub loop-i-init : goal.loop-i-init
-loop-i-init c = let a = c.args in
+loop-i-init c =
+    let a = c.args in
     let w = world_of a.pairs.now a.marks.now a.t in (
       omega arith,
       record {
@@ -28,13 +28,15 @@ loop-i-init c = let a = c.args in
     )
 
 pub with_any_bound-b-requires : goal.with_any_bound-b-requires
-with_any_bound-b-requires c = let p = c.requires in
+with_any_bound-b-requires c =
+    let p = c.requires in
     let a = c.args in
     let l = c.loop-i in
     (p.0, p.1, p.2, p.2 (l.i - 1) (omega arith), best-itself (world_of a.pairs.now a.marks.now a.t) (map type_of a.upper.now) l.b.best l.b.group.head l.b.group.rest l.b.group.classes.words l.invariant.1)
 
 pub loop-i-preserved : goal.loop-i-preserved
-loop-i-preserved c = let a = c.args in
+loop-i-preserved c =
+    let a = c.args in
     let l = c.loop-i in
     let b = c.with_any_bound-b.result in
     let w = world_of a.pairs.now a.marks.now a.t in (
@@ -46,7 +48,8 @@ loop-i-preserved c = let a = c.args in
 
 pub returns : goal.returns
 unfolding most_specific_upper
-returns c = let a = c.args in
+returns c =
+    let a = c.args in
     let l = c.loop-i in
     maybe-word l.b.best l.invariant.1.legal
     ∙ ap maybe_word (l.invariant.1.type ∙ ap (λ (k : ℕ). least_hint (world_of a.pairs.now a.marks.now a.t) (map type_of a.upper.now) (types_from k a.upper.now)) (let q : l.i ≡ 0 = omega arith in q))

@@ -1,19 +1,12 @@
 -- `least_of_many` meets its contract: the best so far is the least hint of the bounds from `i` on.
-use borrow.Author.Rules.{rules}
-use mathlib.Core.Path.{◌≡◌, sym, ap, ◌∙◌}
 use mathlib.Core.List.{map}
-use mathlib.Core.Option.{Option}
-use Prim.Native.Nat.{ℕ, ◌-◌, ◌≤◌}
-use native.Mathlib.Omega.{arith}
-use lib.ListN.{length, get_or}
-use Rattle.ty.specs.Types.{ArgType, concrete_hint}
+use Prim.Native.Nat.{◌≤◌}
+use lib.ListN.{length}
 use Rattle.ty.specs.Words.{type_of}
-use Rattle.ty.specs.Answers.{maybe_word}
-use Rattle.lattice.specs.Lattice.{candidate, least_hint, most_specific_upper}
+use Rattle.lattice.specs.Lattice.{least_hint}
 use Rattle.lattice.specs.World.{world_of}
-use Rattle.candidates.specs.Maybe.{maybe-word}
-use Rattle.candidates.specs.Steps.{types_from, least-end, least-step}
-use Rattle.candidates.specs.Groups.{BestOf, grouped-zero, best-along, best-itself}
+use Rattle.candidates.specs.Steps.{types_from}
+use Rattle.candidates.specs.Groups.{BestOf}
 use Rattle.candidates.proofs.least_of_many.Given as goal
 
 abbrev pub invariant-loop-i : goal.invariant-loop-i

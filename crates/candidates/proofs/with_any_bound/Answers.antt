@@ -1,5 +1,4 @@
 -- `with_any_bound` meets its contract: the hint is a legal type's word, or there is none.
-use borrow.Author.Rules.{rules}
 use mathlib.Core.Path.{sym, ap, ◌∙◌, subst}
 use mathlib.Core.List.{map}
 use mathlib.Core.Option.{Option}
@@ -13,11 +12,13 @@ use Rattle.candidates.specs.Groups.{best-along}
 use Rattle.candidates.proofs.with_any_bound.Goals as goal
 
 pub with_any_hint-requires : goal.with_any_hint-requires
-with_any_hint-requires c = let a = c.args in
+with_any_hint-requires c =
+    let a = c.args in
     (c.requires.0, c.requires.2, subst LegalMaybe c.in-Is.is (hint-word a.t.object a.bound.word c.concrete_hint.result c.requires.1 (omega arith) c.requires.3 c.concrete_hint.ensures), c.requires.4)
 
 pub returns-in-Is : goal.returns-in-Is
-returns-in-Is c = let a = c.args in
+returns-in-Is c =
+    let a = c.args in
     let b = c.with_any_hint.result in
     let w = world_of a.pairs.now a.marks.now a.t in
     best-along w (map type_of a.upper.now) b.best b.group.head b.group.rest b.group.classes.words
@@ -25,7 +26,8 @@ returns-in-Is c = let a = c.args in
     (ap (λ (o : Option ArgType). candidate w (map type_of a.upper.now) o (maybe_type a.b.best)) (ap maybe_type (sym c.in-Is.is) ∙ hint-type a.t.object a.bound.word c.concrete_hint.result c.requires.1 (omega (arith, c.well_formed.1.1.1.1.0)) c.requires.3 c.concrete_hint.ensures))
 
 pub returns-in-Nothing : goal.returns-in-Nothing
-returns-in-Nothing c = let a = c.args in
+returns-in-Nothing c =
+    let a = c.args in
     let w = world_of a.pairs.now a.marks.now a.t in
     best-along w (map type_of a.upper.now) a.b.best a.b.group.head a.b.group.rest a.b.group.classes.words
     c.requires.4

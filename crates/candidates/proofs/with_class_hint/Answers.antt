@@ -1,5 +1,4 @@
 -- `with_class_hint` meets its contract: the group of the hint's head tells whether it counts.
-use borrow.Author.Rules.{rules}
 use mathlib.Core.Path.{sym, ap, ◌∙◌}
 use mathlib.Core.Bool.{Bool, cond}
 use mathlib.Core.List.{map}
@@ -9,11 +8,13 @@ use Rattle.candidates.specs.Maybe.{maybe_type}
 use Rattle.candidates.proofs.with_class_hint.Goals as goal
 
 pub takes-taken-requires : goal.takes-taken-requires
-takes-taken-requires c = let p = c.requires in
+takes-taken-requires c =
+    let p = c.requires in
     (p.0, (p.2, p.3, sym c.group_for-g.ensures.0))
 
 pub returns : goal.returns
-returns c = let a = c.args in
+returns c =
+    let a = c.args in
     let r = c.lesser_if.ensures in
     let g = c.group_for-g.ensures.1 in
     record {

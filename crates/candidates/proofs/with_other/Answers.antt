@@ -1,5 +1,4 @@
 -- `with_other` meets its contract.
-use borrow.Author.Rules.{rules}
 use mathlib.Core.Path.{refl, ap, ◌∙◌}
 use Prim.Native.Nat.{ℕ}
 use Rattle.sets.specs.Sets.{insert}
@@ -11,7 +10,8 @@ use Rattle.candidates.specs.Groups.{grouped-class, grouped-other}
 use Rattle.candidates.proofs.with_other.Goals as goal
 
 pub returns-then-other-head : goal.returns-then-other-head
-returns-then-other-head c = let a = c.args in
+returns-then-other-head c =
+    let a = c.args in
     let v = view_of a.pairs.now a.marks.now a.t in (
       refl,
       λ ts old.

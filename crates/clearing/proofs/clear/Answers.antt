@@ -1,11 +1,10 @@
 -- `clear` meets its contract: the words before i are zero, sixteen more at each turn, and at last the rest.
-use borrow.Author.Rules.{rules}
-use mathlib.Core.Path.{◌≡◌, refl, ap, ◌∙◌}
+use mathlib.Core.Path.{refl, ap, ◌∙◌}
 use mathlib.Core.List.{List, ◌++◌}
-use Prim.Native.Nat.{ℕ, ◌+◌, ◌-◌, ◌≤◌}
+use Prim.Native.Nat.{ℕ, ◌+◌, ◌-◌}
 use native.Mathlib.Omega.{arith}
 use lib.ListN.{length, take, drop, replicate}
-use Rattle.clearing.proofs.Steps.{cleared, cleared-more, cleared-rest}
+use Rattle.clearing.proofs.Steps.{cleared-more, cleared-rest}
 use Rattle.clearing.proofs.clear.Goals as goal
 
 pub loop-i-init : goal.loop-i-init
@@ -18,7 +17,8 @@ pub clear_block-requires : goal.clear_block-requires
 clear_block-requires c = let l = c.loop-i in omega (arith, c.loop-i-test.true, l.invariant.1, l.invariant.2)
 
 pub loop-i-preserved : goal.loop-i-preserved
-loop-i-preserved c = let a = c.args in
+loop-i-preserved c =
+    let a = c.args in
     let l = c.loop-i in
     let block = c.clear_block in (
       refl,
@@ -31,7 +31,8 @@ pub put_zeros-requires : goal.put_zeros-requires
 put_zeros-requires c = let l = c.loop-i in (l.invariant.1, omega (arith, l.invariant.2))
 
 pub returns : goal.returns
-returns c = let a = c.args in
+returns c =
+    let a = c.args in
     let l = c.loop-i in
     let n = length a.work.now in
     c.put_zeros.ensures

@@ -1,18 +1,16 @@
 -- `is_zero` meets its contract: what was gathered of the first k words is zero only where they are.
-use borrow.Author.Rules.{rules}
 use mathlib.Core.Path.{◌≡◌}
-use Prim.Native.Nat.{◌+◌, ◌-◌, ◌≤◌}
 use native.Mathlib.Omega.{arith}
-use lib.ListN.{length}
 use borrow.Author.Tests.{eqb-true}
-use Rattle.clearing.proofs.Steps.{Gathered, gathered-more, gathered-all}
+use Rattle.clearing.proofs.Steps.{gathered-more, gathered-all}
 use Rattle.clearing.proofs.is_zero.Goals as goal
 
 pub loop-k-init : goal.loop-k-init
 loop-k-init c = (c.requires, omega arith, λ e j h. absurd (omega arith))
 
 pub loop-k-preserved : goal.loop-k-preserved
-loop-k-preserved c = let a = c.args in
+loop-k-preserved c =
+    let a = c.args in
     let l = c.loop-k in
     (l.invariant.0, omega (arith, c.loop-k-test.true), gathered-more a.work.now a.i l.any l.k l.invariant.2)
 

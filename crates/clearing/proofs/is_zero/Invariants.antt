@@ -1,11 +1,7 @@
 -- `is_zero` meets its contract: what was gathered of the first k words is zero only where they are.
-use borrow.Author.Rules.{rules}
-use mathlib.Core.Path.{◌≡◌}
 use Prim.Native.Nat.{◌+◌, ◌-◌, ◌≤◌}
-use native.Mathlib.Omega.{arith}
 use lib.ListN.{length}
-use borrow.Author.Tests.{eqb-true}
-use Rattle.clearing.proofs.Steps.{Gathered, gathered-more, gathered-all}
+use Rattle.clearing.proofs.Steps.{Gathered}
 use Rattle.clearing.proofs.is_zero.Given as goal
 
 abbrev pub invariant-loop-k : goal.invariant-loop-k

@@ -1,10 +1,8 @@
 -- `put_zeros` meets its contract: the words from i up to k are zero.
-use borrow.Author.Rules.{rules}
-use mathlib.Core.Path.{◌≡◌, refl, ap, ◌∙◌}
-use Prim.Native.Nat.{ℕ, ◌-◌, ◌≤◌}
-use native.Mathlib.Omega.{arith}
-use lib.ListN.{length, set, length-set}
-use Rattle.clearing.proofs.Steps.{zeroed, zeroed-none, zeroed-more}
+use mathlib.Core.Path.{◌≡◌}
+use Prim.Native.Nat.{◌-◌, ◌≤◌}
+use lib.ListN.{length}
+use Rattle.clearing.proofs.Steps.{zeroed}
 use Rattle.clearing.proofs.put_zeros.Given as goal
 
 abbrev pub invariant-loop-k : goal.invariant-loop-k

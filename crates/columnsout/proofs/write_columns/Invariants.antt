@@ -1,13 +1,10 @@
 -- `write_columns` meets its contract: after i steps the first i entries stand in each column.
-use borrow.Author.Rules.{rules}
-use mathlib.Core.Path.{◌≡◌, refl, ap, ◌∙◌}
-use mathlib.Core.List.{List}
-use Prim.Native.Nat.{ℕ, ◌-◌, ◌≤◌}
-use native.Mathlib.Omega.{arith}
-use lib.ListN.{length, length-set, set}
+use mathlib.Core.Path.{◌≡◌}
+use Prim.Native.Nat.{◌-◌, ◌≤◌}
+use lib.ListN.{length}
 use Rattle.keys.specs.Rank.{key_component, key_kind}
 use Rattle.copying.specs.Copies.{word_in}
-use Rattle.columnsout.specs.Columns.{front, front-more}
+use Rattle.columnsout.specs.Columns.{front}
 use Rattle.columnsout.proofs.write_columns.Given as goal
 
 abbrev pub invariant-loop-i : goal.invariant-loop-i

@@ -1,8 +1,7 @@
 -- `ranks_at` meets its contract: after i steps the first i stand in their places.
-use borrow.Author.Rules.{rules}
 use mathlib.Core.Path.{◌≡◌, refl, ap, ◌∙◌}
 use mathlib.Core.List.{List}
-use Prim.Native.Nat.{ℕ, ◌+◌, ◌-◌, ◌%◌, ◌≤◌}
+use Prim.Native.Nat.{ℕ, ◌+◌, ◌%◌}
 use native.Mathlib.Omega.{arith}
 use lib.ListN.{length, get_or, set, length-set}
 use lib.Seq.{paste, paste-zero}
@@ -11,11 +10,13 @@ use Rattle.copying.specs.Steps.{paste-more}
 use Rattle.copying.proofs.ranks_at.Goals as goal
 
 pub loop-i-init : goal.loop-i-init
-loop-i-init c = let x = c.args in
+loop-i-init c =
+    let x = c.args in
     (omega arith, refl, paste-zero x.out.now x.at (ranks_in x.keys.now))
 
 pub loop-i-preserved : goal.loop-i-preserved
-loop-i-preserved c = let x = c.args in
+loop-i-preserved c =
+    let x = c.args in
     let l = c.loop-i in (
       omega arith,
       simp length-set l.invariant.1,
@@ -24,6 +25,7 @@ loop-i-preserved c = let x = c.args in
     )
 
 pub returns : goal.returns
-returns c = let x = c.args in
+returns c =
+    let x = c.args in
     let l = c.loop-i in
     l.invariant.2 ∙ ap (paste x.out.now x.at (ranks_in x.keys.now)) (let e : l.i ≡ length x.keys.now = omega arith in e)

@@ -1,13 +1,9 @@
 -- `words_at` meets its contract: after i steps the first i stand in their places.
-use borrow.Author.Rules.{rules}
-use mathlib.Core.Path.{◌≡◌, refl, ap, ◌∙◌}
-use mathlib.Core.List.{List}
-use Prim.Native.Nat.{ℕ, ◌+◌, ◌-◌, ◌≤◌}
-use native.Mathlib.Omega.{arith}
-use lib.ListN.{length, set, length-set}
-use lib.Seq.{paste, paste-zero}
-use Rattle.copying.specs.Copies.{words_in, word_in}
-use Rattle.copying.specs.Steps.{paste-more}
+use mathlib.Core.Path.{◌≡◌}
+use Prim.Native.Nat.{◌-◌, ◌≤◌}
+use lib.ListN.{length}
+use lib.Seq.{paste}
+use Rattle.copying.specs.Copies.{words_in}
 use Rattle.copying.proofs.words_at.Given as goal
 
 abbrev pub invariant-loop-i : goal.invariant-loop-i

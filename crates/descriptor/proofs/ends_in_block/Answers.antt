@@ -1,10 +1,9 @@
 -- The test of a block meets its contract: after k bytes, `found` says whether the first ';' is among them.
-use borrow.Author.Rules.{rules}
 use borrow.Author.Tests.{lt-ltb, le-ltb, ltb-true, ltb-false}
 use mathlib.Core.Path.{◌≡◌, refl, sym, ap, ◌∙◌}
 use mathlib.Core.Bool.{Bool, true, false}
 use mathlib.Core.List.{List}
-use Prim.Native.Nat.{ℕ, ◌+◌, ◌-◌, ◌≤◌, ◌<◌}
+use Prim.Native.Nat.{ℕ, ◌+◌, ◌<◌}
 use native.Mathlib.Omega.{arith}
 use lib.Dec.{ltb}
 use lib.ListN.{length, drop, get_or}
@@ -32,11 +31,13 @@ module _ (s : List ℕ) (i k : ℕ) (h : i + k < length s) where
       go false q = q ∙ sym (le-ltb first (k + 1) (omega (arith, index-past 59 s i k (ltb-false first k q), index-later 59 s (i + k) h n)))
 
 pub loop-k-init : goal.loop-k-init
-loop-k-init c = let a = c.args in
+loop-k-init c =
+    let a = c.args in
     (c.requires, omega arith, sym (le-ltb (index_of 59 (drop a.i a.s.now)) 0 (omega arith)))
 
 pub loop-k-preserved : goal.loop-k-preserved
-loop-k-preserved c = let a = c.args in
+loop-k-preserved c =
+    let a = c.args in
     let l = c.loop-k in (
       l.invariant.0,
       omega arith,
@@ -47,6 +48,7 @@ loop-k-preserved c = let a = c.args in
     )
 
 pub returns : goal.returns
-returns c = let a = c.args in
+returns c =
+    let a = c.args in
     let l = c.loop-k in
     l.invariant.2 ∙ ap (ltb (index_of 59 (drop a.i a.s.now))) (let e : l.k ≡ 8 = omega arith in e)

@@ -1,16 +1,9 @@
 -- The test of a block meets its contract: after k bytes, `found` says whether the first ';' is among them.
-use borrow.Author.Rules.{rules}
-use borrow.Author.Tests.{lt-ltb, le-ltb, ltb-true, ltb-false}
-use mathlib.Core.Path.{◌≡◌, refl, sym, ap, ◌∙◌}
-use mathlib.Core.Bool.{Bool, true, false}
-use mathlib.Core.List.{List}
-use mathlib.Core.Logic.{⊎_elim}
-use Prim.Native.Nat.{ℕ, ◌+◌, ◌-◌, ◌≤◌, ◌<◌}
-use native.Mathlib.Omega.{arith}
+use mathlib.Core.Path.{◌≡◌}
+use Prim.Native.Nat.{◌+◌, ◌-◌, ◌≤◌}
 use lib.Dec.{ltb}
-use lib.ListN.{length, drop, get_or}
+use lib.ListN.{length, drop}
 use Rattle.descriptor.specs.Read.{index_of}
-use Rattle.descriptor.specs.Steps.{index-here, index-later, index-past}
 use Rattle.descriptor.proofs.ends_in_block.Given as goal
 
 abbrev pub invariant-loop-k : goal.invariant-loop-k

@@ -1,11 +1,8 @@
 -- The search for a ';' meets its contract: what is left of the search from `from` is the search from `i`.
-use borrow.Author.Rules.{rules}
-use mathlib.Core.Path.{◌≡◌, sym, ◌∙◌}
+use mathlib.Core.Path.{◌≡◌}
 use Prim.Native.Nat.{◌+◌, ◌-◌, ◌≤◌}
-use native.Mathlib.Omega.{arith}
 use lib.ListN.{length, drop}
 use Rattle.descriptor.specs.Read.{index_of}
-use Rattle.descriptor.specs.Steps.{index-end, index-here, index-later}
 use Rattle.descriptor.proofs.find_end.Given as goal
 
 abbrev pub invariant-loop-i : goal.invariant-loop-i

@@ -1,5 +1,4 @@
 -- Each way out is a case of `flat_of`.
-use borrow.Author.Rules.{rules}
 use borrow.Author.Tests.{eq-eqb, ne_eqb, lt-ltb, le-ltb}
 use Rattle.descriptor.proofs.flat_core.Goals as goal
 

@@ -1,5 +1,4 @@
 -- The type at offset 0, which has to be all.
-use borrow.Author.Rules.{rules}
 use Rattle.descriptor.specs.Read.{read_whole}
 use Rattle.descriptor.proofs.read_whole.Goals as goal
 

@@ -1,12 +1,8 @@
 -- The passing of blocks meets its contract: the search from `from` is the search from `i`, past each block without a ';'.
-use borrow.Author.Rules.{rules}
-use borrow.Author.Tests.{ltb-false}
-use mathlib.Core.Path.{◌≡◌, refl, sym, ◌∙◌}
+use mathlib.Core.Path.{◌≡◌}
 use Prim.Native.Nat.{◌+◌, ◌-◌, ◌≤◌}
-use native.Mathlib.Omega.{arith}
 use lib.ListN.{length, drop}
 use Rattle.descriptor.specs.Read.{index_of}
-use Rattle.descriptor.specs.Steps.{index-past}
 use Rattle.descriptor.proofs.skip_blocks.Given as goal
 
 abbrev pub invariant-loop-i : goal.invariant-loop-i

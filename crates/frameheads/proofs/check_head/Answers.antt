@@ -1,5 +1,4 @@
 -- `check_head` meets its contract.
-use borrow.Author.Rules.{rules}
 use mathlib.Core.Path.{sym, ◌∙◌}
 use native.Mathlib.Omega.{arith}
 use Rattle.frameheads.specs.Heads.{head-zero, head-over, head-length, head-order, head-none}

@@ -1,11 +1,8 @@
 -- `is_hex` meets its contract: what is left decides.
-use borrow.Author.Rules.{rules}
-use mathlib.Core.Path.{◌≡◌, refl, sym, ap, ◌∙◌}
-use Prim.Native.Nat.{◌*◌, ◌-◌, ◌≤◌}
+use mathlib.Core.Path.{refl, sym, ap, ◌∙◌}
 use native.Mathlib.Omega.{arith}
-use lib.ListN.{length, drop}
 use borrow.Author.Tests.{not-true, not-false}
-use Rattle.hexline.specs.Hex.{hex_bytes, is_hex}
+use Rattle.hexline.specs.Hex.{is_hex}
 use Rattle.hexline.specs.Laws.{hex-end, pair-bad-high, pair-bad-low, pair-hex}
 use Rattle.hexline.proofs.is_hex.Goals as goal
 

@@ -1,12 +1,10 @@
 -- `put_bytes` meets its contract: the bytes that are left are those of the line from the next pair on.
-use borrow.Author.Rules.{rules}
-use mathlib.Core.Path.{◌≡◌, sym, ap, ap₂, ◌∙◌, subst}
-use mathlib.Core.Bool.{true}
+use mathlib.Core.Path.{sym, ap, ap₂, ◌∙◌, subst}
 use mathlib.Core.List.{List, ◌∷◌}
-use Prim.Native.Nat.{ℕ, ◌+◌, ◌*◌, ◌-◌, ◌≤◌}
+use Prim.Native.Nat.{ℕ, ◌+◌, ◌*◌}
 use native.Mathlib.Omega.{arith}
-use lib.ListN.{length, drop}
-use Rattle.hexline.specs.Hex.{hex_bytes, is_hex, bytes_of}
+use lib.ListN.{drop}
+use Rattle.hexline.specs.Hex.{hex_bytes, bytes_of}
 use Rattle.hexline.specs.Laws.{hex-length, hex-end, pair-bytes, Filling, fill-start, fill-step, fill-end}
 use Rattle.hexline.proofs.put_bytes.Goals as goal
 
@@ -14,7 +12,8 @@ pub loop-k-init : goal.loop-k-init
 loop-k-init c = let a = c.args in let p = c.requires.0 in let e = hex-length a.line.now p in (omega arith, omega arith, omega arith, p, fill-start (bytes_of (hex_bytes a.line.now)) a.frame.now)
 
 pub loop-k-preserved : goal.loop-k-preserved
-loop-k-preserved c = let l = c.loop-k in
+loop-k-preserved c =
+    let l = c.loop-k in
     let a = c.args in
     let q = pair-bytes a.line.now l.k (omega arith) l.invariant.3 in
     let v = ap₂ (λ (x y : ℕ). x * 16 + y) c.value.ensures.0 c.value-in-loop-k.ensures.0 in
@@ -26,7 +25,8 @@ pub shape_of-frame : goal.shape_of-frame
 shape_of-frame c = c.loop-k.invariant.4.same
 
 pub returns : goal.returns
-returns c = let l = c.loop-k in
+returns c =
+    let l = c.loop-k in
     let a = c.args in
     fill-end (bytes_of (hex_bytes a.line.now)) a.frame.now l.frame l.k (omega arith)
     (subst (λ (m : List ℕ). Filling (bytes_of (hex_bytes a.line.now)) m a.frame.now l.frame l.k) (ap bytes_of (hex-end a.line.now l.k (omega arith))) l.invariant.4)

@@ -1,13 +1,10 @@
 -- `put_bytes` meets its contract: the bytes that are left are those of the line from the next pair on.
-use borrow.Author.Rules.{rules}
-use mathlib.Core.Path.{◌≡◌, sym, ap, ap₂, ◌∙◌, subst}
+use mathlib.Core.Path.{◌≡◌}
 use mathlib.Core.Bool.{true}
-use mathlib.Core.List.{List, ◌∷◌}
-use Prim.Native.Nat.{ℕ, ◌+◌, ◌*◌, ◌-◌, ◌≤◌}
-use native.Mathlib.Omega.{arith}
+use Prim.Native.Nat.{◌*◌, ◌-◌, ◌≤◌}
 use lib.ListN.{length, drop}
 use Rattle.hexline.specs.Hex.{hex_bytes, is_hex, bytes_of}
-use Rattle.hexline.specs.Laws.{hex-length, hex-end, pair-bytes, Filling, fill-start, fill-step, fill-end}
+use Rattle.hexline.specs.Laws.{Filling}
 use Rattle.hexline.proofs.put_bytes.Given as goal
 
 abbrev pub invariant-loop-k : goal.invariant-loop-k

@@ -1,10 +1,9 @@
 -- `put_numbers` meets its contract: the numbers that are left are those of the bytes from the next pair on.
-use borrow.Author.Rules.{rules}
-use mathlib.Core.Path.{◌≡◌, sym, ap, ◌∙◌, subst}
+use mathlib.Core.Path.{sym, ap, ◌∙◌, subst}
 use mathlib.Core.List.{List, ◌∷◌}
-use Prim.Native.Nat.{ℕ, ◌+◌, ◌*◌, ◌-◌, ◌≤◌}
+use Prim.Native.Nat.{ℕ, ◌+◌, ◌*◌}
 use native.Mathlib.Omega.{arith}
-use lib.ListN.{length, drop}
+use lib.ListN.{drop}
 use Rattle.hexline.specs.Hex.{numbers_in}
 use Rattle.hexline.specs.Laws.{numbers-step, numbers-end, numbers-length, Filling, fill-start, fill-step, fill-end}
 use Rattle.hexline.proofs.put_numbers.Goals as goal
@@ -13,7 +12,8 @@ pub loop-k-init : goal.loop-k-init
 loop-k-init c = let a = c.args in (omega arith, omega arith, omega arith, fill-start (numbers_in a.bytes.now) a.numbers.now)
 
 pub loop-k-preserved : goal.loop-k-preserved
-loop-k-preserved c = let l = c.loop-k in
+loop-k-preserved c =
+    let l = c.loop-k in
     let a = c.args in
     let q = numbers-step a.bytes.now l.k (omega arith) in
     let f = subst (λ (m : List ℕ). Filling (numbers_in a.bytes.now) m a.numbers.now l.numbers l.k) (q ∙ ap (λ (x : ℕ). x ∷ numbers_in (drop (2 * (l.k + 1)) a.bytes.now)) (sym c.number_at.ensures.0)) l.invariant.3 in
@@ -24,7 +24,8 @@ pub shape_of-numbers : goal.shape_of-numbers
 shape_of-numbers c = c.loop-k.invariant.3.same
 
 pub returns : goal.returns
-returns c = let l = c.loop-k in
+returns c =
+    let l = c.loop-k in
     let a = c.args in
     let n = numbers-length a.bytes.now c.requires.0 in (
       omega arith,

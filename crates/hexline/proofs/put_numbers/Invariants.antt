@@ -1,12 +1,9 @@
 -- `put_numbers` meets its contract: the numbers that are left are those of the bytes from the next pair on.
-use borrow.Author.Rules.{rules}
-use mathlib.Core.Path.{◌≡◌, sym, ap, ◌∙◌, subst}
-use mathlib.Core.List.{List, ◌∷◌}
-use Prim.Native.Nat.{ℕ, ◌+◌, ◌*◌, ◌-◌, ◌≤◌}
-use native.Mathlib.Omega.{arith}
+use mathlib.Core.Path.{◌≡◌}
+use Prim.Native.Nat.{◌*◌, ◌-◌, ◌≤◌}
 use lib.ListN.{length, drop}
 use Rattle.hexline.specs.Hex.{numbers_in}
-use Rattle.hexline.specs.Laws.{numbers-step, numbers-end, numbers-length, Filling, fill-start, fill-step, fill-end}
+use Rattle.hexline.specs.Laws.{Filling}
 use Rattle.hexline.proofs.put_numbers.Given as goal
 
 abbrev pub invariant-loop-k : goal.invariant-loop-k

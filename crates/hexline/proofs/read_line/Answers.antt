@@ -1,5 +1,4 @@
 -- `read_line` meets its contract: too long, odd, no digits, or the bytes.
-use borrow.Author.Rules.{rules}
 use mathlib.Core.Path.{sym, ◌∙◌}
 use native.Mathlib.Omega.{arith}
 use borrow.Author.Tests.{not-true, not-false}
@@ -20,7 +19,8 @@ pub put_bytes-requires : goal.put_bytes-requires
 put_bytes-requires c = (sym c.is_hex.ensures ∙ not-false _ c.if-not-is_hex.false-raw, omega arith)
 
 pub returns : goal.returns
-returns c = let a = c.args in
+returns c =
+    let a = c.args in
     let h = sym c.is_hex.ensures ∙ not-false _ c.if-not-is_hex.false-raw in
     let l = hex-length a.line.now h in
     reads-some (hex_bytes a.line.now) a.frame.now _ _ h (omega arith) (omega arith) c.put_bytes.ensures

@@ -1,5 +1,4 @@
 -- `value` meets its contract: digits below, in, between, letters, above.
-use borrow.Author.Rules.{rules}
 use mathlib.Core.Path.{sym, ap}
 use native.Mathlib.Omega.{arith}
 use Rattle.hexline.specs.Laws.{value_of, digit-below, digit-number, digit-between, digit-letter, digit-above}

@@ -1,15 +1,9 @@
 -- `expand` meets its contract: what is left to expand are the members of `left`, and c is the least of them.
-use borrow.Author.Rules.{rules}
-use native.Mathlib.Omega.{arith}
-use mathlib.Core.Path.{◌≡◌, refl, sym, ap₂, ◌∙◌}
-use mathlib.Core.List.{List}
-use Prim.Native.Nat.{ℕ}
+use mathlib.Core.Path.{◌≡◌}
 use lib.ListN.{length}
 use Rattle.sets.specs.Sets.{at, members, first}
 use Rattle.view.specs.View.{with_parents}
 use Rattle.tables.specs.Table.{view_of}
-use Rattle.hierarchy.proofs.Steps.{expand-step, expand-end}
-use Rattle.view.specs.Frontier.{left-less}
 use Rattle.hierarchy.proofs.expand.Given as goal
 
 abbrev pub invariant-loop-c : goal.invariant-loop-c

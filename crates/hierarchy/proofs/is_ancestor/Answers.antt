@@ -1,5 +1,4 @@
 -- `is_ancestor` meets its contract.
-use borrow.Author.Rules.{rules}
 use borrow.Author.Tests.{eq-eqb, ne_eqb}
 use mathlib.Core.Path.{sym, ◌∙◌}
 use Rattle.view.specs.View.{ancestor}

@@ -1,5 +1,4 @@
 -- `reaches` meets its contract.
-use borrow.Author.Rules.{rules}
 use Rattle.hierarchy.proofs.reaches.Goals as goal
 
 pub returns : goal.returns

@@ -1,9 +1,6 @@
 -- `recorded` meets its contract: the words below i are copied; the measure is the number of words left.
-use borrow.Author.Rules.{rules}
-use native.Mathlib.Omega.{arith}
-use mathlib.Core.Path.{refl}
 use Prim.Native.Nat.{◌-◌}
-use Rattle.hierarchy.proofs.Steps.{Copied, copied-more, copied-all}
+use Rattle.hierarchy.proofs.Steps.{Copied}
 use Rattle.hierarchy.proofs.recorded.Given as goal
 
 abbrev pub invariant-loop-i : goal.invariant-loop-i

@@ -1,10 +1,7 @@
 -- `walk_to` meets its contract: at each turn the walk stands at level k; the measure is the number of levels left.
-use borrow.Author.Rules.{rules}
-use native.Mathlib.Omega.{arith}
-use mathlib.Core.Path.{sym, ◌∙◌}
 use Prim.Native.Nat.{◌-◌}
 use Rattle.tables.specs.Table.{view_of}
-use Rattle.hierarchy.proofs.Walks.{Standing, standing-start, standing-next, walked-found, walked-last, walked-end}
+use Rattle.hierarchy.proofs.Walks.{Standing}
 use Rattle.hierarchy.proofs.walk_to.Given as goal
 
 abbrev pub invariant-loop-k : goal.invariant-loop-k

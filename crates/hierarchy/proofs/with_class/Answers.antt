@@ -1,5 +1,4 @@
 -- `with_class` meets its contract.
-use borrow.Author.Rules.{rules}
 use borrow.Author.Tests.{lt-ltb, le-ltb}
 use mathlib.Core.Path.{◌∙◌}
 use Rattle.hierarchy.proofs.with_class.Goals as goal

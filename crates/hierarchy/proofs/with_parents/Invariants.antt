@@ -1,12 +1,9 @@
 -- `with_parents` meets its contract: what is left to put in are the keys from i on.
-use borrow.Author.Rules.{rules}
-use native.Mathlib.Omega.{arith}
-use mathlib.Core.Path.{◌≡◌, refl, sym, ap, ◌∙◌}
-use Prim.Native.Nat.{ℕ, ◌+◌, ◌-◌, ◌≤◌}
-use lib.ListN.{length, take, drop, length-take}
+use mathlib.Core.Path.{◌≡◌}
+use Prim.Native.Nat.{◌-◌, ◌≤◌}
+use lib.ListN.{length, take, drop}
 use Rattle.view.specs.View.{insert_all}
-use Rattle.tables.specs.Table.{parents_in, own_run, parents_of}
-use Rattle.hierarchy.proofs.Steps.{parents-step, parents-stop, parents-end}
+use Rattle.tables.specs.Table.{parents_in, own_run}
 use Rattle.hierarchy.proofs.with_parents.Given as goal
 
 abbrev pub invariant-loop-i : goal.invariant-loop-i

@@ -1,5 +1,5 @@
 -- `join` and `join_arrays` meet their contracts.
-use Rattle.std.proofs.Common.{◌≡◌, ◌+◌, ◌-◌, ◌*◌, ◌^◌, ◌≤◌, ◌<◌, sym, ◌∙◌, arith}
+use Rattle.std.proofs.Common.{◌+◌, ◌-◌, ◌*◌, ◌^◌, ◌<◌, sym, ◌∙◌, arith}
 use Rattle.ty.specs.Words.{dims_of}
 use Rattle.joins.specs.Cases.{object-lt-1024, word-same, arrays-high, legal-elements, word-arrays-left, word-arrays-right, word-arrays, arrays-fit}
 use Rattle.joins.proofs.+join_join_arrays.Goals as goal

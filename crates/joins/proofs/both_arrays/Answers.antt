@@ -1,7 +1,6 @@
 -- `both_arrays` meets its contract.
 use mathlib.Core.Path.{sym, ◌∙◌}
 use Rattle.joins.specs.Cases.{arrays-true, arrays-false}
-use borrow.Author.Rules.{rules}
 use Rattle.joins.proofs.both_arrays.Goals as goal
 
 pub returns-then-is_array : goal.returns-then-is_array

@@ -1,17 +1,14 @@
 -- `in_both` meets its contract: what was kept is what both have (m).
-use mathlib.Core.Path.{◌≡◌, sym, ap, ◌∙◌}
+use mathlib.Core.Path.{sym, ap, ◌∙◌}
 use Prim.Native.Nat.{ℕ, ◌+◌, ◌*◌, ◌^◌}
 use native.Mathlib.Omega.{arith}
 use Rattle.ty.specs.Types.{categories}
-use Rattle.ty.specs.Words.{type_of}
-use Rattle.ty.specs.Round.{list_load}
-use Rattle.lattice.specs.Lattice.{in_both}
 use Rattle.joins.specs.Lists.{both-none, both-some, both-load, unknown-short}
-use borrow.Author.Rules.{rules}
 use Rattle.joins.proofs.in_both.Goals as goal
 
 pub keep_members-load-requires : goal.keep_members-load-requires
-keep_members-load-requires c = let p = c.requires in
+keep_members-load-requires c =
+    let p = c.requires in
     let e = c.load.ensures in
     let u = unknown-short c.args.left.word p.2 (omega arith) p.0 in
     omega arith

@@ -1,18 +1,15 @@
 -- `join_all` meets its contract. Invariant: the join so far, with the words left, is the whole.
-use borrow.Author.Rules.{rules}
-use mathlib.Core.Path.{◌≡◌, sym, ap, ◌∙◌}
+use mathlib.Core.Path.{sym, ap, ◌∙◌}
 use mathlib.Core.Bool.{true}
-use mathlib.Core.List.{map}
 use mathlib.Core.Option.{some}
-use Prim.Native.Nat.{ℕ, ◌+◌, ◌-◌, ◌≤◌, ◌<◌, ◌^◌}
+use Prim.Native.Nat.{ℕ, ◌+◌, ◌<◌, ◌^◌}
 use native.Mathlib.Omega.{arith}
-use lib.ListN.{length, get_or}
+use lib.ListN.{get_or}
 use Rattle.ty.specs.Words.{type_of, legal_word}
 use Rattle.ty.specs.declared.MaybeType.TheVariants.{Is}
 use Rattle.ty.specs.Types.{ArgType}
 use Rattle.ty.specs.Answers.{word, maybe_word}
 use Rattle.ty.specs.Round.{word-of-type}
-use Rattle.lattice.specs.Lattice.{join_all}
 use Rattle.lattice.specs.World.{world_of}
 use Rattle.joins.specs.Fold.{join_rest, all-none, all-first, all-next, all-end, next-legal, next-type}
 use Rattle.joins.proofs.join_all.Goals as goal
@@ -21,18 +18,21 @@ pub returns-then-words-eq0 : goal.returns-then-words-eq0
 returns-then-words-eq0 c = let a = c.args in sym (ap maybe_word (all-none (world_of a.pairs.now a.marks.now a.t) a.words.now c.if-words-eq0.true))
 
 pub loop-i-init : goal.loop-i-init
-loop-i-init c = let a = c.args in
+loop-i-init c =
+    let a = c.args in
     let p = c.requires in
     let e = c.if-words-eq0.false in
     (omega arith, p.1 0 (omega arith), all-first (world_of a.pairs.now a.marks.now a.t) a.words.now e, omega (arith, (c.type_inv.words 0).fits))
 
 pub join-all-requires : goal.join-all-requires
-join-all-requires c = let p = c.requires in
+join-all-requires c =
+    let p = c.requires in
     let l = c.loop-i in
     (p.0, l.invariant.1, p.1 l.i (omega arith), p.3)
 
 pub loop-i-preserved : goal.loop-i-preserved
-loop-i-preserved c = let a = c.args in
+loop-i-preserved c =
+    let a = c.args in
     let p = c.requires in
     let l = c.loop-i in
     let w = world_of a.pairs.now a.marks.now a.t in
@@ -52,7 +52,8 @@ loop-i-preserved c = let a = c.args in
     )
 
 pub returns : goal.returns
-returns c = let a = c.args in
+returns c =
+    let a = c.args in
     let p = c.requires in
     let l = c.loop-i in
     let x = l.all.word in

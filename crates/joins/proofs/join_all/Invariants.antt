@@ -1,20 +1,15 @@
 -- `join_all` meets its contract. Invariant: the join so far, with the words left, is the whole.
-use borrow.Author.Rules.{rules}
-use mathlib.Core.Path.{◌≡◌, sym, ap, ◌∙◌}
+use mathlib.Core.Path.{◌≡◌}
 use mathlib.Core.Bool.{true}
 use mathlib.Core.List.{map}
 use mathlib.Core.Option.{some}
-use Prim.Native.Nat.{ℕ, ◌+◌, ◌-◌, ◌≤◌, ◌<◌, ◌^◌}
-use native.Mathlib.Omega.{arith}
-use lib.ListN.{length, get_or}
+use Prim.Native.Nat.{◌-◌, ◌≤◌, ◌<◌, ◌^◌}
+use lib.ListN.{length}
 use Rattle.ty.specs.Words.{type_of, legal_word}
-use Rattle.ty.specs.declared.MaybeType.TheVariants.{Is}
-use Rattle.ty.specs.Types.{ArgType}
-use Rattle.ty.specs.Answers.{word, maybe_word}
-use Rattle.ty.specs.Round.{word-of-type}
+use Rattle.ty.specs.Answers.{word}
 use Rattle.lattice.specs.Lattice.{join_all}
 use Rattle.lattice.specs.World.{world_of}
-use Rattle.joins.specs.Fold.{join_rest, all-none, all-first, all-next, all-end, next-legal, next-type}
+use Rattle.joins.specs.Fold.{join_rest}
 use Rattle.joins.proofs.join_all.Given as goal
 
 abbrev pub invariant-loop-i : goal.invariant-loop-i

@@ -8,7 +8,6 @@ use Rattle.ty.specs.Types.{compare}
 use Rattle.ty.specs.Words.{pack, word_of}
 use Rattle.lattice.specs.Lattice.{same_type, narrow, under_double, join_primitive}
 use Rattle.lattice.specs.JoinTable.{join_categories, cell, every, row, rule}
-use borrow.Author.Rules.{rules}
 use Rattle.joins.proofs.join_primitives.Goals as goal
 
 -- the table once more

@@ -1,6 +1,5 @@
 -- `keep` meets its contract.
 use Rattle.joins.specs.Joins.{with_first}
-use borrow.Author.Rules.{rules}
 use Rattle.joins.proofs.keep.Goals as goal
 
 pub returns-then-is_kept : goal.returns-then-is_kept

@@ -1,7 +1,6 @@
 -- `keep_members` meets its contract. Invariant: what was found is what is kept of the members from i on.
-use borrow.Author.Rules.{rules}
 use mathlib.Core.Path.{◌≡◌, ap, ◌∙◌}
-use Prim.Native.Nat.{ℕ, ◌/◌, ◌%◌, ◌^◌, ◌≤◌}
+use Prim.Native.Nat.{ℕ, ◌/◌, ◌%◌, ◌^◌}
 use native.Mathlib.Omega.{arith}
 use mathlib.Core.Bool.{cond}
 use lib.Dec.{eqb}
@@ -19,14 +18,16 @@ pub overflow_shr-set : goal.overflow_shr-set
 overflow_shr-set c = let e = c.digit-c.ensures in omega arith
 
 pub keep-found-requires : goal.keep-found-requires
-keep-found-requires c = let a = c.args in
+keep-found-requires c =
+    let a = c.args in
     let l = c.loop-i in
     let e = c.digit-c.ensures in
     let k = kept-lt a.load a.set l.i in
     (omega arith, omega arith)
 
 pub loop-i-preserved : goal.loop-i-preserved
-loop-i-preserved c = let a = c.args in
+loop-i-preserved c =
+    let a = c.args in
     let l = c.loop-i in
     let k = c.keep-found.ensures in
     let d = c.digit-c in (
@@ -37,7 +38,8 @@ loop-i-preserved c = let a = c.args in
     )
 
 pub returns : goal.returns
-returns c = let a = c.args in
+returns c =
+    let a = c.args in
     let l = c.loop-i in
     let e : l.found ≡ list_load (kept a.set (list_of a.load)) = l.invariant.1 ∙ ap (kept_from a.load a.set) (let z : l.i ≡ 0 = omega arith in z) ∙ kept-all a.load a.set in
     (e, omega (arith, kept-fits a.load a.set c.requires))

@@ -2,7 +2,6 @@
 use mathlib.Core.Path.{◌≡◌, sym, ap₂, ◌∙◌}
 use Prim.Native.Nat.{ℕ, ◌^◌, ◌<◌}
 use native.Mathlib.Omega.{arith}
-use borrow.Author.Rules.{rules}
 use Rattle.order.specs.Laws.{numbers-less, numbers-greater}
 use Rattle.order.specs.Compare.{compare_numbers}
 use Rattle.ty.specs.Types.{compare}
@@ -19,19 +18,22 @@ order-of-ranks v w x y k l h p q =
     ap₂ compare_numbers p q ∙ rank-order (type_of v) (type_of w) (legal-of-word 1024 v k h.0) (legal-of-word 1024 w l h.1)
 
 pub returns-then-x-y : goal.returns-then-x-y
-returns-then-x-y c = let a = c.args in
+returns-then-x-y c =
+    let a = c.args in
     sym (numbers-less _ _ c.if-x-y.true)
     ∙ order-of-ranks a.a.word a.b.word _ _ (omega arith) (omega arith) c.requires
     c.rank_of-x.ensures c.rank_of-y.ensures
 
 pub returns-then-y-x : goal.returns-then-y-x
-returns-then-y-x c = let a = c.args in
+returns-then-y-x c =
+    let a = c.args in
     sym (numbers-greater _ _ c.if-y-x.true)
     ∙ order-of-ranks a.a.word a.b.word _ _ (omega arith) (omega arith) c.requires
     c.rank_of-x.ensures c.rank_of-y.ensures
 
 pub returns : goal.returns
-returns c = let a = c.args in
+returns c =
+    let a = c.args in
     let x = c.rank_of-x in
     let y = c.rank_of-y in
     sym (numbers-equal x.result y.result (omega arith))

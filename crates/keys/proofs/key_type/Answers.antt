@@ -1,5 +1,4 @@
 -- `key_type` meets its contract: the type of the rank in the key.
-use borrow.Author.Rules.{rules}
 use Rattle.keys.specs.Rank.{key_type}
 use Rattle.keys.proofs.key_type.Goals as goal
 

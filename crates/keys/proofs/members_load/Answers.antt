@@ -1,13 +1,8 @@
 -- `members_load` meets its contract. The loop's invariant: the payload is what the digits passed have made, and what the
 -- rest will add.
-use mathlib.Core.Path.{◌≡◌}
-use Prim.Native.Nat.{◌+◌, ◌-◌, ◌*◌, ◌^◌, ◌≤◌}
 use native.Mathlib.Omega.{arith}
-use borrow.Author.Rules.{rules}
-use Rattle.ty.specs.Round.{list_load}
-use Rattle.keys.specs.Rank.{members_of}
 use Rattle.keys.specs.Parts.{members-lt}
-use Rattle.keys.proofs.Rest.{rest_load, rest-all, rest-end, rest-none, rest-more}
+use Rattle.keys.proofs.Rest.{rest-all, rest-end, rest-none, rest-more}
 use Rattle.keys.proofs.members_load.Goals as goal
 
 pub loop-i-init : goal.loop-i-init
@@ -17,12 +12,14 @@ pub overflow_add-result : goal.overflow_add-result
 overflow_add-result c = omega (arith, members-lt c.args.digits)
 
 pub returns-then-d-eq0 : goal.returns-then-d-eq0
-returns-then-d-eq0 c = let x = c.args.digits in
+returns-then-d-eq0 c =
+    let x = c.args.digits in
     let l = c.loop-i in
     omega (arith, rest-none x l.i c.digit-d.result c.loop-i-test.true c.digit-d.ensures c.if-d-eq0.true)
 
 pub overflow_add-sum : goal.overflow_add-sum
-overflow_add-sum c = let x = c.args.digits in
+overflow_add-sum c =
+    let x = c.args.digits in
     let l = c.loop-i in
     omega (
       arith,
@@ -31,7 +28,8 @@ overflow_add-sum c = let x = c.args.digits in
     )
 
 pub loop-i-preserved : goal.loop-i-preserved
-loop-i-preserved c = let x = c.args.digits in
+loop-i-preserved c =
+    let x = c.args.digits in
     let l = c.loop-i in (
       omega arith,
       omega (

@@ -2,12 +2,9 @@
 -- rest will add.
 use mathlib.Core.Path.{◌≡◌}
 use Prim.Native.Nat.{◌+◌, ◌-◌, ◌*◌, ◌^◌, ◌≤◌}
-use native.Mathlib.Omega.{arith}
-use borrow.Author.Rules.{rules}
 use Rattle.ty.specs.Round.{list_load}
 use Rattle.keys.specs.Rank.{members_of}
-use Rattle.keys.specs.Parts.{members-lt}
-use Rattle.keys.proofs.Rest.{rest_load, rest-all, rest-end, rest-none, rest-more}
+use Rattle.keys.proofs.Rest.{rest_load}
 use Rattle.keys.proofs.members_load.Given as goal
 
 abbrev pub invariant-loop-i : goal.invariant-loop-i

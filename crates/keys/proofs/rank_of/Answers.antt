@@ -2,7 +2,6 @@
 use mathlib.Core.Path.{sym}
 use Prim.Native.Nat.{◌^◌, ◌<◌}
 use native.Mathlib.Omega.{arith}
-use borrow.Author.Rules.{rules}
 use Rattle.ty.specs.Words.{type_of}
 use Rattle.ty.specs.Round.{legal-of-word}
 use Rattle.keys.specs.Laws.{rank-lt}
@@ -10,21 +9,25 @@ use Rattle.keys.specs.Parts.{rank-known, rank-unknown, unknown-length}
 use Rattle.keys.proofs.rank_of.Goals as goal
 
 pub returns-then-tag-lt2 : goal.returns-then-tag-lt2
-returns-then-tag-lt2 c = let w = c.args.t.word in
+returns-then-tag-lt2 c =
+    let w = c.args.t.word in
     sym (rank-known w (omega arith) c.requires c.if-tag-lt2.true)
 
 pub ones-requires : goal.ones-requires
-ones-requires c = let w = c.args.t.word in
+ones-requires c =
+    let w = c.args.t.word in
     unknown-length w (omega arith) c.requires c.if-tag-lt2.false
 
 pub overflow_add-result-4 : goal.overflow_add-result-4
-overflow_add-result-4 c = let w = c.args.t.word in
+overflow_add-result-4 c =
+    let w = c.args.t.word in
     let fits : w < 2 ^ 64 = omega arith in
     let pre = c.requires in
     let r = c.ones.ensures in
     omega (arith, rank-lt (type_of w) (legal-of-word 1024 w fits pre), rank-unknown w fits pre c.if-tag-lt2.false)
 
 pub returns : goal.returns
-returns c = let w = c.args.t.word in
+returns c =
+    let w = c.args.t.word in
     let r = c.ones.ensures in
     omega (arith, rank-unknown w (omega arith) c.requires c.if-tag-lt2.false)

@@ -1,5 +1,4 @@
 -- `check_record` meets its contract: the numbers, then the room.
-use borrow.Author.Rules.{rules}
 use mathlib.Core.Path.{sym, ◌∙◌}
 use mathlib.Core.Bool.{true, false}
 use native.Mathlib.Omega.{arith}
@@ -9,19 +8,23 @@ use Rattle.layers.specs.Layers.{keys_inside}
 use Rattle.layers.proofs.check_record.Goals as goal
 
 pub returns-then-refusal-ne0 : goal.returns-then-refusal-ne0
-returns-then-refusal-ne0 c = let a = c.args in
+returns-then-refusal-ne0 c =
+    let a = c.args in
     let check = c.check_numbers-refusal in
     check.ensures ∙ numbers-first a.t.names (keys_inside a.layer.own.words (take a.t.pairs a.pairs.now)) a.flags a.class a.parents.now (λ z. c.if-refusal-ne0.true (check.ensures ∙ z))
 
 pub is_full-requires : goal.is_full-requires
-is_full-requires c = let a = c.args in
+is_full-requires c =
+    let a = c.args in
     let good = numbers-good a.t.names a.flags a.class a.parents.now (sym c.check_numbers-refusal.ensures ∙ c.if-refusal-ne0.false) in
     (omega (arith, good.0), λ i h. omega (arith, good.1 i h), c.requires.1, c.requires.2, c.requires.3)
 
 pub returns-then-is_full : goal.returns-then-is_full
-returns-then-is_full c = let a = c.args in
+returns-then-is_full c =
+    let a = c.args in
     room-last a.t.names (keys_inside a.layer.own.words (take a.t.pairs a.pairs.now)) a.flags a.class a.parents.now true (sym c.check_numbers-refusal.ensures ∙ c.if-refusal-ne0.false) (sym c.if-is_full.true ∙ c.is_full.ensures)
 
 pub returns : goal.returns
-returns c = let a = c.args in
+returns c =
+    let a = c.args in
     room-last a.t.names (keys_inside a.layer.own.words (take a.t.pairs a.pairs.now)) a.flags a.class a.parents.now false (sym c.check_numbers-refusal.ensures ∙ c.if-refusal-ne0.false) (sym c.if-is_full.false ∙ c.is_full.ensures)

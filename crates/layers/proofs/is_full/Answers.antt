@@ -1,5 +1,4 @@
 -- `is_full` meets its contract: each parent brings at most one key, and as many are new as there are fresh parents.
-use borrow.Author.Rules.{rules}
 use mathlib.Core.Path.{sym, ap, ◌∙◌}
 use mathlib.Core.List.{List}
 use Prim.Native.Nat.{ℕ}
@@ -15,13 +14,15 @@ use Rattle.layers.specs.Laws.{inside-sorted}
 use Rattle.layers.proofs.is_full.Goals as goal
 
 pub returns-then-parents-room : goal.returns-then-parents-room
-returns-then-parents-room c = let a = c.args in
+returns-then-parents-room c =
+    let a = c.args in
     let l = keys_inside a.layer.own.words (take a.n a.pairs.now) in
     let counted = c.requires.3 in
     sym (le-ltb pairs_room (length (put_all a.class a.parents.now l)) (omega (arith, all-most a.class a.parents.now l)))
 
 pub returns : goal.returns
-returns c = let a = c.args in
+returns c =
+    let a = c.args in
     let l = keys_inside a.layer.own.words (take a.n a.pairs.now) in
     let counted = c.requires.3 in
     let k = c.count.ensures ∙ ap (λ (ws : List ℕ). length (members (at ws) 0 1024)) c.fresh_in_layer-s.ensures in

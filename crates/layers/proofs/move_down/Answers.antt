@@ -1,10 +1,9 @@
 -- `move_down` meets its contract. The loop's invariant: the entries from k up to i have come to the front.
-use borrow.Author.Rules.{rules}
 use mathlib.Core.Path.{◌≡◌, refl, sym, ap, ◌∙◌}
 use mathlib.Core.List.{List, ◌++◌}
-use Prim.Native.Nat.{ℕ, ◌+◌, ◌-◌, ◌≤◌}
+use Prim.Native.Nat.{ℕ, ◌+◌, ◌-◌}
 use native.Mathlib.Omega.{arith}
-use lib.ListN.{length, get_or, set, drop, length-set}
+use lib.ListN.{get_or, set, drop, length-set}
 use Rattle.layers.proofs.Steps.{moved, moved-step, drop-front}
 use Rattle.layers.proofs.move_down.Goals as goal
 
@@ -12,7 +11,8 @@ pub loop-i-init : goal.loop-i-init
 loop-i-init c = (omega arith, c.requires.0, refl, sym (ap (moved c.args.s.now c.args.k) (let e : c.args.k - c.args.k ≡ 0 = omega arith in e)))
 
 pub loop-i-preserved : goal.loop-i-preserved
-loop-i-preserved c = let a = c.args in
+loop-i-preserved c =
+    let a = c.args in
     let l = c.loop-i in
     let e : l.i - a.k + a.k ≡ l.i = omega arith in
     let n : l.i - a.k + 1 ≡ l.i + 1 - a.k = omega arith in (
@@ -29,7 +29,8 @@ pub shape_of-s : goal.shape_of-s
 shape_of-s c = c.loop-i.invariant.2
 
 pub returns : goal.returns
-returns c = let a = c.args in
+returns c =
+    let a = c.args in
     let p = c.requires in
     let l = c.loop-i in
     let e : l.i ≡ a.n = omega arith in

@@ -1,5 +1,4 @@
 -- `open_layer` meets its contract: a fifth layer is refused.
-use borrow.Author.Rules.{rules}
 use Rattle.layers.proofs.Steps.{opened-fifth, opened-next}
 use Rattle.layers.proofs.open_layer.Goals as goal
 

@@ -1,5 +1,4 @@
 -- `take_away` meets its contract: the run of the class is one piece, and what stands behind it moves down.
-use borrow.Author.Rules.{rules}
 use mathlib.Core.Path.{sym, ap, ◌∙◌}
 use mathlib.Core.List.{List}
 use Prim.Native.Nat.{ℕ, ◌-◌}
@@ -25,7 +24,8 @@ pub overflow_sub-n : goal.overflow_sub-n
 overflow_sub-n c = omega (arith, run-in c.args.pairs.now c.args.n c.args.class c.requires.1 c.requires.2 c.run-run.result c.run-run.ensures)
 
 pub move_down-requires : goal.move_down-requires
-move_down-requires c = let r = run-in c.args.pairs.now c.args.n c.args.class c.requires.1 c.requires.2 c.run-run.result c.run-run.ensures in
+move_down-requires c =
+    let r = run-in c.args.pairs.now c.args.n c.args.class c.requires.1 c.requires.2 c.run-run.result c.run-run.ensures in
     let long = length-take (length c.args.pairs.now - c.run-run.result.first) (drop c.run-run.result.first c.args.pairs.now) in
     let rest = length-drop c.run-run.result.first c.args.pairs.now in
     (omega (arith, r), omega (arith, r, c.requires.1))
@@ -34,7 +34,8 @@ pub overflow_sub-result : goal.overflow_sub-result
 overflow_sub-result c = omega (arith, run-in c.args.pairs.now c.args.n c.args.class c.requires.1 c.requires.2 c.run-run.result c.run-run.ensures)
 
 pub returns : goal.returns
-returns c = let a = c.args in
+returns c =
+    let a = c.args in
     let run = c.run-run in
     let r = run-in a.pairs.now a.n a.class c.requires.1 c.requires.2 run.result run.ensures in
     let gone = run-gone a.pairs.now a.n a.class c.requires.1 c.requires.2 run.result run.ensures in (

@@ -1,5 +1,4 @@
 -- `put_byte` meets its contract.
-use borrow.Author.Rules.{rules}
 use Rattle.lineout.specs.Laws.{puts-one}
 use Rattle.lineout.proofs.put_byte.Goals as goal
 

@@ -1,5 +1,4 @@
 -- `put_letter` meets its contract: one byte after another.
-use borrow.Author.Rules.{rules}
 use mathlib.Core.List.{[], ◌∷◌}
 use native.Mathlib.Omega.{arith}
 use Rattle.lineout.specs.Laws.{puts-then}

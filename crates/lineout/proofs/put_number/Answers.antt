@@ -1,12 +1,12 @@
 -- `put_number` meets its contract: letter, number, LF.
-use borrow.Author.Rules.{rules}
 use native.Mathlib.Omega.{arith}
 use Rattle.lineout.specs.Printed.{number_text}
 use Rattle.lineout.specs.Laws.{number-short, line-one}
 use Rattle.lineout.proofs.put_number.Goals as goal
 
 pub put_byte-requires : goal.put_byte-requires
-put_byte-requires c = let p = c.requires in
+put_byte-requires c =
+    let p = c.requires in
     let n = number-short c.args.n (omega arith) in
     let a = c.put_letter-a.ensures.filled-is in
     let b = c.put_number_or_dash-b.ensures.filled-is in
@@ -15,6 +15,7 @@ put_byte-requires c = let p = c.requires in
     omega arith
 
 pub returns : goal.returns
-returns c = let p = c.requires in
+returns c =
+    let p = c.requires in
     let n = number-short c.args.n (omega arith) in
     line-one c.args.letter (number_text c.args.n) c.args.filled _ _ _ c.args.out.now _ _ _ (omega arith) c.put_letter-a.ensures c.put_number_or_dash-b.ensures c.put_byte.ensures

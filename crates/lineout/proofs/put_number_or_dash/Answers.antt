@@ -1,5 +1,4 @@
 -- `put_number_or_dash` meets its contract: a word has at most 20 digits.
-use borrow.Author.Rules.{rules}
 use mathlib.Core.Path.{sym}
 use native.Mathlib.Omega.{arith}
 use Rattle.lineout.specs.Laws.{decimal-short, number-none, number-some, puts-as}

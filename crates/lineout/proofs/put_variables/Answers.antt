@@ -1,10 +1,9 @@
 -- `put_variables` meets its contract: the lines that are left are those from the next variable on.
-use borrow.Author.Rules.{rules}
-use mathlib.Core.Path.{◌≡◌, refl, ◌∙◌, subst}
+use mathlib.Core.Path.{refl, ◌∙◌, subst}
 use mathlib.Core.List.{List}
-use Prim.Native.Nat.{ℕ, ◌+◌, ◌*◌, ◌-◌, ◌≤◌}
+use Prim.Native.Nat.{ℕ, ◌+◌}
 use native.Mathlib.Omega.{arith}
-use lib.ListN.{length, drop, get_or}
+use lib.ListN.{drop, get_or}
 use Rattle.lineout.specs.Printed.{variable_line, variable_lines}
 use Rattle.lineout.specs.Laws.{lines-step, lines-end, line-short, lines-short, Writing, writing-start, writing-more, writing-end}
 use Rattle.lineout.proofs.put_variables.Goals as goal
@@ -16,7 +15,8 @@ pub put_variable-at-requires : goal.put_variable-at-requires
 put_variable-at-requires c = let l = c.loop-i in let p = c.requires in let i = l.invariant.0 in let j = l.invariant.1 in let k = l.invariant.2 in omega arith
 
 pub loop-i-preserved : goal.loop-i-preserved
-loop-i-preserved c = let l = c.loop-i in
+loop-i-preserved c =
+    let l = c.loop-i in
     let a = c.args in
     let p = c.requires in
     let v = c.put_variable-at in

@@ -1,12 +1,9 @@
 -- `put_variables` meets its contract: the lines that are left are those from the next variable on.
-use borrow.Author.Rules.{rules}
-use mathlib.Core.Path.{◌≡◌, refl, ◌∙◌, subst}
-use mathlib.Core.List.{List}
-use Prim.Native.Nat.{ℕ, ◌+◌, ◌*◌, ◌-◌, ◌≤◌}
-use native.Mathlib.Omega.{arith}
-use lib.ListN.{length, drop, get_or}
-use Rattle.lineout.specs.Printed.{variable_line, variable_lines}
-use Rattle.lineout.specs.Laws.{lines-step, lines-end, line-short, lines-short, Writing, writing-start, writing-more, writing-end}
+use mathlib.Core.Path.{◌≡◌}
+use Prim.Native.Nat.{◌+◌, ◌*◌, ◌-◌, ◌≤◌}
+use lib.ListN.{length, drop}
+use Rattle.lineout.specs.Printed.{variable_lines}
+use Rattle.lineout.specs.Laws.{Writing}
 use Rattle.lineout.proofs.put_variables.Given as goal
 
 abbrev pub invariant-loop-i : goal.invariant-loop-i

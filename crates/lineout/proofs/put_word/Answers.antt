@@ -1,10 +1,8 @@
 -- `put_word` meets its contract: the digits that are left are those from the next on.
-use borrow.Author.Rules.{rules}
-use mathlib.Core.Path.{◌≡◌, refl, sym, ap, ◌∙◌, subst}
+use mathlib.Core.Path.{refl, sym, ap, ◌∙◌, subst}
 use mathlib.Core.List.{List, ◌∷◌}
-use Prim.Native.Nat.{ℕ, ◌+◌, ◌-◌, ◌≤◌}
+use Prim.Native.Nat.{ℕ, ◌+◌, ◌-◌}
 use native.Mathlib.Omega.{arith}
-use lib.ListN.{length}
 use Rattle.lineout.specs.Printed.{hex_digits}
 use Rattle.lineout.specs.Laws.{hex-step, hex-end, hex-length, Writing, writing-start, writing-step, writing-end}
 use Rattle.lineout.proofs.put_word.Goals as goal
@@ -16,7 +14,8 @@ pub put_byte-at-requires : goal.put_byte-at-requires
 put_byte-at-requires c = let l = c.loop-k in let p = c.requires in let e = l.invariant.2 in let i = l.invariant.1 in omega arith
 
 pub loop-k-preserved : goal.loop-k-preserved
-loop-k-preserved c = let l = c.loop-k in
+loop-k-preserved c =
+    let l = c.loop-k in
     let a = c.args in
     let p = c.requires in
     let e = hex-step a.w l.k (omega arith) in

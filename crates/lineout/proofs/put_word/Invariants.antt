@@ -1,12 +1,9 @@
 -- `put_word` meets its contract: the digits that are left are those from the next on.
-use borrow.Author.Rules.{rules}
-use mathlib.Core.Path.{◌≡◌, refl, sym, ap, ◌∙◌, subst}
-use mathlib.Core.List.{List, ◌∷◌}
-use Prim.Native.Nat.{ℕ, ◌+◌, ◌-◌, ◌≤◌}
-use native.Mathlib.Omega.{arith}
+use mathlib.Core.Path.{◌≡◌}
+use Prim.Native.Nat.{◌+◌, ◌-◌, ◌≤◌}
 use lib.ListN.{length}
 use Rattle.lineout.specs.Printed.{hex_digits}
-use Rattle.lineout.specs.Laws.{hex-step, hex-end, hex-length, Writing, writing-start, writing-step, writing-end}
+use Rattle.lineout.specs.Laws.{Writing}
 use Rattle.lineout.proofs.put_word.Given as goal
 
 abbrev pub invariant-loop-k : goal.invariant-loop-k

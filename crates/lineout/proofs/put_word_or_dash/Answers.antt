@@ -1,5 +1,4 @@
 -- `put_word_or_dash` meets its contract.
-use borrow.Author.Rules.{rules}
 use mathlib.Core.Path.{sym}
 use Rattle.lineout.specs.Laws.{word-none, word-some, puts-as}
 use Rattle.lineout.proofs.put_word_or_dash.Goals as goal

@@ -1,5 +1,4 @@
 -- Each way out is a case of `answer_of`.
-use borrow.Author.Rules.{rules}
 use mathlib.Core.Path.{sym, ap, ◌∙◌}
 use Rattle.methods.specs.Answers.{answer_of}
 use Rattle.methods.proofs.answer.Goals as goal

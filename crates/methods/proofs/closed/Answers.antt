@@ -1,5 +1,4 @@
 -- Each way out is a case of `closing`.
-use borrow.Author.Rules.{rules}
 use mathlib.Core.Path.{subst, ◌∙◌}
 use borrow.Author.Tests.{not-true, not-false}
 use lib.ListN.{length}

@@ -1,5 +1,4 @@
 -- Each way out is a case of `first_bad`.
-use borrow.Author.Rules.{rules}
 use mathlib.Core.Path.{ap, ◌∙◌}
 use borrow.Author.Tests.{not-true, not-false}
 use Rattle.methods.specs.Strict.{refused_at, bad-kept, bad-before, bad-here}

@@ -1,12 +1,7 @@
 -- The loop meets its contract: whether the name is strict is whether what is left from `i` goes on strictly.
-use borrow.Author.Rules.{rules}
-use mathlib.Core.Path.{◌≡◌, refl, sym, ap, ◌∙◌}
-use mathlib.Core.Bool.{Bool, false, not}
-use Prim.Native.Nat.{◌+◌, ◌-◌, ◌≤◌}
-use native.Mathlib.Omega.{arith}
-use lib.Dec.{eqb}
-use lib.ListN.{length, get_or, take, drop}
-use Rattle.methods.specs.Strict.{pick_b, parts-end, parts-at}
+use mathlib.Core.Path.{◌≡◌}
+use Prim.Native.Nat.{◌-◌, ◌≤◌}
+use lib.ListN.{length, take, drop}
 use Rattle.descriptor.specs.Read.{parts_from, strict_name}
 use Rattle.methods.proofs.is_strict.Given as goal
 

@@ -1,5 +1,4 @@
 -- Each way out is a case of `strictly`; the name lies within the bytes.
-use borrow.Author.Rules.{rules}
 use mathlib.Core.Path.{sym, ap, ◌∙◌}
 use native.Mathlib.Omega.{arith}
 use lib.ListN.{length}

@@ -1,5 +1,4 @@
 -- What is written is what the contract says, by the test of `refusal`.
-use borrow.Author.Rules.{rules}
 use borrow.Author.Tests.{eq-eqb, ne_eqb}
 use Rattle.methods.proofs.note.Goals as goal
 

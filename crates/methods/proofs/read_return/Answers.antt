@@ -1,5 +1,4 @@
 -- The type after the ')', finished and judged, as an answer.
-use borrow.Author.Rules.{rules}
 use mathlib.Core.Path.{sym, ap, subst, ◌∙◌}
 use mathlib.Core.Bool.{true}
 use Prim.Native.Nat.{◌+◌}
@@ -11,11 +10,13 @@ use Rattle.methods.specs.Filled.{answer-ending}
 use Rattle.methods.proofs.read_return.Goals as goal
 
 pub closed-g-requires : goal.closed-g-requires
-closed-g-requires c = let a = c.args in
+closed-g-requires c =
+    let a = c.args in
     subst (Placed (length a.s.now)) (sym c.read_last-f.ensures) (finish-placed a.s.now (a.close + 1) true)
 
 pub returns : goal.returns
-returns c = let a = c.args in
+returns c =
+    let a = c.args in
     let f = c.read_last-f in
     c.answer.ensures
     ∙ ap (answer_of a.count (a.close + 1)) c.closed-g.ensures

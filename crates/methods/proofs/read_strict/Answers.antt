@@ -1,5 +1,4 @@
 -- The whole type, judged.
-use borrow.Author.Rules.{rules}
 use mathlib.Core.Path.{sym, ap, subst, ◌∙◌}
 use mathlib.Core.Bool.{true}
 use lib.ListN.{length}
@@ -10,7 +9,8 @@ use Rattle.methods.proofs.read_strict.Goals as goal
 
 pub judged-requires : goal.judged-requires
 unfolding read_whole
-judged-requires c = let s = c.args.s.now in
+judged-requires c =
+    let s = c.args.s.now in
     subst (Placed (length s)) (sym c.read_whole-t.ensures) (finish-placed s 0 true)
 
 pub returns : goal.returns

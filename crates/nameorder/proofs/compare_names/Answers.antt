@@ -38,7 +38,8 @@ pub loop-i-init : goal.loop-i-init
 loop-i-init c = (omega arith, c.smaller-n.ensures, refl)
 
 pub returns-then-a-i : goal.returns-then-a-i
-returns-then-a-i c = let a = c.args in
+returns-then-a-i c =
+    let a = c.args in
     let l = c.loop-i in
     let s = c.smaller-n in
     c.compare_numbers.ensures
@@ -47,7 +48,8 @@ returns-then-a-i c = let a = c.args in
     c.if-a-i.true)
 
 pub loop-i-preserved : goal.loop-i-preserved
-loop-i-preserved c = let a = c.args in
+loop-i-preserved c =
+    let a = c.args in
     let l = c.loop-i in (
       omega arith,
       l.invariant.1,
@@ -55,6 +57,7 @@ loop-i-preserved c = let a = c.args in
     )
 
 pub returns : goal.returns
-returns c = let a = c.args in
+returns c =
+    let a = c.args in
     let l = c.loop-i in
     c.compare_numbers-2.ensures ∙ sym (l.invariant.2 ∙ one-ended a.a.now a.b.now l.i (omega arith))

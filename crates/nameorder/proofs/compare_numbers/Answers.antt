@@ -12,5 +12,6 @@ pub returns-then-b-a : goal.returns-then-b-a
 returns-then-b-a c = sym (numbers-greater _ _ c.if-b-a.true)
 
 pub returns : goal.returns
-returns c = let a = c.args in
+returns c =
+    let a = c.args in
     sym (ap (compare_numbers a.a) (let e : a.b ≡ a.a = omega arith in e) ∙ numbers-same a.a)

@@ -9,12 +9,14 @@ use Rattle.nameorder.proofs.differ_in_block.Goals as goal
 use Rattle.nameorder.proofs.differ_in_block.Goals.{then-a-i, else-a-i}
 
 pub loop-k-init : goal.loop-k-init
-loop-k-init c = let a = c.args in
+loop-k-init c =
+    let a = c.args in
     let start : a.i ≡ a.i + 0 = omega arith in
     (c.requires.0, c.requires.1, omega arith, ap (λ (n : ℕ). differ (slice n (a.i + 8) a.a.now) (slice n (a.i + 8) a.b.now)) start)
 
 pub loop-k-preserved : goal.loop-k-preserved
-loop-k-preserved c = let a = c.args in
+loop-k-preserved c =
+    let a = c.args in
     let l = c.loop-k in
     let x = a.a.now in
     let y = a.b.now in
@@ -33,7 +35,8 @@ loop-k-preserved c = let a = c.args in
     )
 
 pub returns : goal.returns
-returns c = let a = c.args in
+returns c =
+    let a = c.args in
     let l = c.loop-k in
     let x = a.a.now in
     let y = a.b.now in

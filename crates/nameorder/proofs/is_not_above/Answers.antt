@@ -16,7 +16,8 @@ left : (l : List ℕ) (i : ℕ) → take (length l - i) (drop i l) ≡ drop i l
 left l i = take_all (length l - i) (drop i l) (omega (arith, length-drop i l))
 
 pub returns : goal.returns
-returns c = let p = c.skip_same-i in
+returns c =
+    let p = c.skip_same-i in
     let a = c.args in
     c.rest_is_not_above.ensures
     ∙ ap (λ (o : Order). ltb 0 a.count && not (is_less o))

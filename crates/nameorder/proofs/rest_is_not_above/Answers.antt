@@ -19,13 +19,16 @@ pub returns-then-count-eq0 : goal.returns-then-count-eq0
 returns-then-count-eq0 c = rw (le-ltb 0 c.args.count (omega arith))
 
 pub returns-in-Less : goal.returns-in-Less
-returns-in-Less c = let a = c.args in
+returns-in-Less c =
+    let a = c.args in
     later a.count a.last.now a.name.now _ _ c.if-count-eq0.false c.compare_names-o.ensures c.in-Less.is
 
 pub returns-in-Equal : goal.returns-in-Equal
-returns-in-Equal c = let a = c.args in
+returns-in-Equal c =
+    let a = c.args in
     later a.count a.last.now a.name.now _ _ c.if-count-eq0.false c.compare_names-o.ensures c.in-Equal.is
 
 pub returns-in-Greater : goal.returns-in-Greater
-returns-in-Greater c = let a = c.args in
+returns-in-Greater c =
+    let a = c.args in
     later a.count a.last.now a.name.now _ _ c.if-count-eq0.false c.compare_names-o.ensures c.in-Greater.is

@@ -12,7 +12,8 @@ pub returns-then-differ_in_block : goal.returns-then-differ_in_block
 returns-then-differ_in_block c = let l = c.loop-i in (l.invariant.2, l.invariant.3)
 
 pub loop-i-preserved : goal.loop-i-preserved
-loop-i-preserved c = let a = c.args in
+loop-i-preserved c =
+    let a = c.args in
     let l = c.loop-i in (
       l.invariant.0,
       l.invariant.1,

@@ -41,17 +41,21 @@ pub returns-then-n-gt-NAME_BYTES : goal.returns-then-n-gt-NAME_BYTES
 returns-then-n-gt-NAME_BYTES c = let a = c.args in sym (long a.last.now a.name.now a.count a.total c.if-n-gt-NAME_BYTES.true)
 
 pub returns-then-not-is_well_formed : goal.returns-then-not-is_well_formed
-returns-then-not-is_well_formed c = let a = c.args in
+returns-then-not-is_well_formed c =
+    let a = c.args in
     sized a.last.now a.name.now a.count a.total false _ _ c.if-n-eq0.false (omega arith) (sym c.if-not-is_well_formed.true ∙ c.is_well_formed.ensures) refl refl
 
 pub returns-then-is_not_above : goal.returns-then-is_not_above
-returns-then-is_not_above c = let a = c.args in
+returns-then-is_not_above c =
+    let a = c.args in
     sized a.last.now a.name.now a.count a.total true true _ c.if-n-eq0.false (omega arith) (sym c.if-not-is_well_formed.false ∙ c.is_well_formed.ensures) (sym c.if-is_not_above.true ∙ c.is_not_above.ensures) refl
 
 pub returns-then-is_full : goal.returns-then-is_full
-returns-then-is_full c = let a = c.args in
+returns-then-is_full c =
+    let a = c.args in
     sized a.last.now a.name.now a.count a.total true false true c.if-n-eq0.false (omega arith) (sym c.if-not-is_well_formed.false ∙ c.is_well_formed.ensures) (sym c.if-is_not_above.false ∙ c.is_not_above.ensures) (sym c.if-is_full.true ∙ c.is_full.ensures)
 
 pub returns : goal.returns
-returns c = let a = c.args in
+returns c =
+    let a = c.args in
     sized a.last.now a.name.now a.count a.total true false false c.if-n-eq0.false (omega arith) (sym c.if-not-is_well_formed.false ∙ c.is_well_formed.ensures) (sym c.if-is_not_above.false ∙ c.is_not_above.ensures) (sym c.if-is_full.false ∙ c.is_full.ensures)

@@ -44,7 +44,8 @@ unfolding check_names
 loop-i-init c = (omega arith, c.if-name_at-name_len.false, omega arith, omega arith, omega arith, rw (eq-eqb _ _ c.if-name_at-name_len.false))
 
 pub returns-then-refusal-ne0 : goal.returns-then-refusal-ne0
-returns-then-refusal-ne0 c = let a = c.args in
+returns-then-refusal-ne0 c =
+    let a = c.args in
     let l = c.loop-i in
     let s = a.names.now in
     let r = c.check_row-refusal in
@@ -54,7 +55,8 @@ pub overflow_add-total : goal.overflow_add-total
 overflow_add-total c = let g = row-checked _ _ _ _ _ _ (sym c.check_row-refusal.ensures ∙ c.if-refusal-ne0.false) in omega arith
 
 pub loop-i-preserved : goal.loop-i-preserved
-loop-i-preserved c = let a = c.args in
+loop-i-preserved c =
+    let a = c.args in
     let l = c.loop-i in
     let s = a.names.now in
     let r = c.check_row-refusal in
@@ -68,7 +70,8 @@ loop-i-preserved c = let a = c.args in
     )
 
 pub returns : goal.returns
-returns c = let a = c.args in
+returns c =
+    let a = c.args in
     let l = c.loop-i in
     let s = a.names.now in
     sym (l.invariant.5 ∙ rows-end s a.name_at.now a.name_len.now (name_of s l.last l.span) l.i l.total (omega arith))

@@ -19,9 +19,11 @@ pub returns-then-count-ge-NAMES : goal.returns-then-count-ge-NAMES
 returns-then-count-ge-NAMES c = simp (le-leb 1024 c.args.count (omega arith))
 
 pub returns-then-total-gt-ALL_BYTES : goal.returns-then-total-gt-ALL_BYTES
-returns-then-total-gt-ALL_BYTES c = let a = c.args in
+returns-then-total-gt-ALL_BYTES c =
+    let a = c.args in
     simp (lt-leb 1024 a.count (omega arith), lt-ltb 24576 (a.total + a.length) (omega arith))
 
 pub returns : goal.returns
-returns c = let a = c.args in
+returns c =
+    let a = c.args in
     simp (lt-leb 1024 a.count (omega arith)) (moved a.total a.length (omega arith))

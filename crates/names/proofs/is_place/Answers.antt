@@ -14,10 +14,12 @@ returns-then-len-gt-NAME_BYTES c = simp (le-leb 1 c.args.len (omega arith), lt-l
 
 pub returns-then-size-at : goal.returns-then-size-at
 unfolding place_good
-returns-then-size-at c = let a = c.args in
+returns-then-size-at c =
+    let a = c.args in
     simp (le-leb 1 a.len (omega arith), le-leb a.len 255 (omega arith), lt-leb a.at a.size (omega arith))
 
 pub returns : goal.returns
 unfolding place_good
-returns c = let a = c.args in
+returns c =
+    let a = c.args in
     simp (le-leb 1 a.len (omega arith), le-leb a.len 255 (omega arith), le-leb a.at a.size (omega arith))

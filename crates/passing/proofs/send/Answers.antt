@@ -1,5 +1,4 @@
 -- `send` meets its contract: the root's partners are a run.
-use borrow.Author.Rules.{rules}
 use mathlib.Core.Path.{ap, ◌∙◌}
 use mathlib.Core.List.{List}
 use Prim.Native.Nat.{ℕ}
@@ -10,27 +9,32 @@ use Rattle.passing.specs.Steps.{run-inside, run-partners}
 use Rattle.passing.proofs.send.Goals as goal
 
 pub offset_bounds-links-first : goal.offset_bounds-links-first
-offset_bounds-links-first c = let x = c.args in
+offset_bounds-links-first c =
+    let x = c.args in
     let r = c.run-of in
     omega (arith, run-inside x.root x.links.now c.requires.3 r.result r.ensures)
 
 pub slice_bounds-send_each-count : goal.slice_bounds-send_each-count
-slice_bounds-send_each-count c = let x = c.args in
+slice_bounds-send_each-count c =
+    let x = c.args in
     let r = c.run-of in
     omega (arith, run-inside x.root x.links.now c.requires.3 r.result r.ensures)
 
 pub slice_bounds-send_each-start : goal.slice_bounds-send_each-start
-slice_bounds-send_each-start c = let x = c.args in
+slice_bounds-send_each-start c =
+    let x = c.args in
     let r = c.run-of in
     omega (arith, run-inside x.root x.links.now c.requires.3 r.result r.ensures)
 
 pub slice_bounds-send_each-end : goal.slice_bounds-send_each-end
-slice_bounds-send_each-end c = let x = c.args in
+slice_bounds-send_each-end c =
+    let x = c.args in
     let r = c.run-of in
     omega (arith, run-inside x.root x.links.now c.requires.3 r.result r.ensures)
 
 pub returns : goal.returns
-returns c = let x = c.args in
+returns c =
+    let x = c.args in
     let r = c.run-of in
     c.send_each.ensures
     ∙ ap (λ (l : List ℕ). put_all (to_each 0 x.kind (sent_types x.t) l) (store x.a.now x.ring.now x.s)) (run-partners x.root x.links.now c.requires.3 r.result r.ensures)

@@ -1,16 +1,11 @@
 -- `send_arrays` meets its contract: what is left are the links from i on.
-use borrow.Author.Rules.{rules}
-use mathlib.Core.Path.{◌≡◌, refl, sym, ap, ◌∙◌}
+use mathlib.Core.Path.{◌≡◌}
 use mathlib.Core.List.{map}
-use Prim.Native.Nat.{◌+◌, ◌-◌, ◌≤◌}
-use native.Mathlib.Omega.{arith}
-use lib.ListN.{length, drop, get_or}
+use Prim.Native.Nat.{◌-◌, ◌≤◌}
+use lib.ListN.{length, drop}
 use Rattle.solving.specs.LinkKeys.{pair_of}
 use Rattle.solving.specs.Solving.{array_rules}
-use Rattle.solving.specs.Steps.{array_rule}
 use Rattle.inserting.specs.Store.{store, put_all, sent_types, Ready}
-use Rattle.inserting.specs.Laws.{all-stopped, sent-base}
-use Rattle.passing.specs.Steps.{next-ready, below-at, array-given, arrays-put, arrays-done}
 use Rattle.passing.proofs.send_arrays.Given as goal
 
 abbrev pub invariant-loop-i : goal.invariant-loop-i

@@ -1,11 +1,10 @@
 -- `send_each` meets its contract: what is left are the links from i on.
-use borrow.Author.Rules.{rules}
-use mathlib.Core.Path.{◌≡◌, refl, sym, ap, ◌∙◌}
-use Prim.Native.Nat.{◌+◌, ◌-◌, ◌%◌, ◌≤◌}
+use mathlib.Core.Path.{refl, sym, ap, ◌∙◌}
+use Prim.Native.Nat.{◌+◌, ◌%◌}
 use native.Mathlib.Omega.{arith}
-use lib.ListN.{length, drop, get_or}
+use lib.ListN.{drop, get_or}
 use Rattle.solving.specs.Solving.{to_one, to_each}
-use Rattle.inserting.specs.Store.{store, put_all, sent_types, Ready}
+use Rattle.inserting.specs.Store.{store, put_all, sent_types}
 use Rattle.inserting.specs.Laws.{all-stopped, sent-base}
 use Rattle.passing.specs.Passes.{seconds}
 use Rattle.passing.specs.Steps.{one-given, next-ready, each-put, each-done}
@@ -15,13 +14,15 @@ pub loop-i-init : goal.loop-i-init
 loop-i-init c = (omega arith, refl, refl, c.requires.0, refl)
 
 pub insert_sent-state-requires : goal.insert_sent-state-requires
-insert_sent-state-requires c = let x = c.args in
+insert_sent-state-requires c =
+    let x = c.args in
     let p = c.requires in
     let l = c.loop-i in
     (l.invariant.3, omega arith, p.1, p.2)
 
 pub returns-then-state-ne0 : goal.returns-then-state-ne0
-returns-then-state-ne0 c = let x = c.args in
+returns-then-state-ne0 c =
+    let x = c.args in
     let l = c.loop-i in
     let o = c.insert_sent-state in
     sym
@@ -30,7 +31,8 @@ returns-then-state-ne0 c = let x = c.args in
     ∙ all-stopped (to_each 0 x.kind (sent_types x.t) (drop (l.i + 1) (seconds x.links.now))) (store o.new.a o.new.ring o.result) c.if-state-ne0.true)
 
 pub loop-i-preserved : goal.loop-i-preserved
-loop-i-preserved c = let x = c.args in
+loop-i-preserved c =
+    let x = c.args in
     let l = c.loop-i in
     let o = c.insert_sent-state in
     let p = c.requires in (
@@ -43,6 +45,7 @@ loop-i-preserved c = let x = c.args in
     )
 
 pub returns : goal.returns
-returns c = let x = c.args in
+returns c =
+    let x = c.args in
     let l = c.loop-i in
     sym (l.invariant.4 ∙ each-done x.kind (sent_types x.t) x.links.now l.i (store l.a l.ring l.state) (omega arith))

@@ -1,14 +1,10 @@
 -- `send_each` meets its contract: what is left are the links from i on.
-use borrow.Author.Rules.{rules}
-use mathlib.Core.Path.{◌≡◌, refl, sym, ap, ◌∙◌}
-use Prim.Native.Nat.{◌+◌, ◌-◌, ◌%◌, ◌≤◌}
-use native.Mathlib.Omega.{arith}
-use lib.ListN.{length, drop, get_or}
-use Rattle.solving.specs.Solving.{to_one, to_each}
+use mathlib.Core.Path.{◌≡◌}
+use Prim.Native.Nat.{◌-◌, ◌≤◌}
+use lib.ListN.{length, drop}
+use Rattle.solving.specs.Solving.{to_each}
 use Rattle.inserting.specs.Store.{store, put_all, sent_types, Ready}
-use Rattle.inserting.specs.Laws.{all-stopped, sent-base}
 use Rattle.passing.specs.Passes.{seconds}
-use Rattle.passing.specs.Steps.{one-given, next-ready, each-put, each-done}
 use Rattle.passing.proofs.send_each.Given as goal
 
 abbrev pub invariant-loop-i : goal.invariant-loop-i

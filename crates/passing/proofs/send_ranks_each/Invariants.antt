@@ -1,16 +1,12 @@
 -- `send_ranks_each` meets its contract: what is left are the links from i on.
-use borrow.Author.Rules.{rules}
-use mathlib.Core.Path.{◌≡◌, refl, sym, ap, ◌∙◌}
+use mathlib.Core.Path.{◌≡◌}
 use mathlib.Core.List.{map}
-use Prim.Native.Nat.{◌+◌, ◌-◌, ◌%◌, ◌^◌, ◌≤◌, ◌<◌}
-use native.Mathlib.Omega.{arith}
-use lib.ListN.{length, drop, get_or}
+use Prim.Native.Nat.{◌-◌, ◌^◌, ◌≤◌, ◌<◌}
+use lib.ListN.{length, drop}
 use Rattle.keys.specs.Rank.{unrank}
-use Rattle.solving.specs.Solving.{to_one, to_each}
+use Rattle.solving.specs.Solving.{to_each}
 use Rattle.inserting.specs.Store.{store, put_all, Ready}
-use Rattle.inserting.specs.Laws.{all-stopped}
 use Rattle.passing.specs.Passes.{seconds}
-use Rattle.passing.specs.Steps.{one-given, ranked-base, next-ready, each-put, each-done}
 use Rattle.passing.proofs.send_ranks_each.Given as goal
 
 abbrev pub invariant-loop-i : goal.invariant-loop-i

@@ -1,15 +1,11 @@
 -- `send_ranks_to` meets its contract: what is left are the ranks from i on.
-use borrow.Author.Rules.{rules}
-use mathlib.Core.Path.{◌≡◌, refl, sym, ap, ◌∙◌}
-use mathlib.Core.List.{[], ◌∷◌, map}
-use Prim.Native.Nat.{◌+◌, ◌-◌, ◌≤◌}
-use native.Mathlib.Omega.{arith}
-use lib.ListN.{length, drop, get_or}
+use mathlib.Core.Path.{◌≡◌}
+use mathlib.Core.List.{map}
+use Prim.Native.Nat.{◌-◌, ◌≤◌}
+use lib.ListN.{length, drop}
 use Rattle.keys.specs.Rank.{unrank}
 use Rattle.solving.specs.Solving.{to_one}
 use Rattle.inserting.specs.Store.{store, put_all, Ready}
-use Rattle.inserting.specs.Laws.{all-stopped}
-use Rattle.passing.specs.Steps.{one-given, next-ready, ranked-at, ranked-one, one-bound, ranks-put, ranks-done}
 use Rattle.passing.proofs.send_ranks_to.Given as goal
 
 abbrev pub invariant-loop-i : goal.invariant-loop-i

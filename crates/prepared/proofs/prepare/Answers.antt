@@ -1,5 +1,4 @@
 -- `prepare` meets its contract: rows of all classes behind, keys in front.
-use borrow.Author.Rules.{rules}
 use mathlib.Core.Path.{ap, ◌∙◌}
 use mathlib.Core.List.{List}
 use Prim.Native.Nat.{ℕ}
@@ -12,11 +11,13 @@ use Rattle.prepared.specs.Prepared.{above-inside, above-closed, part-zero, put-l
 use Rattle.prepared.proofs.prepare.Goals as goal
 
 pub slice_bounds-fill-end : goal.slice_bounds-fill-end
-slice_bounds-fill-end c = let l = zeros-length-of c.args.table.now c.requires.5 in
+slice_bounds-fill-end c =
+    let l = zeros-length-of c.args.table.now c.requires.5 in
     omega arith
 
 pub fill-requires : goal.fill-requires
-fill-requires c = let a = c.args in
+fill-requires c =
+    let a = c.args in
     let p = c.requires in
     let b = c.spread-above in
     let v = view_of a.pairs.now a.marks.now a.t in
@@ -29,13 +30,15 @@ fill-requires c = let a = c.args in
     )
 
 pub copy_front-requires : goal.copy_front-requires
-copy_front-requires c = let f = c.fill in
+copy_front-requires c =
+    let f = c.fill in
     let l = put-length c.args.table.now f.new.rows c.requires.5 f.ensures.size in
     let n = c.requires.2 in
     (c.requires.3, omega arith)
 
 pub returns : goal.returns
-returns c = let a = c.args in
+returns c =
+    let a = c.args in
     let f = c.fill in
     let b = c.spread-above in
     let r = f.new.rows in

@@ -1,5 +1,4 @@
 -- `relation_of` meets its contract.
-use borrow.Author.Rules.{rules}
 use mathlib.Core.Path.{sym, ◌∙◌}
 use Rattle.prepared.proofs.relation_of.Goals as goal
 

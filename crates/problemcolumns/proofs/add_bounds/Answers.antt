@@ -1,13 +1,9 @@
 -- `add_bounds` meets its contract: what is left are the rows from i on; the keys so far stand in front of the slice as it came.
-use borrow.Author.Rules.{rules}
-use mathlib.Core.Path.{◌≡◌, refl, sym, ap, ◌∙◌}
-use mathlib.Core.List.{[]}
-use Prim.Native.Nat.{◌+◌, ◌-◌, ◌≤◌}
+use mathlib.Core.Path.{refl, sym, ap, ◌∙◌}
+use Prim.Native.Nat.{◌+◌}
 use native.Mathlib.Omega.{arith}
-use lib.ListN.{length, take, drop, get_or}
+use lib.ListN.{take, drop, get_or}
 use lib.Seq.{length-take-le}
-use Rattle.sorted.specs.Sorted.{Sorted}
-use Rattle.rows.specs.Rows.{filled}
 use Rattle.problemrows.specs.ProblemRows.{bound_row}
 use Rattle.problemrows.specs.Laws.{adds-by}
 use Rattle.problemcolumns.specs.Runs.{bound_run}
@@ -18,12 +14,14 @@ pub loop-i-init : goal.loop-i-init
 loop-i-init c = let p = c.requires in (omega arith, p.2, p.3, omega arith, p.4, refl, tt, refl, refl)
 
 pub add_bound-row-requires : goal.add_bound-row-requires
-add_bound-row-requires c = let p = c.requires in
+add_bound-row-requires c =
+    let p = c.requires in
     let v = c.loop-i.invariant in
     (p.0, p.1, v.3, v.4, v.6)
 
 pub shape_of-bounds-then-row-ne0 : goal.shape_of-bounds-then-row-ne0
-shape_of-bounds-then-row-ne0 c = let a = c.args in
+shape_of-bounds-then-row-ne0 c =
+    let a = c.args in
     let l = c.loop-i in
     let row = c.add_bound-row in
     let i = l.i in
@@ -33,7 +31,8 @@ shape_of-bounds-then-row-ne0 c = let a = c.args in
     (turned 4096 l.n a.bounds.now l.bounds _ one row.result l.invariant.3 l.invariant.4 l.invariant.5 l.invariant.7 stays row.ensures).as-long
 
 pub returns-then-row-ne0 : goal.returns-then-row-ne0
-returns-then-row-ne0 c = let a = c.args in
+returns-then-row-ne0 c =
+    let a = c.args in
     let l = c.loop-i in
     let h = c.loop-i-test.true in
     let row = c.add_bound-row in
@@ -45,7 +44,8 @@ returns-then-row-ne0 c = let a = c.args in
     (adds-last 4096 l.n a.bounds.now l.bounds _ one row.result l.invariant.3 l.invariant.4 l.invariant.5 l.invariant.7 stays row.ensures)
 
 pub loop-i-preserved : goal.loop-i-preserved
-loop-i-preserved c = let a = c.args in
+loop-i-preserved c =
+    let a = c.args in
     let l = c.loop-i in
     let h = c.loop-i-test.true in
     let row = c.add_bound-row in
@@ -70,7 +70,8 @@ pub shape_of-bounds : goal.shape_of-bounds
 shape_of-bounds c = c.loop-i.invariant.5
 
 pub returns : goal.returns
-returns c = let a = c.args in
+returns c =
+    let a = c.args in
     let l = c.loop-i in
     adds-by (l.invariant.8 ∙ bounds-end a.names a.components a.bnd_comp.now a.bnd_kind.now a.bnd_type.now l.i (take l.n l.bounds) (omega arith))
     (adds-end l.n a.bounds.now l.bounds (omega (arith, l.invariant.3, l.invariant.4)) l.invariant.7)

@@ -1,17 +1,11 @@
 -- `add_bounds` meets its contract: what is left are the rows from i on; the keys so far stand in front of the slice as it came.
-use borrow.Author.Rules.{rules}
-use mathlib.Core.Path.{◌≡◌, refl, sym, ap, ◌∙◌}
+use mathlib.Core.Path.{◌≡◌}
 use mathlib.Core.List.{[]}
-use Prim.Native.Nat.{◌+◌, ◌-◌, ◌≤◌}
-use native.Mathlib.Omega.{arith}
-use lib.ListN.{length, take, drop, get_or}
-use lib.Seq.{length-take-le}
+use Prim.Native.Nat.{◌-◌, ◌≤◌}
+use lib.ListN.{length, take, drop}
 use Rattle.sorted.specs.Sorted.{Sorted}
 use Rattle.rows.specs.Rows.{filled}
-use Rattle.problemrows.specs.ProblemRows.{bound_row}
-use Rattle.problemrows.specs.Laws.{adds-by}
 use Rattle.problemcolumns.specs.Runs.{bound_run}
-use Rattle.problemcolumns.specs.Steps.{bounds-end, bounds-stop, bounds-step, bound-stays, adds-last, turned, adds-end}
 use Rattle.problemcolumns.proofs.add_bounds.Given as goal
 
 abbrev pub invariant-loop-i : goal.invariant-loop-i

@@ -1,13 +1,9 @@
 -- `add_pairs` meets its contract: what is left are the rows from i on; the pairs so far stand in front of the slice as it came.
-use borrow.Author.Rules.{rules}
-use mathlib.Core.Path.{◌≡◌, refl, sym, ap, ◌∙◌}
-use mathlib.Core.List.{[]}
-use Prim.Native.Nat.{◌+◌, ◌-◌, ◌≤◌}
+use mathlib.Core.Path.{refl, sym, ap, ◌∙◌}
+use Prim.Native.Nat.{◌+◌}
 use native.Mathlib.Omega.{arith}
-use lib.ListN.{length, take, drop, get_or}
+use lib.ListN.{take, drop, get_or}
 use lib.Seq.{length-take-le}
-use Rattle.sorted.specs.Sorted.{Sorted}
-use Rattle.rows.specs.Rows.{filled}
 use Rattle.problemrows.specs.ProblemRows.{pair_row}
 use Rattle.problemrows.specs.Laws.{adds-by}
 use Rattle.problemcolumns.specs.Runs.{pair_run}
@@ -18,12 +14,14 @@ pub loop-i-init : goal.loop-i-init
 loop-i-init c = let p = c.requires in (omega arith, p.1, omega arith, p.2, refl, tt, refl, refl)
 
 pub add_pair-row-requires : goal.add_pair-row-requires
-add_pair-row-requires c = let p = c.requires in
+add_pair-row-requires c =
+    let p = c.requires in
     let v = c.loop-i.invariant in
     (p.0, v.2, v.3, v.5)
 
 pub shape_of-pairs-then-row-ne0 : goal.shape_of-pairs-then-row-ne0
-shape_of-pairs-then-row-ne0 c = let a = c.args in
+shape_of-pairs-then-row-ne0 c =
+    let a = c.args in
     let l = c.loop-i in
     let row = c.add_pair-row in
     let i = l.i in
@@ -33,7 +31,8 @@ shape_of-pairs-then-row-ne0 c = let a = c.args in
     (turned a.room l.n a.pairs.now l.pairs _ one row.result l.invariant.2 l.invariant.3 l.invariant.4 l.invariant.6 stays row.ensures).as-long
 
 pub returns-then-row-ne0 : goal.returns-then-row-ne0
-returns-then-row-ne0 c = let a = c.args in
+returns-then-row-ne0 c =
+    let a = c.args in
     let l = c.loop-i in
     let h = c.loop-i-test.true in
     let row = c.add_pair-row in
@@ -45,7 +44,8 @@ returns-then-row-ne0 c = let a = c.args in
     (adds-last a.room l.n a.pairs.now l.pairs _ one row.result l.invariant.2 l.invariant.3 l.invariant.4 l.invariant.6 stays row.ensures)
 
 pub loop-i-preserved : goal.loop-i-preserved
-loop-i-preserved c = let a = c.args in
+loop-i-preserved c =
+    let a = c.args in
     let l = c.loop-i in
     let h = c.loop-i-test.true in
     let row = c.add_pair-row in
@@ -69,7 +69,8 @@ pub shape_of-pairs : goal.shape_of-pairs
 shape_of-pairs c = c.loop-i.invariant.4
 
 pub returns : goal.returns
-returns c = let a = c.args in
+returns c =
+    let a = c.args in
     let l = c.loop-i in
     adds-by (l.invariant.7 ∙ pairs-end a.components a.room a.firsts.now a.seconds.now l.i (take l.n l.pairs) (omega arith))
     (adds-end l.n a.pairs.now l.pairs (omega (arith, l.invariant.2, l.invariant.3)) l.invariant.6)

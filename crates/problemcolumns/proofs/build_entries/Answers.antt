@@ -1,5 +1,4 @@
 -- `build_entries` meets its contract: kind after kind, each after the refusal of those before it.
-use borrow.Author.Rules.{rules}
 use native.Mathlib.Omega.{arith}
 use Rattle.problems.specs.Problems.{Columns}
 use Rattle.problemcolumns.specs.ProblemColumns.{columns_in}
@@ -12,7 +11,8 @@ columns s =
     columns_in a.components a.var_comp.now a.bnd_comp.now a.bnd_kind.now a.bnd_type.now a.flow_src.now a.flow_dst.now a.up_src.now a.up_dst.now a.read_arr.now a.read_res.now a.write_arr.now a.write_val.now
 
 pub add_bounds-b-requires : goal.add_bounds-b-requires
-add_bounds-b-requires c = let e = evens (columns c) c.requires.2 in
+add_bounds-b-requires c =
+    let e = evens (columns c) c.requires.2 in
     (c.requires.0, c.requires.1, e.kinds, e.words, c.requires.3.0)
 
 pub add_pairs_after-f-requires : goal.add_pairs_after-f-requires
@@ -34,7 +34,8 @@ pub shape_of-bounds : goal.shape_of-bounds
 shape_of-bounds c = c.add_bounds-b.auto.bounds
 
 pub returns : goal.returns
-returns c = let a = c.args in
+returns c =
+    let a = c.args in
     let b = c.add_bounds-b in
     let f = c.add_pairs_after-f in
     let u = c.add_pairs_after-u in

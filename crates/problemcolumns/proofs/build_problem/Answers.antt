@@ -1,5 +1,4 @@
 -- `build_problem` meets its contract: the refusal of the count or of the variables, or the entries after them.
-use borrow.Author.Rules.{rules}
 use mathlib.Core.Path.{sym, ◌∙◌}
 use native.Mathlib.Omega.{arith}
 use Rattle.problems.specs.Problems.{Columns}
@@ -14,16 +13,19 @@ columns s =
     columns_in a.components a.var_comp.now a.bnd_comp.now a.bnd_kind.now a.bnd_type.now a.flow_src.now a.flow_dst.now a.up_src.now a.up_dst.now a.read_arr.now a.read_res.now a.write_arr.now a.write_val.now
 
 pub returns-then-refusal-ne0 : goal.returns-then-refusal-ne0
-returns-then-refusal-ne0 c = let a = c.args in
+returns-then-refusal-ne0 c =
+    let a = c.args in
     let head = c.check_head-refusal in
     head-refused a.names (columns c) head.result head.ensures c.if-refusal-ne0.true a.bounds.now a.flows.now a.uppers.now a.reads.now a.writes.now
 
 pub build_entries-requires : goal.build_entries-requires
-build_entries-requires c = let passed = head-passed c.args.names (columns c) (sym c.check_head-refusal.ensures ∙ c.if-refusal-ne0.false) in
+build_entries-requires c =
+    let passed = head-passed c.args.names (columns c) (sym c.check_head-refusal.ensures ∙ c.if-refusal-ne0.false) in
     (c.requires.0, passed.0, c.requires.1, c.requires.2)
 
 pub returns : goal.returns
-returns c = let a = c.args in
+returns c =
+    let a = c.args in
     let passed = head-passed a.names (columns c) (sym c.check_head-refusal.ensures ∙ c.if-refusal-ne0.false) in
     let entries = c.build_entries in
     entered-taken a.names (columns c) c.requires.0 (words-fit a.bnd_type.now (λ i. omega (arith, (c.type_inv.bnd_type i).fits))) passed.0 passed.1

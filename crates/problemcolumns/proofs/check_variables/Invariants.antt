@@ -1,13 +1,9 @@
 -- `check_variables` meets its contract: what is left are the variables from i on, those before them taken.
-use borrow.Author.Rules.{rules}
-use mathlib.Core.Path.{◌≡◌, refl, sym, ap, ◌∙◌}
+use mathlib.Core.Path.{◌≡◌}
 use mathlib.Core.List.{[]}
 use Prim.Native.Nat.{◌-◌, ◌≤◌}
-use native.Mathlib.Omega.{arith}
 use lib.ListN.{length, take, drop}
-use Rattle.problemrows.specs.ProblemRows.{Ran}
 use Rattle.problemcolumns.specs.Runs.{variable_run}
-use Rattle.problemcolumns.specs.Steps.{variables-end, variables-stop, variables-step}
 use Rattle.problemcolumns.proofs.check_variables.Given as goal
 
 abbrev pub invariant-loop-i : goal.invariant-loop-i

@@ -25,6 +25,7 @@ unfolding even_rows
 returns-then-read_arr-read_res c = simp (eq-eqb _ _ c.if-bnd_comp-bnd_kind.false, eq-eqb _ _ c.if-bnd_comp-bnd_type.false, eq-eqb _ _ c.if-flow_src-flow_dst.false, eq-eqb _ _ c.if-up_src-up_dst.false, ne_eqb _ _ c.if-read_arr-read_res.true)
 
 pub returns : goal.returns
-returns c = let a = c.args in
+returns c =
+    let a = c.args in
     even-last a.bnd_comp a.bnd_kind a.bnd_type a.flow_src a.flow_dst a.up_src a.up_dst a.read_arr a.read_res a.write_arr a.write_val
     c.if-bnd_comp-bnd_kind.false c.if-bnd_comp-bnd_type.false c.if-flow_src-flow_dst.false c.if-up_src-up_dst.false c.if-read_arr-read_res.false

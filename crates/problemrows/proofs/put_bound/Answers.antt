@@ -1,5 +1,4 @@
 -- `put_bound` meets its contract: the key of the bound is what is put.
-use borrow.Author.Rules.{rules}
 use mathlib.Core.Path.{sym, ap}
 use Prim.Native.Nat.{ℕ}
 use lib.ListN.{take}
@@ -8,5 +7,6 @@ use Rattle.problemrows.specs.Laws.{adds-by}
 use Rattle.problemrows.proofs.put_bound.Goals as goal
 
 pub returns : goal.returns
-returns c = let a = c.args in
+returns c =
+    let a = c.args in
     adds-by (ap (λ (x : ℕ). entry_row 4096 x (take a.n a.bounds.now)) (sym c.key_of-x.ensures)) c.put_entry.ensures

@@ -1,8 +1,7 @@
 -- `propagate` meets its contract: each turn is one of the definition, and less is left to do after it.
-use mathlib.Core.Path.{◌≡◌, refl, sym, ◌∙◌}
+use mathlib.Core.Path.{◌≡◌}
 use mathlib.Core.List.{map}
 use Prim.Native.Nat.{◌+◌, ◌≤◌}
-use native.Mathlib.Omega.{arith}
 use lib.ListN.{length, take}
 use Rattle.lattice.specs.World.{world_of}
 use Rattle.solving.specs.Solving.{propagate, room}
@@ -11,7 +10,6 @@ use Rattle.inserting.specs.Store.{store}
 use Rattle.rules.specs.Rules.{links_in}
 use Rattle.running.specs.Running.{Running}
 use Rattle.running.specs.Laws.{ahead}
-use Rattle.propagating.specs.Propagating.{first-of, first-ahead, turnable, ends, fronted, small, less, goes, stops}
 use Rattle.propagating.proofs.propagate.Given as goal
 
 abbrev pub invariant-loop-state : goal.invariant-loop-state

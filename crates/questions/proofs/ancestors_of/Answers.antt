@@ -9,7 +9,8 @@ use Rattle.questions.specs.Laws.{gathers-short, gathers-long}
 use Rattle.questions.proofs.ancestors_of.Goals as goal
 
 pub returns-then-work-lt-ROOM : goal.returns-then-work-lt-ROOM
-returns-then-work-lt-ROOM c = let a = c.args in
+returns-then-work-lt-ROOM c =
+    let a = c.args in
     let g : Given = given a.names.now a.name_at.now a.name_len.now a.rec_flags.now a.rec_class.now a.rec_at.now a.rec_len.now a.parents.now in
     gathers-short g a.class a.work.now c.if-work-lt-ROOM.true c.none_gathered.result c.none_gathered.ensures
 
@@ -17,7 +18,8 @@ pub ask_layers-told-requires : goal.ask_layers-told-requires
 ask_layers-told-requires c = λ e. (refl, refl)
 
 pub returns-then-first_open-rec_flags : goal.returns-then-first_open-rec_flags
-returns-then-first_open-rec_flags c = let a = c.args in
+returns-then-first_open-rec_flags c =
+    let a = c.args in
     let g : Given = given a.names.now a.name_at.now a.name_len.now a.rec_flags.now a.rec_class.now a.rec_at.now a.rec_len.now a.parents.now in
     let d = c.clear in
     let e : length d.new.work ≡ length a.work.now = search rules in
@@ -28,7 +30,8 @@ pub ancestors_over-found-requires : goal.ancestors_over-found-requires
 ancestors_over-found-requires c = (room-plain _ _ c.first_open.result c.first_open.ensures c.if-first_open-rec_flags.false (search rules), search rules)
 
 pub returns : goal.returns
-returns c = let a = c.args in
+returns c =
+    let a = c.args in
     let g : Given = given a.names.now a.name_at.now a.name_len.now a.rec_flags.now a.rec_class.now a.rec_at.now a.rec_len.now a.parents.now in
     let d = c.clear-2 in
     let e : length d.new.work ≡ length a.work.now = search rules in

@@ -1,5 +1,4 @@
 -- `are_types` meets its contract: the first word, then the second one.
-use borrow.Author.Rules.{rules}
 use mathlib.Core.Path.{sym, ◌∙◌}
 use Rattle.questions.specs.Laws.{types-right, types-left}
 use Rattle.questions.proofs.are_types.Goals as goal

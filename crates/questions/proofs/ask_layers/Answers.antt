@@ -9,14 +9,16 @@ pub open_table-o-requires : goal.open_table-o-requires
 open_table-o-requires c = (room-layers _ _ (search rules), search rules)
 
 pub tell-requires : goal.tell-requires
-tell-requires c = let a = c.args in
+tell-requires c =
+    let a = c.args in
     let g : Given = given a.names.now a.name_at.now a.name_len.now a.rec_flags.now a.rec_class.now a.rec_at.now a.rec_len.now a.parents.now in
     let t = c.of_types-types in
     let o = c.open_table-o in
     opened-askable g a.set a.q t.result t.ensures a.a a.b c.requires _ _ o.result o.ensures (layers-no-rows o.new.pairs (search rules))
 
 pub returns : goal.returns
-returns c = let a = c.args in
+returns c =
+    let a = c.args in
     let g : Given = given a.names.now a.name_at.now a.name_len.now a.rec_flags.now a.rec_class.now a.rec_at.now a.rec_len.now a.parents.now in
     let t = c.of_types-types in
     let o = c.open_table-o in

@@ -17,5 +17,6 @@ unfolding even_lengths
 returns-then-rec_flags-rec_at c = simp (eq-eqb _ _ c.if-name_at-name_len.false, eq-eqb _ _ c.if-rec_flags-rec_class.false, ne_eqb _ _ c.if-rec_flags-rec_at.true)
 
 pub returns : goal.returns
-returns c = let a = c.args in
+returns c =
+    let a = c.args in
     even-last a.name_at a.name_len a.rec_flags a.rec_class a.rec_at a.rec_len c.if-name_at-name_len.false c.if-rec_flags-rec_class.false c.if-rec_flags-rec_at.false

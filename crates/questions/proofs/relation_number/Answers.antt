@@ -1,5 +1,4 @@
 -- `relation_number` meets its contract.
-use borrow.Author.Rules.{rules}
 use mathlib.Core.Path.{sym, ap}
 use Rattle.view.specs.View.{relation_number}
 use Rattle.questions.proofs.relation_number.Goals as goal

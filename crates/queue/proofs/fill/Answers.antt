@@ -1,10 +1,9 @@
 -- `fill` meets its contract: after i steps the first i components stand in the ring and in the set.
-use borrow.Author.Rules.{rules}
 use mathlib.Core.Path.{◌≡◌, refl, sym, ap, ◌∙◌}
 use mathlib.Core.List.{List, ◌++◌}
-use Prim.Native.Nat.{ℕ, ◌+◌, ◌-◌, ◌≤◌}
+use Prim.Native.Nat.{ℕ, ◌+◌}
 use native.Mathlib.Omega.{arith}
-use lib.ListN.{length, drop, set, length-set}
+use lib.ListN.{drop, set, length-set}
 use Rattle.sets.specs.Sets.{insert}
 use Rattle.view.specs.View.{numbers}
 use Rattle.queue.specs.Ring.{first_set}
@@ -16,7 +15,8 @@ unfolding numbers first_set
 loop-i-init c = (omega arith, c.requires.0, c.empty-queued.ensures, refl)
 
 pub loop-i-preserved : goal.loop-i-preserved
-loop-i-preserved c = let a = c.args in
+loop-i-preserved c =
+    let a = c.args in
     let l = c.loop-i in (
       omega arith,
       simp length-set l.invariant.1,
@@ -26,7 +26,8 @@ loop-i-preserved c = let a = c.args in
     )
 
 pub returns : goal.returns
-returns c = let a = c.args in
+returns c =
+    let a = c.args in
     let l = c.loop-i in
     let e : l.i ≡ a.n = omega arith in
     (λ k. record { head = 0; len = a.n; queued = record { words = (l.invariant.2 ∙ ap first_set e) k } }, l.invariant.3 ∙ ap (λ (n : ℕ). numbers 0 n ++ drop n a.ring.now) e)

@@ -1,14 +1,10 @@
 -- `fill` meets its contract: after i steps the first i components stand in the ring and in the set.
-use borrow.Author.Rules.{rules}
-use mathlib.Core.Path.{◌≡◌, refl, sym, ap, ◌∙◌}
-use mathlib.Core.List.{List, ◌++◌}
-use Prim.Native.Nat.{ℕ, ◌+◌, ◌-◌, ◌≤◌}
-use native.Mathlib.Omega.{arith}
-use lib.ListN.{length, drop, set, length-set}
-use Rattle.sets.specs.Sets.{insert}
+use mathlib.Core.Path.{◌≡◌}
+use mathlib.Core.List.{◌++◌}
+use Prim.Native.Nat.{◌+◌, ◌-◌, ◌≤◌}
+use lib.ListN.{length, drop}
 use Rattle.view.specs.View.{numbers}
 use Rattle.queue.specs.Ring.{first_set}
-use Rattle.queue.specs.Laws.{first-more, numbers-more}
 use Rattle.queue.proofs.fill.Given as goal
 
 abbrev pub invariant-loop-i : goal.invariant-loop-i

@@ -1,5 +1,4 @@
 -- `each_line` is safe and ends: a line ends inside the input.
-use borrow.Author.Rules.{rules}
 use mathlib.Core.Path.{◌≡◌}
 use Prim.Native.Nat.{◌+◌, ◌-◌, ◌^◌, ◌<◌}
 use lib.ListN.{length}

@@ -1,5 +1,5 @@
 -- `each_line` is safe and ends: a line ends inside the input.
-use Rattle.std.proofs.Common.{◌≡◌, ◌+◌, ◌-◌, ◌^◌, ◌<◌, length, rules}
+use Rattle.std.proofs.Common.{◌≡◌, ◌+◌, ◌-◌, ◌^◌, ◌<◌, length}
 use Rattle.replay_leaves.proofs.each_line.Given as goal
 
 abbrev pub invariant-loop-i : goal.invariant-loop-i

@@ -1,15 +1,12 @@
 -- `all_produce` meets its contract: what is left to ask is the question of the words from `i` on.
-use borrow.Author.Rules.{rules}
-use mathlib.Core.Path.{◌≡◌, refl, sym, ◌∙◌}
+use mathlib.Core.Path.{◌≡◌}
 use mathlib.Core.List.{map}
 use Prim.Native.Nat.{◌-◌, ◌≤◌}
-use native.Mathlib.Omega.{arith}
-use lib.ListN.{length, get_or}
+use lib.ListN.{length}
 use Rattle.ty.specs.Words.{type_of}
 use Rattle.lattice.specs.World.{world_of}
 use Rattle.candidates.specs.Steps.{types_from}
 use Rattle.solving.specs.Resolve.{all_produce}
-use Rattle.resolving.specs.Laws.{legal-word, each-later, each-not, each-end}
 use Rattle.resolving.proofs.all_produce.Given as goal
 
 abbrev pub invariant-loop-i : goal.invariant-loop-i

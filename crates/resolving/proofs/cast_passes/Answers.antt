@@ -1,5 +1,4 @@
 -- `cast_passes` meets its contract: two tests in a row.
-use borrow.Author.Rules.{rules}
 use mathlib.Core.Path.{sym, ◌∙◌}
 use mathlib.Core.List.{map}
 use Rattle.ty.specs.Words.{type_of}
@@ -10,16 +9,19 @@ use Rattle.resolving.specs.Laws.{legal-words, both-yes, both-no}
 use Rattle.resolving.proofs.cast_passes.Goals as goal
 
 pub domain_accepts-requires : goal.domain_accepts-requires
-domain_accepts-requires c = let a = c.args in
+domain_accepts-requires c =
+    let a = c.args in
     let p = c.requires in
     (legal-words a.t p.0.1 a.domain.now p.3, p.1)
 
 pub returns-then-produces_all : goal.returns-then-produces_all
-returns-then-produces_all c = let a = c.args in
+returns-then-produces_all c =
+    let a = c.args in
     let ty = type_of a.ty.word in
     both-yes (produces_all (world_of a.pairs.now a.marks.now a.t) ty (map type_of a.upper.now)) (domain_accepts (map type_of a.domain.now) ty) c.domain_accepts.result (sym c.produces_all.ensures ∙ c.if-produces_all.true) c.domain_accepts.ensures
 
 pub returns : goal.returns
-returns c = let a = c.args in
+returns c =
+    let a = c.args in
     let ty = type_of a.ty.word in
     both-no (produces_all (world_of a.pairs.now a.marks.now a.t) ty (map type_of a.upper.now)) (domain_accepts (map type_of a.domain.now) ty) (sym c.produces_all.ensures ∙ c.if-produces_all.false)

@@ -1,9 +1,9 @@
 -- `element_in` meets its contract: the element of a legal word is that of its type.
-use borrow.Author.Rules.{rules}
 use mathlib.Core.Path.{◌∙◌}
 use Rattle.resolving.specs.Laws.{element-is}
 use Rattle.resolving.proofs.element_in.Goals as goal
 
 pub returns-in-Is : goal.returns-in-Is
-returns-in-Is c = let a = c.args in
+returns-in-Is c =
+    let a = c.args in
     c.element.ensures ∙ element-is a.array c.in-Is.u c.in-Is.is c.requires

@@ -1,5 +1,4 @@
 -- `evidence_cast` meets its contract: what is produced passes by its test.
-use borrow.Author.Rules.{rules}
 use mathlib.Core.Path.{◌∙◌}
 use mathlib.Core.List.{map}
 use Rattle.ty.specs.Words.{type_of}
@@ -9,7 +8,8 @@ use Rattle.resolving.specs.Laws.{is-legal, pass-is, pass-none}
 use Rattle.resolving.proofs.evidence_cast.Goals as goal
 
 pub cast_passes-requires : goal.cast_passes-requires
-cast_passes-requires c = let a = c.args in
+cast_passes-requires c =
+    let a = c.args in
     let p = c.requires in
     let u = c.in-Is.ty in
     let e = c.in-Is.is in
@@ -17,12 +17,14 @@ cast_passes-requires c = let a = c.args in
 
 pub returns-in-Is : goal.returns-in-Is
 unfolding by_cast
-returns-in-Is c = let a = c.args in
+returns-in-Is c =
+    let a = c.args in
     let u = c.in-Is.ty in
     let e = c.in-Is.is in
     c.kept.ensures ∙ pass-is a.evidence u e c.cast_passes.result (cast_passes (world_of a.pairs.now a.marks.now a.t) (map type_of a.upper.now) (map type_of a.domain.now)) c.requires.1 c.cast_passes.ensures
 
 pub returns-in-Nothing : goal.returns-in-Nothing
 unfolding by_cast
-returns-in-Nothing c = let a = c.args in
+returns-in-Nothing c =
+    let a = c.args in
     pass-none a.evidence c.in-Nothing.is (cast_passes (world_of a.pairs.now a.marks.now a.t) (map type_of a.upper.now) (map type_of a.domain.now))

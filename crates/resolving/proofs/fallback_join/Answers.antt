@@ -1,5 +1,4 @@
 -- `fallback_join` meets its contract: the join is legal, and passes by its test where it is concrete.
-use borrow.Author.Rules.{rules}
 use mathlib.Core.Path.{ap, ◌∙◌}
 use mathlib.Core.List.{map}
 use mathlib.Core.Option.{Option}
@@ -16,19 +15,22 @@ use Rattle.resolving.specs.Laws.{word-types, word-legal, join-option, is-legal, 
 use Rattle.resolving.proofs.fallback_join.Goals as goal
 
 pub only_concrete-requires : goal.only_concrete-requires
-only_concrete-requires c = let a = c.args in
+only_concrete-requires c =
+    let a = c.args in
     let fits = c.requires.0.1 in
     word-legal a.t fits (join_all (world_of a.pairs.now a.marks.now a.t) (map type_of a.fallback.now)) (join-option a.pairs.now a.marks.now a.t fits a.fallback.now c.requires.3.0 (λ i. omega (arith, (c.type_inv.fallback i).fits))) c.join_all-joined.result c.join_all-joined.ensures
 
 pub fallback_passes-requires : goal.fallback_passes-requires
-fallback_passes-requires c = let a = c.args in
+fallback_passes-requires c =
+    let a = c.args in
     let p = c.requires in
     let m = c.only_concrete in
     (p.0, is-legal m.result c.in-Is.ty c.in-Is.is m.ensures.0, p.1, p.2)
 
 pub returns-in-Is : goal.returns-in-Is
 unfolding by_fallback
-returns-in-Is c = let a = c.args in
+returns-in-Is c =
+    let a = c.args in
     let fits = c.requires.0.1 in
     let m = c.only_concrete in
     let j = c.join_all-joined in
@@ -38,7 +40,8 @@ returns-in-Is c = let a = c.args in
 
 pub returns-in-Nothing : goal.returns-in-Nothing
 unfolding by_fallback
-returns-in-Nothing c = let a = c.args in
+returns-in-Nothing c =
+    let a = c.args in
     let fits = c.requires.0.1 in
     let m = c.only_concrete in
     let j = c.join_all-joined in

@@ -1,5 +1,4 @@
 -- `fits_upper` meets its contract: a candidate passes where it is assignable to every upper bound.
-use borrow.Author.Rules.{rules}
 use mathlib.Core.Path.{◌∙◌}
 use mathlib.Core.List.{map}
 use Rattle.ty.specs.Words.{type_of}
@@ -10,7 +9,8 @@ use Rattle.resolving.specs.Laws.{legal-words, is-legal, pass-is, pass-none}
 use Rattle.resolving.proofs.fits_upper.Goals as goal
 
 pub is_assignable_to_all-requires : goal.is_assignable_to_all-requires
-is_assignable_to_all-requires c = let a = c.args in
+is_assignable_to_all-requires c =
+    let a = c.args in
     let p = c.requires in
     let u = c.in-Is.ty in
     let e = c.in-Is.is in
@@ -18,12 +18,14 @@ is_assignable_to_all-requires c = let a = c.args in
 
 pub returns-in-Is : goal.returns-in-Is
 unfolding fitting
-returns-in-Is c = let a = c.args in
+returns-in-Is c =
+    let a = c.args in
     let u = c.in-Is.ty in
     let e = c.in-Is.is in
     c.kept.ensures ∙ pass-is a.candidate u e c.is_assignable_to_all.result (λ ty. assignable_to_all (world_of a.pairs.now a.marks.now a.t) ty (map type_of a.upper.now)) c.requires.1 c.is_assignable_to_all.ensures
 
 pub returns-in-Nothing : goal.returns-in-Nothing
 unfolding fitting
-returns-in-Nothing c = let a = c.args in
+returns-in-Nothing c =
+    let a = c.args in
     pass-none a.candidate c.in-Nothing.is (λ ty. assignable_to_all (world_of a.pairs.now a.marks.now a.t) ty (map type_of a.upper.now))

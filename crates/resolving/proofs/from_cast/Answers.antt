@@ -1,5 +1,4 @@
 -- `from_cast` meets its contract: way 3, else those after it.
-use borrow.Author.Rules.{rules}
 use mathlib.Core.Path.{◌∙◌}
 use mathlib.Core.List.{map}
 use Rattle.ty.specs.Words.{type_of}
@@ -11,14 +10,16 @@ use Rattle.resolving.proofs.from_cast.Goals as goal
 
 pub returns-in-Is : goal.returns-in-Is
 unfolding from_cast
-returns-in-Is c = let a = c.args in
+returns-in-Is c =
+    let a = c.args in
     let m = c.evidence_cast in
     let w = world_of a.pairs.now a.marks.now a.t in
     way-is m.result c.in-Is.ty c.in-Is.is (by_cast w (maybe_type a.evidence) (map type_of a.upper.now) (map type_of a.domain.now)) (from_fallback w (map type_of a.upper.now) (map type_of a.domain.now) (map type_of a.fallback.now)) m.ensures
 
 pub returns-in-Nothing : goal.returns-in-Nothing
 unfolding from_cast
-returns-in-Nothing c = let a = c.args in
+returns-in-Nothing c =
+    let a = c.args in
     let m = c.evidence_cast in
     let w = world_of a.pairs.now a.marks.now a.t in
     c.from_fallback.ensures ∙ way-none m.result c.in-Nothing.is (by_cast w (maybe_type a.evidence) (map type_of a.upper.now) (map type_of a.domain.now)) (from_fallback w (map type_of a.upper.now) (map type_of a.domain.now) (map type_of a.fallback.now)) m.ensures

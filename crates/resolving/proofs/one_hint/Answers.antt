@@ -1,9 +1,8 @@
 -- `one_hint` meets its contract: the hints of the types from `i` on are what was found alone.
-use borrow.Author.Rules.{rules}
 use mathlib.Core.Path.{◌≡◌, sym, ap, ◌∙◌, subst}
 use mathlib.Core.List.{map}
 use mathlib.Core.Option.{Option}
-use Prim.Native.Nat.{ℕ, ◌-◌, ◌^◌, ◌≤◌, ◌<◌}
+use Prim.Native.Nat.{ℕ, ◌-◌, ◌^◌, ◌<◌}
 use native.Mathlib.Omega.{arith}
 use lib.ListN.{length, get_or}
 use Rattle.ty.specs.declared.MaybeType.{MaybeType}
@@ -18,18 +17,21 @@ use Rattle.resolving.specs.Hints.{hints-end, hints-step, either-legal, hint-same
 use Rattle.resolving.proofs.one_hint.Goals as goal
 
 pub loop-i-init : goal.loop-i-init
-loop-i-init c = let a = c.args in
+loop-i-init c =
+    let a = c.args in
     (omega arith, tt, hints-end a.t.object a.domain.now (length a.domain.now) (omega arith))
 
 pub concrete_hint-hint-requires : goal.concrete_hint-hint-requires
-concrete_hint-hint-requires c = let a = c.args in
+concrete_hint-hint-requires c =
+    let a = c.args in
     object-small a.t c.requires.0
 
 pub both_differ-requires : goal.both_differ-requires
 both_differ-requires c = tt
 
 pub returns-then-both_differ : goal.returns-then-both_differ
-returns-then-both_differ c = let a = c.args in
+returns-then-both_differ c =
+    let a = c.args in
     let l = c.loop-i in
     let h = c.concrete_hint-hint in
     let object = a.t.object in
@@ -48,7 +50,8 @@ pub either-found-requires : goal.either-found-requires
 either-found-requires c = tt
 
 pub loop-i-preserved : goal.loop-i-preserved
-loop-i-preserved c = let a = c.args in
+loop-i-preserved c =
+    let a = c.args in
     let l = c.loop-i in
     let h = c.concrete_hint-hint in
     let object = a.t.object in
@@ -64,6 +67,7 @@ loop-i-preserved c = let a = c.args in
     (omega arith, subst LegalMaybe (sym c.either-found.ensures) (either-legal h.result l.found known l.invariant.1), step ∙ hint-same h.result l.found (sym c.both_differ.ensures ∙ c.if-both_differ.false) ∙ ap (λ (m : MaybeType). list_of (maybe_type m)) (sym c.either-found.ensures))
 
 pub returns : goal.returns
-returns c = let a = c.args in
+returns c =
+    let a = c.args in
     let l = c.loop-i in
     (l.invariant.1, sym (one-single (maybe_type l.found)) ∙ ap single (sym l.invariant.2) ∙ ap (λ (k : ℕ). single (hints_of a.t.object (types_from k a.domain.now))) (let q : l.i ≡ 0 = omega arith in q))

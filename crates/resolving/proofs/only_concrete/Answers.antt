@@ -1,12 +1,12 @@
 -- `only_concrete` meets its contract: a word is kept as it is, or not at all.
-use borrow.Author.Rules.{rules}
 use mathlib.Core.Path.{sym, ap, ◌∙◌, subst}
 use Rattle.candidates.specs.Maybe.{LegalMaybe, maybe_type}
 use Rattle.resolving.specs.Laws.{concrete-is, kept-legal}
 use Rattle.resolving.proofs.only_concrete.Goals as goal
 
 pub returns-in-Is : goal.returns-in-Is
-returns-in-Is c = let a = c.args in
+returns-in-Is c =
+    let a = c.args in
     let u = c.in-Is.u in
     let e = c.in-Is.is in
     let b = c.is_concrete.result in

@@ -1,5 +1,4 @@
 -- `or_upper` meets its contract: what is produced is legal, and so is the most specific upper bound.
-use borrow.Author.Rules.{rules}
 use mathlib.Core.Path.{◌∙◌}
 use mathlib.Core.List.{map}
 use native.Mathlib.Omega.{arith}
@@ -10,18 +9,21 @@ use Rattle.resolving.specs.Laws.{legal-words, object-small, word-types, word-leg
 use Rattle.resolving.proofs.or_upper.Goals as goal
 
 pub most_specific_upper-requires : goal.most_specific_upper-requires
-most_specific_upper-requires c = let a = c.args in
+most_specific_upper-requires c =
+    let a = c.args in
     let p = c.requires in
     (p.0.0, object-small a.t p.0.1, legal-words a.t p.0.1 a.upper.now p.2)
 
 pub returns-in-Is : goal.returns-in-Is
-returns-in-Is c = let a = c.args in
+returns-in-Is c =
+    let a = c.args in
     let u = c.in-Is.u in
     let e = c.in-Is.is in
     (is-legal a.produced u e c.requires.1, or-is a.produced u e (most_specific_upper (world_of a.pairs.now a.marks.now a.t) (map type_of a.upper.now)))
 
 pub returns-in-Nothing : goal.returns-in-Nothing
-returns-in-Nothing c = let a = c.args in
+returns-in-Nothing c =
+    let a = c.args in
     let fits = c.requires.0.1 in
     let o = most_specific_upper (world_of a.pairs.now a.marks.now a.t) (map type_of a.upper.now) in
     let l = (specific-option a.pairs.now a.marks.now a.t fits a.upper.now c.requires.2 (λ i. omega (arith, (c.type_inv.upper i).fits))) in

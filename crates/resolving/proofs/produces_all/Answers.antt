@@ -1,14 +1,9 @@
 -- `produces_all` meets its contract: what is left to ask is the question of the words from `i` on.
-use borrow.Author.Rules.{rules}
-use mathlib.Core.Path.{◌≡◌, refl, sym, ◌∙◌}
-use mathlib.Core.List.{map}
-use Prim.Native.Nat.{◌-◌, ◌≤◌}
+use mathlib.Core.Path.{refl, sym, ◌∙◌}
 use native.Mathlib.Omega.{arith}
-use lib.ListN.{length, get_or}
+use lib.ListN.{get_or}
 use Rattle.ty.specs.Words.{type_of}
 use Rattle.lattice.specs.World.{world_of}
-use Rattle.candidates.specs.Steps.{types_from}
-use Rattle.solving.specs.Resolve.{produces_all}
 use Rattle.resolving.specs.Laws.{legal-word, all-later, all-not, all-end}
 use Rattle.resolving.proofs.produces_all.Goals as goal
 
@@ -16,20 +11,24 @@ pub loop-i-init : goal.loop-i-init
 loop-i-init c = (omega arith, refl)
 
 pub producer_bound_compatible-requires : goal.producer_bound_compatible-requires
-producer_bound_compatible-requires c = let a = c.args in
+producer_bound_compatible-requires c =
+    let a = c.args in
     (c.requires.0.0, c.requires.1, legal-word a.t c.requires.0.1 (get_or a.upper.now c.loop-i.i 0) (c.requires.2 c.loop-i.i (omega arith)))
 
 pub loop-i-preserved : goal.loop-i-preserved
-loop-i-preserved c = let a = c.args in
+loop-i-preserved c =
+    let a = c.args in
     let l = c.loop-i in
     (omega arith, l.invariant.1 ∙ all-later (world_of a.pairs.now a.marks.now a.t) a.upper.now l.i (type_of a.ty.word) (omega arith) (sym c.producer_bound_compatible.ensures ∙ c.if-producer_bound_compatible.true))
 
 pub returns-else-producer_bound_compatible : goal.returns-else-producer_bound_compatible
-returns-else-producer_bound_compatible c = let a = c.args in
+returns-else-producer_bound_compatible c =
+    let a = c.args in
     let l = c.loop-i in
     sym (l.invariant.1 ∙ all-not (world_of a.pairs.now a.marks.now a.t) a.upper.now l.i (type_of a.ty.word) (omega arith) (sym c.producer_bound_compatible.ensures ∙ c.if-producer_bound_compatible.false))
 
 pub returns : goal.returns
-returns c = let a = c.args in
+returns c =
+    let a = c.args in
     let l = c.loop-i in
     sym (l.invariant.1 ∙ all-end (world_of a.pairs.now a.marks.now a.t) a.upper.now l.i (type_of a.ty.word) (omega arith))

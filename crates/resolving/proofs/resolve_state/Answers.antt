@@ -1,5 +1,4 @@
 -- `resolve_state` meets its contract: what is produced is legal; way 1, else those after it, is the definition.
-use borrow.Author.Rules.{rules}
 use mathlib.Core.Path.{ap, ◌∙◌}
 use mathlib.Core.List.{[], map}
 use native.Mathlib.Omega.{arith}
@@ -13,12 +12,14 @@ use Rattle.resolving.specs.Laws.{word-types, word-legal, produced-alone, produce
 use Rattle.resolving.proofs.resolve_state.Goals as goal
 
 pub only_concrete-evidence-requires : goal.only_concrete-evidence-requires
-only_concrete-evidence-requires c = let a = c.args in
+only_concrete-evidence-requires c =
+    let a = c.args in
     let fits = c.requires.0.1 in
     word-legal a.t fits (produced_type (world_of a.pairs.now a.marks.now a.t) (state_in a.exact.now a.lower.now [] [] [])) (produced-option a.pairs.now a.marks.now a.t fits a.exact.now a.lower.now c.requires.1.0 (λ i. omega (arith, (c.type_inv.exact i).fits)) c.requires.2.0 (λ i. omega (arith, (c.type_inv.lower i).fits))) c.produced_type-produced.result c.produced_type-produced.ensures
 
 pub returns-in-Is : goal.returns-in-Is
-returns-in-Is c = let a = c.args in
+returns-in-Is c =
+    let a = c.args in
     let w = world_of a.pairs.now a.marks.now a.t in
     let fits = c.requires.0.1 in
     let m = c.fits_upper in
@@ -30,7 +31,8 @@ returns-in-Is c = let a = c.args in
     way-is m.result c.in-Is.ty c.in-Is.is (fitting w o (map type_of a.upper.now)) (from_upper w o (state_in a.exact.now a.lower.now a.upper.now a.domain.now a.fallback.now)) m.ensures ∙ ap maybe_word all
 
 pub returns-in-Nothing : goal.returns-in-Nothing
-returns-in-Nothing c = let a = c.args in
+returns-in-Nothing c =
+    let a = c.args in
     let w = world_of a.pairs.now a.marks.now a.t in
     let fits = c.requires.0.1 in
     let m = c.fits_upper in

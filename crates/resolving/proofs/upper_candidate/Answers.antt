@@ -1,5 +1,4 @@
 -- `upper_candidate` meets its contract: the most specific upper bound is legal, and passes by its test.
-use borrow.Author.Rules.{rules}
 use mathlib.Core.Path.{ap, ◌∙◌}
 use mathlib.Core.List.{map}
 use mathlib.Core.Option.{Option}
@@ -15,12 +14,14 @@ use Rattle.resolving.specs.Laws.{legal-words, object-small, word-types, word-leg
 use Rattle.resolving.proofs.upper_candidate.Goals as goal
 
 pub most_specific_upper-requires : goal.most_specific_upper-requires
-most_specific_upper-requires c = let a = c.args in
+most_specific_upper-requires c =
+    let a = c.args in
     let p = c.requires in
     (p.0.0, object-small a.t p.0.1, legal-words a.t p.0.1 a.upper.now p.3)
 
 pub upper_passes-requires : goal.upper_passes-requires
-upper_passes-requires c = let a = c.args in
+upper_passes-requires c =
+    let a = c.args in
     let p = c.requires in
     let fits = p.0.1 in
     let m = c.most_specific_upper in
@@ -28,7 +29,8 @@ upper_passes-requires c = let a = c.args in
 
 pub returns-in-Is : goal.returns-in-Is
 unfolding by_upper
-returns-in-Is c = let a = c.args in
+returns-in-Is c =
+    let a = c.args in
     let fits = c.requires.0.1 in
     let m = c.most_specific_upper in
     let l = (specific-option a.pairs.now a.marks.now a.t fits a.upper.now c.requires.3 (λ i. omega (arith, (c.type_inv.upper i).fits))) in
@@ -38,7 +40,8 @@ returns-in-Is c = let a = c.args in
 
 pub returns-in-Nothing : goal.returns-in-Nothing
 unfolding by_upper
-returns-in-Nothing c = let a = c.args in
+returns-in-Nothing c =
+    let a = c.args in
     let fits = c.requires.0.1 in
     let m = c.most_specific_upper in
     pass-none m.result c.in-Nothing.is (upper_passes (world_of a.pairs.now a.marks.now a.t) (map type_of a.exact.now) (map type_of a.lower.now) (map type_of a.domain.now))

@@ -1,5 +1,4 @@
 -- `byte_at` meets its contract: a byte is below 256.
-use borrow.Author.Rules.{rules}
 use mathlib.Core.Path.{refl}
 use native.Mathlib.Omega.{arith}
 use Rattle.rowframes.proofs.byte_at.Goals as goal

@@ -1,13 +1,7 @@
 -- `copy` meets its contract: what is left are the bytes from the next on.
-use borrow.Author.Rules.{rules}
-use mathlib.Core.Path.{sym, ap, ◌∙◌, subst}
-use mathlib.Core.List.{List, ◌∷◌}
-use Prim.Native.Nat.{ℕ, ◌+◌, ◌-◌, ◌≤◌}
-use native.Mathlib.Omega.{arith}
-use native.Mathlib.Numerals.{add-one}
-use lib.ListN.{length, drop, get_or, drop_of_length-le}
-use lib.Seq.{drop-cons}
-use Rattle.hexline.specs.Laws.{Filling, fill-start, fill-step, fill-end}
+use Prim.Native.Nat.{◌-◌, ◌≤◌}
+use lib.ListN.{length, drop}
+use Rattle.hexline.specs.Laws.{Filling}
 use Rattle.rowframes.proofs.copy.Given as goal
 
 abbrev pub invariant-loop-k : goal.invariant-loop-k

@@ -1,9 +1,9 @@
 -- `flow_frame` meets its contract.
-use borrow.Author.Rules.{rules}
 use Rattle.framestate.specs.FrameState.{flow_numbers}
 use Rattle.rowframes.specs.RowFrames.{row-frames, same-pair}
 use Rattle.rowframes.proofs.flow_frame.Goals as goal
 
 pub returns : goal.returns
-returns c = let a = c.args in
+returns c =
+    let a = c.args in
     row-frames _ _ _ _ a.n (flow_numbers a.n) _ _ _ (same-pair _ _ _ _ _ _ _ c.number_at-a.ensures.0 c.number_at-b.ensures.0) c.add_pair-d.ensures c.with_flows.ensures c.finish.ensures

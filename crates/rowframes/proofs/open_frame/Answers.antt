@@ -1,5 +1,4 @@
 -- `open_frame` meets its contract: a layer more, or 8.
-use borrow.Author.Rules.{rules}
 use Rattle.rowframes.specs.RowFrames.{open-frames}
 use Rattle.rowframes.proofs.open_frame.Goals as goal
 

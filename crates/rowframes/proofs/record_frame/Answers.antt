@@ -1,5 +1,4 @@
 -- `record_frame` meets its contract: the parents are the numbers of the body from its fourth byte on.
-use borrow.Author.Rules.{rules}
 use mathlib.Core.Path.{ap, ◌∙◌}
 use mathlib.Core.List.{List}
 use Prim.Native.Nat.{ℕ, ◌-◌}
@@ -13,7 +12,8 @@ use Rattle.rowframes.specs.RowFrames.{record-frames, same-record, part-front}
 use Rattle.rowframes.proofs.record_frame.Goals as goal
 
 pub slice_bounds-add_to_stack-end : goal.slice_bounds-add_to_stack-end
-slice_bounds-add_to_stack-end c = let b = c.args.body.now in
+slice_bounds-add_to_stack-end c =
+    let b = c.args.body.now in
     let l = length-drop 3 b in
     let e = take_all (length b - 3) (drop 3 b) (omega arith) in
     let q = c.put_numbers-k.ensures.0 ∙ ap (λ (x : List ℕ). length (numbers_in x)) e in
@@ -22,7 +22,8 @@ slice_bounds-add_to_stack-end c = let b = c.args.body.now in
     omega arith
 
 pub returns : goal.returns
-returns c = let b = c.args.body.now in
+returns c =
+    let b = c.args.body.now in
     let l = length-drop 3 b in
     let e = take_all (length b - 3) (drop 3 b) (omega arith) in
     let p = c.put_numbers-k in

@@ -12,24 +12,28 @@ use Rattle.rules.specs.Steps.{each-given, bounds-first, bounds-second, bounds-th
 use Rattle.rules.proofs.pass_bounds.Goals as goal
 
 pub returns-then-first-ne0 : goal.returns-then-first-ne0
-returns-then-first-ne0 c = let x = c.args in
+returns-then-first-ne0 c =
+    let x = c.args in
     let o = c.send-first in
     bounds-first x.flows.now x.incoming.now x.root x.produced x.fallbacks.now x.uppers.now (store x.a.now x.ring.now x.s) (store o.new.a o.new.ring o.result) o.ensures c.if-first-ne0.true
 
 pub send_ranks-second-requires : goal.send_ranks-second-requires
-send_ranks-second-requires c = let x = c.args in
+send_ranks-second-requires c =
+    let x = c.args in
     let p = c.requires in
     let o = c.send-first in
     (next-ready (target_rule x.flows.now x.root x.produced) (store x.a.now x.ring.now x.s) (store o.new.a o.new.ring o.result) (each-given 3 x.root (sent_types x.produced) x.flows.now (omega arith) (sent-base x.produced p.3)) p.0 o.ensures c.if-first-ne0.false, omega arith, search rules, search rules)
 
 pub returns-then-second-ne0 : goal.returns-then-second-ne0
-returns-then-second-ne0 c = let x = c.args in
+returns-then-second-ne0 c =
+    let x = c.args in
     let o = c.send-first in
     let v = c.send_ranks-second in
     bounds-second x.flows.now x.incoming.now x.root x.produced x.fallbacks.now x.uppers.now (store x.a.now x.ring.now x.s) (store o.new.a o.new.ring o.result) o.ensures (store v.new.a v.new.ring v.result) v.ensures c.if-second-ne0.true
 
 pub send_ranks-requires : goal.send_ranks-requires
-send_ranks-requires c = let x = c.args in
+send_ranks-requires c =
+    let x = c.args in
     let p = c.requires in
     let o = c.send-first in
     let v = c.send_ranks-second in
@@ -39,7 +43,8 @@ pub shape_of-a : goal.shape_of-a
 shape_of-a c = c.send_ranks.auto.a ∙ c.send_ranks-second.auto.a ∙ c.send-first.auto.a
 
 pub returns : goal.returns
-returns c = let x = c.args in
+returns c =
+    let x = c.args in
     let o = c.send-first in
     let v = c.send_ranks-second in
     let z = c.send_ranks in

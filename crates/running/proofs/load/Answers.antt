@@ -1,8 +1,7 @@
 -- `load` meets its contract: after i steps the first i keys stand in their places.
-use borrow.Author.Rules.{rules}
 use mathlib.Core.Path.{◌≡◌, refl, ap, ◌∙◌}
 use mathlib.Core.List.{List, ◌++◌}
-use Prim.Native.Nat.{ℕ, ◌+◌, ◌-◌, ◌≤◌}
+use Prim.Native.Nat.{ℕ, ◌+◌}
 use native.Mathlib.Omega.{arith}
 use lib.ListN.{length, length-set, take, drop, get_or, set}
 use lib.Seq.{take-length}
@@ -13,7 +12,8 @@ pub loop-i-init : goal.loop-i-init
 loop-i-init c = (omega arith, refl, refl)
 
 pub loop-i-preserved : goal.loop-i-preserved
-loop-i-preserved c = let x = c.args in
+loop-i-preserved c =
+    let x = c.args in
     let l = c.loop-i in (
       omega arith,
       simp length-set l.invariant.1,
@@ -21,7 +21,8 @@ loop-i-preserved c = let x = c.args in
     )
 
 pub returns : goal.returns
-returns c = let x = c.args in
+returns c =
+    let x = c.args in
     let l = c.loop-i in
     l.invariant.2 ∙ ap (λ (n : ℕ). take n x.given.now ++ drop n x.a.now) (let e : l.i ≡ length x.given.now = omega arith in e)
     ∙ ap (λ (m : List ℕ). m ++ drop (length x.given.now) x.a.now) (take-length x.given.now)

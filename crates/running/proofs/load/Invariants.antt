@@ -1,12 +1,8 @@
 -- `load` meets its contract: after i steps the first i keys stand in their places.
-use borrow.Author.Rules.{rules}
-use mathlib.Core.Path.{◌≡◌, refl, ap, ◌∙◌}
-use mathlib.Core.List.{List, ◌++◌}
-use Prim.Native.Nat.{ℕ, ◌+◌, ◌-◌, ◌≤◌}
-use native.Mathlib.Omega.{arith}
-use lib.ListN.{length, length-set, take, drop, get_or, set}
-use lib.Seq.{take-length}
-use Rattle.running.specs.Laws.{load-more}
+use mathlib.Core.Path.{◌≡◌}
+use mathlib.Core.List.{◌++◌}
+use Prim.Native.Nat.{◌+◌, ◌-◌, ◌≤◌}
+use lib.ListN.{length, take, drop}
 use Rattle.running.proofs.load.Given as goal
 
 abbrev pub invariant-loop-i : goal.invariant-loop-i

@@ -1,8 +1,8 @@
 -- `start` meets its contract: the ring filled.
-use borrow.Author.Rules.{rules}
 use Rattle.running.proofs.start.Goals as goal
 
 pub returns : goal.returns
-returns c = let x = c.args in
+returns c =
+    let x = c.args in
     let f = c.fill-q in
     (λ i. record { refusal = 0; count = x.count; queue = f.ensures.0 i }, f.ensures.1)

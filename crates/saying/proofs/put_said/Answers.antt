@@ -1,5 +1,4 @@
 -- `put_said` meets its contract: by what is said.
-use borrow.Author.Rules.{rules}
 use Rattle.lineout.specs.Laws.{puts-none, puts-as}
 use Rattle.saying.specs.Printing.{text-accepted, text-solved, text-related, text-supertyped, text-castable, text-refused}
 use Rattle.saying.proofs.put_said.Goals as goal

@@ -1,5 +1,4 @@
 -- `send_array` meets its contract: only of a concrete type.
-use borrow.Author.Rules.{rules}
 use mathlib.Core.Path.{sym, ap, ◌∙◌, subst}
 use mathlib.Core.Bool.{Bool, cond}
 use Rattle.ty.specs.Types.{Array}

@@ -1,5 +1,4 @@
 -- `send_array_of` meets its contract: by what `array` answers.
-use borrow.Author.Rules.{rules}
 use mathlib.Core.Path.{sym, ap, ◌∙◌}
 use native.Mathlib.Omega.{arith}
 use Rattle.inserting.specs.declared.Sent.TheVariants.{Rank}
@@ -7,13 +6,16 @@ use Rattle.sending.specs.Laws.{array-of, array-none}
 use Rattle.sending.proofs.send_array_of.Goals as goal
 
 pub rank_of-requires : goal.rank_of-requires
-rank_of-requires c = let w = c.args.t.word in
+rank_of-requires c =
+    let w = c.args.t.word in
     (array-of w (omega arith) c.requires c.in-Of.w (sym c.array-a.ensures ∙ c.in-Of.is)).0
 
 pub returns-in-Of : goal.returns-in-Of
-returns-in-Of c = let w = c.args.t.word in
+returns-in-Of c =
+    let w = c.args.t.word in
     ap Rank c.rank_of.ensures ∙ sym (array-of w (omega arith) c.requires c.in-Of.w (sym c.array-a.ensures ∙ c.in-Of.is)).1
 
 pub returns-in-Deep : goal.returns-in-Deep
-returns-in-Deep c = let w = c.args.t.word in
+returns-in-Deep c =
+    let w = c.args.t.word in
     sym (array-none w (omega arith) c.requires (sym c.array-a.ensures ∙ c.in-Deep.is))

@@ -1,5 +1,4 @@
 -- `send_element` meets its contract: by what `element` answers.
-use borrow.Author.Rules.{rules}
 use mathlib.Core.Path.{sym, ap, ◌∙◌, subst}
 use native.Mathlib.Omega.{arith}
 use Rattle.sending.specs.Sending.{LegalMaybe, sent_maybe, sent_element}

@@ -1,5 +1,4 @@
 -- `send_type` meets its contract: its word, if there is one.
-use borrow.Author.Rules.{rules}
 use mathlib.Core.Path.{sym, ap, ◌∙◌, subst}
 use Rattle.sending.specs.Sending.{LegalMaybe, sent_maybe}
 use Rattle.sending.proofs.send_type.Goals as goal

@@ -1,5 +1,4 @@
 -- `send_word` meets its contract: a word has at most 255 dimensions.
-use borrow.Author.Rules.{rules}
 use mathlib.Core.Path.{sym, ap, ◌∙◌}
 use native.Mathlib.Omega.{arith}
 use Rattle.ty.specs.Words.{type_of}
@@ -8,5 +7,6 @@ use Rattle.sending.specs.Laws.{sent-flat, word-flat}
 use Rattle.sending.proofs.send_word.Goals as goal
 
 pub returns : goal.returns
-returns c = let w = c.args.t.word in
+returns c =
+    let w = c.args.t.word in
     ap Rank c.rank_of.ensures ∙ sym (sent-flat (type_of w) (word-flat w (omega arith) c.requires))

@@ -1,5 +1,4 @@
 -- `lengths_refusal` meets its contract: too short, even, uneven.
-use borrow.Author.Rules.{rules}
 use mathlib.Core.Path.{sym, ◌∙◌}
 use Rattle.solvechecks.specs.Steps.{lengths-short, lengths-even, lengths-uneven}
 use Rattle.solvechecks.proofs.lengths_refusal.Goals as goal

@@ -4,7 +4,8 @@ use Rattle.layercolumns.specs.Laws.{room-layers}
 use Rattle.solvedoor.proofs.solve_layers.Goals as goal
 
 pub solve_over-requires : goal.solve_over-requires
-solve_over-requires c = let p = c.requires in
+solve_over-requires c =
+    let p = c.requires in
     (room-layers _ _ (search rules), search rules, p.0, p.1)
 
 pub returns : goal.returns

@@ -24,28 +24,33 @@ slices s =
     lent a.answers.now a.out_comp.now a.out_kind.now a.out_type.now a.work.now
 
 pub returns-then-short-ne0 : goal.returns-then-short-ne0
-returns-then-short-ne0 c = let a = c.args in
+returns-then-short-ne0 c =
+    let a = c.args in
     let k = c.lengths_refusal-short in
     let f = c.refuse_lengths in
     door-lengths (table c) (columns c) a.answers.now a.out_comp.now a.out_kind.now a.out_type.now a.work.now _ f.result k.result f.ensures.0 f.ensures.1 c.if-short-ne0.true (lengths-refused (columns c) (slices c) k.result k.ensures)
 
 pub solve_layers-requires : goal.solve_layers-requires
-solve_layers-requires c = let k = c.lengths_refusal-short in
+solve_layers-requires c =
+    let k = c.lengths_refusal-short in
     let good = lengths-good (columns c) (slices c) k.result (lengths-refused (columns c) (slices c) k.result k.ensures) c.if-short-ne0.false in
     (good.1, roomy (columns c) (slices c) good.0)
 
 pub returns-then-first_open-rec_flags : goal.returns-then-first_open-rec_flags
-returns-then-first_open-rec_flags c = let k = c.lengths_refusal-short in
+returns-then-first_open-rec_flags c =
+    let k = c.lengths_refusal-short in
     let good = lengths-good (columns c) (slices c) k.result (lengths-refused (columns c) (slices c) k.result k.ensures) c.if-short-ne0.false in
     door-long (table c) (columns c) (slices c) _ _ good.0 c.solve_layers.ensures
 
 pub solve_over-requires : goal.solve_over-requires
-solve_over-requires c = let k = c.lengths_refusal-short in
+solve_over-requires c =
+    let k = c.lengths_refusal-short in
     let found = c.first_open in
     let good = lengths-good (columns c) (slices c) k.result (lengths-refused (columns c) (slices c) k.result k.ensures) c.if-short-ne0.false in
     (room-plain _ _ found.result found.ensures c.if-first_open-rec_flags.false (search rules), search rules, good.1, roomy (columns c) (slices c) good.0)
 
 pub returns : goal.returns
-returns c = let k = c.lengths_refusal-short in
+returns c =
+    let k = c.lengths_refusal-short in
     let good = lengths-good (columns c) (slices c) k.result (lengths-refused (columns c) (slices c) k.result k.ensures) c.if-short-ne0.false in
     door-long (table c) (columns c) (slices c) _ _ good.0 c.solve_over.ensures

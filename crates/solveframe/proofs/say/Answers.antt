@@ -1,5 +1,4 @@
 -- `say` meets its contract: a refusal with the numbers as they were, or solved with those after it.
-use borrow.Author.Rules.{rules}
 use mathlib.Core.Path.{ap, ◌∙◌}
 use Rattle.framestate.specs.declared.Said.TheVariants.{Solved}
 use Rattle.framestate.specs.declared.Numbers.{Numbers}

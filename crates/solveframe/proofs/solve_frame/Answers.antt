@@ -1,5 +1,4 @@
 -- `solve_frame` meets its contract: 9, or what the solve comes to.
-use borrow.Author.Rules.{rules}
 use Rattle.lattice.specs.World.{world_of}
 use Rattle.solving.specs.Solving.{solve}
 use Rattle.solveframe.specs.Parts.{problem_in}

@@ -13,11 +13,13 @@ columns s =
     columns_in a.components a.var_comp.now a.bnd_comp.now a.bnd_kind.now a.bnd_type.now a.flow_src.now a.flow_dst.now a.up_src.now a.up_dst.now a.read_arr.now a.read_res.now a.write_arr.now a.write_val.now
 
 pub build_problem-n-requires : goal.build_problem-n-requires
-build_problem-n-requires c = let p = c.requires in
+build_problem-n-requires c =
+    let p = c.requires in
     (p.0.1, p.1, (search rules, search rules, search rules, search rules, search rules))
 
 pub returns-then-refusal-ne0 : goal.returns-then-refusal-ne0
-returns-then-refusal-ne0 c = let a = c.args in
+returns-then-refusal-ne0 c =
+    let a = c.args in
     let b = c.build_problem-n in
     let k = c.rows_refusal-refusal in
     let f = c.refuse in
@@ -25,7 +27,8 @@ returns-then-refusal-ne0 c = let a = c.args in
     refused-rows a.answers.now a.out_comp.now a.out_kind.now a.out_type.now a.work.now _ f.result k.result f.ensures.0 f.ensures.1 (world_of a.pairs.now a.marks.now a.t) a.t (columns c) c.if-refusal-ne0.true e
 
 pub solve_kept-requires : goal.solve_kept-requires
-solve_kept-requires c = let a = c.args in
+solve_kept-requires c =
+    let a = c.args in
     let b = c.build_problem-n in
     let k = c.rows_refusal-refusal in
     let z = c.if-refusal-ne0.false in
@@ -37,7 +40,8 @@ solve_kept-requires c = let a = c.args in
     )
 
 pub returns : goal.returns
-returns c = let a = c.args in
+returns c =
+    let a = c.args in
     let b = c.build_problem-n in
     let k = c.rows_refusal-refusal in
     let z = c.if-refusal-ne0.false in

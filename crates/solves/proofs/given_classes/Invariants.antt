@@ -1,8 +1,6 @@
 -- `given_classes` meets its contract: so far only classes of the table are in.
-use borrow.Author.Rules.{rules}
 use Prim.Native.Nat.{◌-◌}
 use lib.ListN.{length}
-use Rattle.solves.specs.Choice.{inside-none}
 use Rattle.sets.specs.Sets.{MembersBelow}
 use Rattle.solves.proofs.given_classes.Given as goal
 

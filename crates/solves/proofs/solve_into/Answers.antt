@@ -1,5 +1,4 @@
 -- `solve_into` meets its contract: a refused run leaves the slices, another's table is written out.
-use borrow.Author.Rules.{rules}
 use mathlib.Core.Path.{refl}
 use native.Mathlib.Omega.{arith}
 use lib.ListN.{take}
@@ -9,20 +8,23 @@ use Rattle.solves.specs.Laws.{kept-variables, run-refused, run-went, went-room, 
 use Rattle.solves.proofs.solve_into.Goals as goal
 
 pub returns-then-refusal-ne0 : goal.returns-then-refusal-ne0
-returns-then-refusal-ne0 c = let x = c.args in
+returns-then-refusal-ne0 c =
+    let x = c.args in
     let p = c.requires in
     let o = c.run_problem-c in
     run-refused x.pairs.now x.marks.now x.t x.components x.variables.now x.bounds.now x.flows.now x.uppers.now x.reads.now x.writes.now p.0 p.1 o.new.a o.result o.ensures c.if-refusal-ne0.true (lent x.into.now x.out_comp.now x.out_kind.now x.out_type.now x.a.now) (lent x.into.now x.out_comp.now x.out_kind.now x.out_type.now o.new.a) refl refl refl refl
 
 pub slice_bounds-write_solution-end : goal.slice_bounds-write_solution-end
-slice_bounds-write_solution-end c = let x = c.args in
+slice_bounds-write_solution-end c =
+    let x = c.args in
     let p = c.requires in
     let o = c.run_problem-c in
     let y = run-went x.pairs.now x.marks.now x.t x.components x.variables.now x.bounds.now x.flows.now x.uppers.now x.reads.now x.writes.now p.0 p.1 o.new.a o.result o.ensures c.if-refusal-ne0.false in
     went-within x.pairs.now x.marks.now x.t x.components x.variables.now x.bounds.now x.flows.now x.uppers.now x.reads.now x.writes.now p.0 p.1 o.new.a o.result o.ensures y
 
 pub write_solution-requires : goal.write_solution-requires
-write_solution-requires c = let x = c.args in
+write_solution-requires c =
+    let x = c.args in
     let p = c.requires in
     let o = c.run_problem-c in
     let y = run-went x.pairs.now x.marks.now x.t x.components x.variables.now x.bounds.now x.flows.now x.uppers.now x.reads.now x.writes.now p.0 p.1 o.new.a o.result o.ensures c.if-refusal-ne0.false in
@@ -38,7 +40,8 @@ write_solution-requires c = let x = c.args in
     )
 
 pub returns : goal.returns
-returns c = let x = c.args in
+returns c =
+    let x = c.args in
     let p = c.requires in
     let o = c.run_problem-c in
     let v = c.write_solution in

@@ -6,7 +6,8 @@ use lib.ListN.{length, replicate}
 use Rattle.solves.proofs.solve_problem.Goals as goal
 
 pub returns : goal.returns
-returns c = let x = c.args in
+returns c =
+    let x = c.args in
     let o = c.solve_either-c.ensures in
     let d = c.clear in
     let e : length d.new.work ≡ length x.work.now = search rules in

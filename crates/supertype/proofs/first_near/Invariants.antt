@@ -1,10 +1,7 @@
 -- `first_near` meets its contract: at each turn both walks stand at level k, and nothing of the set was hit before.
-use borrow.Author.Rules.{rules}
-use native.Mathlib.Omega.{arith}
-use mathlib.Core.Path.{sym, ◌∙◌}
 use Prim.Native.Nat.{◌-◌}
 use Rattle.tables.specs.Table.{view_of}
-use Rattle.supertype.specs.Near.{Meeting, meeting-start, meeting-hit, meeting-next, meeting-end}
+use Rattle.supertype.specs.Near.{Meeting}
 use Rattle.supertype.proofs.first_near.Given as goal
 
 abbrev pub invariant-loop-k : goal.invariant-loop-k

@@ -1,5 +1,4 @@
 -- `hits` meets its contract.
-use borrow.Author.Rules.{rules}
 use mathlib.Core.Path.{sym, ap, ◌∙◌}
 use mathlib.Core.Bool.{Bool}
 use mathlib.Core.List.{List}
@@ -9,11 +8,13 @@ use Rattle.supertype.specs.Near.{of_two}
 use Rattle.supertype.proofs.hits.Goals as goal
 
 pub returns-then-both : goal.returns-then-both
-returns-then-both c = let a = c.args in
+returns-then-both c =
+    let a = c.args in
     c.intersection.ensures
     ∙ ap (λ (w : List ℕ). intersect w a.s.words) (c.intersection-common.ensures ∙ ap (λ (b : Bool). of_two b a.left.words a.right.words) (sym c.if-both.true))
 
 pub returns : goal.returns
-returns c = let a = c.args in
+returns c =
+    let a = c.args in
     c.intersection-2.ensures
     ∙ ap (λ (w : List ℕ). intersect w a.s.words) (c.union-all.ensures ∙ ap (λ (b : Bool). of_two b a.left.words a.right.words) (sym c.if-both.false))

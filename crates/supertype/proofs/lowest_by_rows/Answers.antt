@@ -1,22 +1,22 @@
 -- `lowest_by_rows` meets its contract: what is out has one strictly below, and d is the least that is to be looked at.
-use borrow.Author.Rules.{rules}
 use native.Mathlib.Omega.{arith}
-use mathlib.Core.Path.{◌≡◌, ap, ◌∙◌}
+use mathlib.Core.Path.{ap, ◌∙◌}
 use lib.ListN.{length}
-use Rattle.sets.specs.Sets.{at, members, first}
 use Rattle.tables.specs.Table.{view_of, view-good}
 use Rattle.ancestry.specs.Rows.{row-length}
 use Rattle.supertype.specs.Stripped.{turn-row, turn-above, turn-none, starts-least}
-use Rattle.view.specs.Lows.{Lowing, lowing-start, lowing-turn, lowing-fewer, lowing-end}
+use Rattle.view.specs.Lows.{lowing-start, lowing-turn, lowing-fewer, lowing-end}
 use Rattle.supertype.proofs.lowest_by_rows.Goals as goal
 
 pub loop-d-init : goal.loop-d-init
-loop-d-init c = let a = c.args in
+loop-d-init c =
+    let a = c.args in
     let p = c.requires in
     (c.lowest-d.ensures, lowing-start (view_of a.pairs.now a.marks.now a.t) (view-good a.pairs.now a.marks.now a.t p.0 p.1) a.all.words p.3 p.2)
 
 pub loop-d-smaller : goal.loop-d-smaller
-loop-d-smaller c = let a = c.args in
+loop-d-smaller c =
+    let a = c.args in
     let p = c.requires in
     let l = c.loop-d in
     let r = c.row_of-r in
@@ -26,7 +26,8 @@ loop-d-smaller c = let a = c.args in
     c.difference-todo.ensures
 
 pub loop-d-preserved : goal.loop-d-preserved
-loop-d-preserved c = let a = c.args in
+loop-d-preserved c =
+    let a = c.args in
     let p = c.requires in
     let l = c.loop-d in
     let r = c.row_of-r in
@@ -43,7 +44,8 @@ loop-d-preserved c = let a = c.args in
     )
 
 pub returns : goal.returns
-returns c = let a = c.args in
+returns c =
+    let a = c.args in
     let p = c.requires in
     let l = c.loop-d in
     lowing-end (view_of a.pairs.now a.marks.now a.t) (view-good a.pairs.now a.marks.now a.t p.0 p.1) a.all.words p.3 l.alive.words l.todo.words l.invariant.1 (turn-none (view_of a.pairs.now a.marks.now a.t) a.rows.now a.all.words l.alive.words l.todo.words l.invariant.1 p.5 p.3 l.d l.invariant.0 (omega arith))

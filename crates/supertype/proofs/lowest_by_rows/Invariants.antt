@@ -1,13 +1,9 @@
 -- `lowest_by_rows` meets its contract: what is out has one strictly below, and d is the least that is to be looked at.
-use borrow.Author.Rules.{rules}
-use native.Mathlib.Omega.{arith}
-use mathlib.Core.Path.{◌≡◌, ap, ◌∙◌}
+use mathlib.Core.Path.{◌≡◌}
 use lib.ListN.{length}
 use Rattle.sets.specs.Sets.{at, members, first}
-use Rattle.tables.specs.Table.{view_of, view-good}
-use Rattle.ancestry.specs.Rows.{row-length}
-use Rattle.supertype.specs.Stripped.{turn-row, turn-above, turn-none, starts-least}
-use Rattle.view.specs.Lows.{Lowing, lowing-start, lowing-turn, lowing-fewer, lowing-end}
+use Rattle.tables.specs.Table.{view_of}
+use Rattle.view.specs.Lows.{Lowing}
 use Rattle.supertype.proofs.lowest_by_rows.Given as goal
 
 abbrev pub invariant-loop-d : goal.invariant-loop-d

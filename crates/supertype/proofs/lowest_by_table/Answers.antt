@@ -1,12 +1,12 @@
 -- `lowest_by_table` meets its contract: what is reached from a set has all above its classes.
-use borrow.Author.Rules.{rules}
 use mathlib.Core.Path.{refl}
 use Rattle.tables.specs.Table.{view_of, view-good}
 use Rattle.supertype.specs.Stripped.{above-inside, above-closed, above-rows}
 use Rattle.supertype.proofs.lowest_by_table.Goals as goal
 
 pub fill-requires : goal.fill-requires
-fill-requires c = let a = c.args in
+fill-requires c =
+    let a = c.args in
     let p = c.requires in
     let w = c.spread-above in (
       p.0,
@@ -17,7 +17,8 @@ fill-requires c = let a = c.args in
     )
 
 pub lowest_by_rows-requires : goal.lowest_by_rows-requires
-lowest_by_rows-requires c = let a = c.args in
+lowest_by_rows-requires c =
+    let a = c.args in
     let p = c.requires in
     let w = c.spread-above in
     let f = c.fill in

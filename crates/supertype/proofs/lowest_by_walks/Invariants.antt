@@ -1,11 +1,9 @@
 -- `lowest_by_walks` meets its contract: what is out has one strictly below, and d is one that is to be looked at.
-use borrow.Author.Rules.{rules}
-use native.Mathlib.Omega.{arith}
 use lib.ListN.{length}
 use Rattle.sets.specs.Sets.{at, members}
-use Rattle.tables.specs.Table.{view_of, view-good}
-use Rattle.supertype.specs.Stripped.{Starts, starts-least}
-use Rattle.view.specs.Lows.{Lowing, lowing-start, lowing-turn, lowing-fewer, lowing-end}
+use Rattle.tables.specs.Table.{view_of}
+use Rattle.supertype.specs.Stripped.{Starts}
+use Rattle.view.specs.Lows.{Lowing}
 use Rattle.supertype.proofs.lowest_by_walks.Given as goal
 
 abbrev pub invariant-loop-d : goal.invariant-loop-d

@@ -1,5 +1,4 @@
 -- `lowest_many` meets its contract: the sources are the lowest of what they reach, and the rest is looked at by itself.
-use borrow.Author.Rules.{rules}
 use mathlib.Core.Path.{sym, ap, ◌∙◌}
 use mathlib.Core.List.{List}
 use Rattle.sets.specs.Sets.{at, members}
@@ -9,7 +8,8 @@ use Rattle.supertype.specs.Sources.{sources-inside, rest-fits, lows-sources, low
 use Rattle.supertype.proofs.lowest_many.Goals as goal
 
 pub spread-covered-requires : goal.spread-covered-requires
-spread-covered-requires c = let a = c.args in
+spread-covered-requires c =
+    let a = c.args in
     let p = c.requires in
     let v = view_of a.pairs.now a.marks.now a.t in (
       p.0,
@@ -20,7 +20,8 @@ spread-covered-requires c = let a = c.args in
     )
 
 pub returns-then-lowest-eq1024 : goal.returns-then-lowest-eq1024
-returns-then-lowest-eq1024 c = let a = c.args in
+returns-then-lowest-eq1024 c =
+    let a = c.args in
     let p = c.requires in
     let v = view_of a.pairs.now a.marks.now a.t in
     lows-sources v (view-good a.pairs.now a.marks.now a.t p.0 p.1) a.all.words a.others.words c.expand-direct.result.words c.difference-sources.result.words c.spread-covered.result.words c.difference-rest.result.words
@@ -30,7 +31,8 @@ returns-then-lowest-eq1024 c = let a = c.args in
     (sym c.lowest.ensures ∙ c.if-lowest-eq1024.true)
 
 pub lowest_left-low-requires : goal.lowest_left-low-requires
-lowest_left-low-requires c = let a = c.args in
+lowest_left-low-requires c =
+    let a = c.args in
     let p = c.requires in
     let v = view_of a.pairs.now a.marks.now a.t in
     let f =
@@ -41,7 +43,8 @@ lowest_left-low-requires c = let a = c.args in
     (p.0, p.1, f.0, f.1, p.6)
 
 pub returns : goal.returns
-returns c = let a = c.args in
+returns c =
+    let a = c.args in
     let p = c.requires in
     let v = view_of a.pairs.now a.marks.now a.t in
     lows-joined v (view-good a.pairs.now a.marks.now a.t p.0 p.1) a.all.words a.others.words c.expand-direct.result.words c.difference-sources.result.words c.spread-covered.result.words c.difference-rest.result.words

@@ -1,5 +1,4 @@
 -- `lowest_of` meets its contract: Object is among the lowest exactly if it reaches all the others.
-use borrow.Author.Rules.{rules}
 use mathlib.Core.Path.{◌≡◌, sym, ap, subst, ◌∙◌}
 use mathlib.Core.Bool.{true}
 use mathlib.Core.List.{List}
@@ -13,7 +12,8 @@ use Rattle.view.specs.Lows.{remove-only, object-lowest, object-not-lowest}
 use Rattle.supertype.proofs.lowest_of.Goals as goal
 
 pub lowest_others-low-requires : goal.lowest_others-low-requires
-lowest_others-low-requires c = let a = c.args in
+lowest_others-low-requires c =
+    let a = c.args in
     let p = c.requires in
     let e = c.without-others.ensures in (
       p.0,
@@ -29,7 +29,8 @@ pub reached_from-requires : goal.reached_from-requires
 reached_from-requires c = c.requires.6
 
 pub returns-then-lowest-eq1024 : goal.returns-then-lowest-eq1024
-returns-then-lowest-eq1024 c = let a = c.args in
+returns-then-lowest-eq1024 c =
+    let a = c.args in
     let p = c.requires in
     object-lowest (view_of a.pairs.now a.marks.now a.t) (view-good a.pairs.now a.marks.now a.t p.0 p.1) a.all.words
     c.without-others.result.words c.lowest_others-low.result.words c.reached_from.result.words c.difference-unreached.result.words
@@ -37,7 +38,8 @@ returns-then-lowest-eq1024 c = let a = c.args in
     (sym c.lowest.ensures ∙ c.if-lowest-eq1024.true) c.with.result.words c.with.ensures
 
 pub returns : goal.returns
-returns c = let a = c.args in
+returns c =
+    let a = c.args in
     let p = c.requires in
     object-not-lowest (view_of a.pairs.now a.marks.now a.t) (view-good a.pairs.now a.marks.now a.t p.0 p.1) a.all.words
     c.without-others.result.words c.lowest_others-low.result.words c.reached_from.result.words c.difference-unreached.result.words

@@ -1,5 +1,4 @@
 -- `lowest_others` meets its contract.
-use borrow.Author.Rules.{rules}
 use borrow.Author.Tests.{eqb-true}
 use mathlib.Core.Path.{refl, sym, ◌∙◌}
 use Rattle.sets.specs.Sets.{at, remove, first}
@@ -8,7 +7,8 @@ use Rattle.supertype.specs.Sources.{lows-alone}
 use Rattle.supertype.proofs.lowest_others.Goals as goal
 
 pub returns-then-is_lone : goal.returns-then-is_lone
-returns-then-is_lone c = let a = c.args in
+returns-then-is_lone c =
+    let a = c.args in
     lows-alone (view_of a.pairs.now a.marks.now a.t) a.others.words (remove a.others.words (first (at a.others.words) 1024)) (first (at a.others.words) 1024) c.requires.3 refl
     (eqb-true (first (at (remove a.others.words (first (at a.others.words) 1024))) 1024) 1024 (sym c.is_lone.ensures ∙ c.if-is_lone.true))
 

@@ -1,16 +1,9 @@
 -- `not_reaching` meets its contract: what is left to look at are the members of `left`, and c is the least of them.
-use borrow.Author.Rules.{rules}
-use native.Mathlib.Omega.{arith}
-use mathlib.Core.Path.{◌≡◌, refl, sym, ap, ap₂, ◌∙◌}
-use mathlib.Core.Bool.{Bool, cond}
-use mathlib.Core.List.{List}
-use Prim.Native.Nat.{ℕ}
+use mathlib.Core.Path.{◌≡◌}
 use lib.ListN.{length}
-use Rattle.sets.specs.Sets.{at, remove, members, first}
+use Rattle.sets.specs.Sets.{at, members, first}
 use Rattle.tables.specs.Table.{view_of}
 use Rattle.view.specs.Lows.{strip}
-use Rattle.supertype.proofs.Steps.{strip-step, strip-end}
-use Rattle.view.specs.Frontier.{left-less}
 use Rattle.supertype.proofs.not_reaching.Given as goal
 
 abbrev pub invariant-loop-c : goal.invariant-loop-c

@@ -1,5 +1,4 @@
 -- `supertype` meets its contract.
-use borrow.Author.Rules.{rules}
 use mathlib.Core.Path.{sym, ◌∙◌}
 use Rattle.tables.specs.Table.{view_of, view-good}
 use Rattle.supertype.specs.Sources.{common-upward}
@@ -8,19 +7,22 @@ use Rattle.view.specs.Pick.{found-right, found-left, found-nearest, all-fits, al
 use Rattle.supertype.proofs.supertype.Goals as goal
 
 pub returns-then-has : goal.returns-then-has
-returns-then-has c = let a = c.args in
+returns-then-has c =
+    let a = c.args in
     let p = c.requires in
     found-right (view_of a.pairs.now a.marks.now a.t) (view-good a.pairs.now a.marks.now a.t p.0 p.1) a.left a.right p.2 p.3 c.ancestors_of-a.result.words c.ancestors_of-a.ensures (sym c.has.ensures ∙ c.if-has.true)
 
 pub returns-then-has-2 : goal.returns-then-has-2
-returns-then-has-2 c = let a = c.args in
+returns-then-has-2 c =
+    let a = c.args in
     let p = c.requires in
     found-left (view_of a.pairs.now a.marks.now a.t) (view-good a.pairs.now a.marks.now a.t p.0 p.1) a.left a.right p.2 p.3 c.ancestors_of-a.result.words c.ancestors_of-b.result.words c.ancestors_of-a.ensures c.ancestors_of-b.ensures
     (sym c.has.ensures ∙ c.if-has.false)
     (sym c.has-2.ensures ∙ c.if-has-2.true)
 
 pub lowest_of-low-requires : goal.lowest_of-low-requires
-lowest_of-low-requires c = let a = c.args in
+lowest_of-low-requires c =
+    let a = c.args in
     let p = c.requires in
     let x = c.ancestors_of-a in
     let y = c.ancestors_of-b in
@@ -40,7 +42,8 @@ lowest_of-low-requires c = let a = c.args in
     )
 
 pub nearest_of-requires : goal.nearest_of-requires
-nearest_of-requires c = let a = c.args in
+nearest_of-requires c =
+    let a = c.args in
     let p = c.requires in
     let x = c.ancestors_of-a in
     let y = c.ancestors_of-b in
@@ -57,7 +60,8 @@ nearest_of-requires c = let a = c.args in
     )
 
 pub returns : goal.returns
-returns c = let a = c.args in
+returns c =
+    let a = c.args in
     let p = c.requires in
     found-nearest (view_of a.pairs.now a.marks.now a.t) (view-good a.pairs.now a.marks.now a.t p.0 p.1) a.left a.right p.2 p.3 c.ancestors_of-a.result.words c.ancestors_of-b.result.words c.ancestors_of-a.ensures c.ancestors_of-b.ensures
     (sym c.has.ensures ∙ c.if-has.false) c.intersection.result.words c.intersection.ensures

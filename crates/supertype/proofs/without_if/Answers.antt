@@ -1,5 +1,4 @@
 -- `without_if` meets its contract.
-use borrow.Author.Rules.{rules}
 use mathlib.Core.Path.{◌∙◌}
 use Rattle.supertype.proofs.without_if.Goals as goal
 

@@ -1,11 +1,8 @@
 -- `check_records` meets its contract: what is left are the records from i on, after the tables that the first i leave.
-use borrow.Author.Rules.{rules}
 use mathlib.Core.Path.{refl, ap, ◌∙◌}
-use Prim.Native.Nat.{◌-◌, ◌≤◌}
 use native.Mathlib.Omega.{arith}
-use lib.ListN.{length}
-use Rattle.layers.specs.Stacks.{stack_of, Holds}
-use Rattle.tablecheck.specs.Inside.{stop_of, Gone}
+use Rattle.layers.specs.Stacks.{stack_of}
+use Rattle.tablecheck.specs.Inside.{stop_of}
 use Rattle.tablecheck.specs.Steps.{fresh-holds, gone-start, gone-end, gone-stop, gone-on}
 use Rattle.tablecheck.proofs.check_records.Goals as goal
 
@@ -16,7 +13,8 @@ pub stack_row-row-requires : goal.stack_row-row-requires
 stack_row-row-requires c = c.loop-i.invariant.1
 
 pub returns-then-row-ne0 : goal.returns-then-row-ne0
-returns-then-row-ne0 c = let a = c.args in
+returns-then-row-ne0 c =
+    let a = c.args in
     let l = c.loop-i in
     let row = c.stack_row-row in
     let low = c.lowest-u in
@@ -27,7 +25,8 @@ pub overflow_add-i : goal.overflow_add-i
 overflow_add-i c = omega (arith, c.loop-i-test.true, c.well_formed.0)
 
 pub loop-i-preserved : goal.loop-i-preserved
-loop-i-preserved c = let a = c.args in
+loop-i-preserved c =
+    let a = c.args in
     let l = c.loop-i in
     let h = c.loop-i-test.true in
     let row = c.stack_row-row in (
@@ -37,7 +36,8 @@ loop-i-preserved c = let a = c.args in
     )
 
 pub returns : goal.returns
-returns c = let a = c.args in
+returns c =
+    let a = c.args in
     let l = c.loop-i in
     let low = c.lowest-u in
     gone-end a.parents.now a.rec_flags.now a.rec_class.now a.rec_at.now a.rec_len.now _ l.i (stack_of l.pairs l.marks l.u) l.invariant.2 (omega arith)

@@ -1,12 +1,8 @@
 -- `check_records` meets its contract: what is left are the records from i on, after the tables that the first i leave.
-use borrow.Author.Rules.{rules}
-use mathlib.Core.Path.{refl, ap, ◌∙◌}
 use Prim.Native.Nat.{◌-◌, ◌≤◌}
-use native.Mathlib.Omega.{arith}
 use lib.ListN.{length}
 use Rattle.layers.specs.Stacks.{stack_of, Holds}
-use Rattle.tablecheck.specs.Inside.{stop_of, Gone}
-use Rattle.tablecheck.specs.Steps.{fresh-holds, gone-start, gone-end, gone-stop, gone-on}
+use Rattle.tablecheck.specs.Inside.{Gone}
 use Rattle.tablecheck.proofs.check_records.Given as goal
 
 abbrev pub invariant-loop-i : goal.invariant-loop-i

@@ -1,5 +1,4 @@
 -- `check_rows` meets its contract: the refused row, else the lack of Object.
-use borrow.Author.Rules.{rules}
 use mathlib.Core.Path.{ap, ◌∙◌}
 use Rattle.columns.specs.Given.{Given, given}
 use Rattle.rows.specs.declared.Outcome.{Outcome}
@@ -13,13 +12,15 @@ pub returns-then-whole-ne0 : goal.returns-then-whole-ne0
 returns-then-whole-ne0 c = c.find_row.ensures
 
 pub returns-then-t : goal.returns-then-t
-returns-then-t c = let a = c.args in
+returns-then-t c =
+    let a = c.args in
     let whole = c.build_rows-whole in
     let g : Given = given a.names.now a.name_at.now a.name_len.now a.rec_flags.now a.rec_class.now a.rec_at.now a.rec_len.now a.parents.now in
     check-object g whole.result whole.ensures c.if-whole-ne0.false (equal-even g c.requires.0 c.requires.1) c.if-t.true
 
 pub returns : goal.returns
-returns c = let a = c.args in
+returns c =
+    let a = c.args in
     let whole = c.build_rows-whole in
     let g : Given = given a.names.now a.name_at.now a.name_len.now a.rec_flags.now a.rec_class.now a.rec_at.now a.rec_len.now a.parents.now in
     check-none g whole.result whole.ensures c.if-whole-ne0.false (equal-even g c.requires.0 c.requires.1) c.if-t.false

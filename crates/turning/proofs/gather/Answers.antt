@@ -15,41 +15,48 @@ use Rattle.turning.specs.Turning.{state_in, only_if, asks-sorted, gather-produce
 use Rattle.turning.proofs.gather.Goals as goal
 
 pub shape_if-shape-requires : goal.shape_if-shape-requires
-shape_if-shape-requires c = let x = c.args in
+shape_if-shape-requires c =
+    let x = c.args in
     let p = c.requires in
     let o = c.produced_if-produced in
     (p.0, p.1, search rules, λ h. o.ensures ∙ ap (λ (a : Bool). only_if a (maybe_word (produced_type (world_of x.pairs.now x.marks.now x.t) (state_in x.keys.now x.root)))) (p.5 h))
 
 pub copy_ranks-f-requires : goal.copy_ranks-f-requires
-copy_ranks-f-requires c = let x = c.args in
+copy_ranks-f-requires c =
+    let x = c.args in
     let p = c.requires in
     (asks-sorted x.pairs.now x.marks.now x.t x.keys.now p.0 x.root, p.1, omega arith, omega (arith, p.3, run-short x.root 1 x.keys.now (asks-sorted x.pairs.now x.marks.now x.t x.keys.now p.0 x.root)))
 
 pub copy_uppers-u-requires : goal.copy_uppers-u-requires
-copy_uppers-u-requires c = let x = c.args in
+copy_uppers-u-requires c =
+    let x = c.args in
     let p = c.requires in
     (asks-sorted x.pairs.now x.marks.now x.t x.keys.now p.0 x.root, p.1, p.4)
 
 pub send_type-sent-requires : goal.send_type-sent-requires
-send_type-sent-requires c = let x = c.args in
+send_type-sent-requires c =
+    let x = c.args in
     let p = c.requires in
     let o = c.produced_if-produced in
     gather-produced x.pairs.now x.marks.now x.t x.keys.now p.0 x.root x.k.produced o.result o.ensures
 
 pub send_element-element-requires : goal.send_element-element-requires
-send_element-element-requires c = let x = c.args in
+send_element-element-requires c =
+    let x = c.args in
     let p = c.requires in
     let o = c.shape_if-shape in
     gather-shape x.pairs.now x.marks.now x.t x.keys.now p.0 x.root x.k.element o.result o.ensures
 
 pub send_array-array-requires : goal.send_array-array-requires
-send_array-array-requires c = let x = c.args in
+send_array-array-requires c =
+    let x = c.args in
     let p = c.requires in
     let o = c.produced_if-produced in
     gather-produced x.pairs.now x.marks.now x.t x.keys.now p.0 x.root x.k.produced o.result o.ensures
 
 pub returns : goal.returns
-returns c = let x = c.args in
+returns c =
+    let x = c.args in
     let o = c.produced_if-produced in
     let v = c.shape_if-shape in
     let f = c.copy_ranks-f in

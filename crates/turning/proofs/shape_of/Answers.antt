@@ -1,5 +1,4 @@
 -- `shape_of` meets its contract: what is produced, or else the upper bound.
-use borrow.Author.Rules.{rules}
 use mathlib.Core.Path.{◌∙◌}
 use Rattle.lattice.specs.World.{world_of}
 use Rattle.lattice.specs.Lattice.{most_specific_upper}
@@ -8,9 +7,11 @@ use Rattle.turning.specs.Turning.{state_in, shape-is, shape-none}
 use Rattle.turning.proofs.shape_of.Goals as goal
 
 pub returns-in-Is : goal.returns-in-Is
-returns-in-Is c = let x = c.args in
+returns-in-Is c =
+    let x = c.args in
     shape-is (produced_type (world_of x.pairs.now x.marks.now x.t) (state_in x.keys.now x.root)) (most_specific_upper (world_of x.pairs.now x.marks.now x.t) (state_in x.keys.now x.root).upper) x.produced c.requires.3 c.in-Is.field-0 c.in-Is.is
 
 pub returns-in-Nothing : goal.returns-in-Nothing
-returns-in-Nothing c = let x = c.args in
+returns-in-Nothing c =
+    let x = c.args in
     c.upper_of.ensures ∙ shape-none (produced_type (world_of x.pairs.now x.marks.now x.t) (state_in x.keys.now x.root)) (most_specific_upper (world_of x.pairs.now x.marks.now x.t) (state_in x.keys.now x.root).upper) x.produced c.requires.3 c.in-Nothing.is

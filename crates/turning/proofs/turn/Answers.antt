@@ -1,5 +1,4 @@
 -- `turn` meets its contract: what is gathered from the component's own keys as they were, then the rules over its own flows.
-use borrow.Author.Rules.{rules}
 use mathlib.Core.Path.{◌∙◌}
 use native.Mathlib.Omega.{arith}
 use Rattle.lattice.specs.World.{world_of}
@@ -10,37 +9,43 @@ use Rattle.turning.specs.Turning.{flows-cut, flows-turnable, flows-turned, turn-
 use Rattle.turning.proofs.turn.Goals as goal
 
 pub offset_bounds-flows-from : goal.offset_bounds-flows-from
-offset_bounds-flows-from c = let x = c.args in
+offset_bounds-flows-from c =
+    let x = c.args in
     let p = c.requires in
     let r = c.run-to in
     omega (arith, flows-cut x.pairs.now x.marks.now x.t (store x.a.now x.ring.now x.s) x.words.now x.fallbacks.now x.uppers.now x.flows.now x.incoming.now x.reads.now x.writes.now p.0 x.root r.result r.ensures, c.well_formed.1.1.1.1.1.1.1.1.1.0)
 
 pub slice_bounds-targets-count : goal.slice_bounds-targets-count
-slice_bounds-targets-count c = let x = c.args in
+slice_bounds-targets-count c =
+    let x = c.args in
     let p = c.requires in
     let r = c.run-to in
     omega (arith, flows-cut x.pairs.now x.marks.now x.t (store x.a.now x.ring.now x.s) x.words.now x.fallbacks.now x.uppers.now x.flows.now x.incoming.now x.reads.now x.writes.now p.0 x.root r.result r.ensures)
 
 pub slice_bounds-targets-start : goal.slice_bounds-targets-start
-slice_bounds-targets-start c = let x = c.args in
+slice_bounds-targets-start c =
+    let x = c.args in
     let p = c.requires in
     let r = c.run-to in
     omega (arith, flows-cut x.pairs.now x.marks.now x.t (store x.a.now x.ring.now x.s) x.words.now x.fallbacks.now x.uppers.now x.flows.now x.incoming.now x.reads.now x.writes.now p.0 x.root r.result r.ensures)
 
 pub slice_bounds-targets-end : goal.slice_bounds-targets-end
-slice_bounds-targets-end c = let x = c.args in
+slice_bounds-targets-end c =
+    let x = c.args in
     let p = c.requires in
     let r = c.run-to in
     omega (arith, flows-cut x.pairs.now x.marks.now x.t (store x.a.now x.ring.now x.s) x.words.now x.fallbacks.now x.uppers.now x.flows.now x.incoming.now x.reads.now x.writes.now p.0 x.root r.result r.ensures)
 
 pub asks-k-requires : goal.asks-k-requires
-asks-k-requires c = let x = c.args in
+asks-k-requires c =
+    let x = c.args in
     let p = c.requires in
     let r = c.run-to in
     (flows-turnable x.pairs.now x.marks.now x.t (store x.a.now x.ring.now x.s) x.words.now x.fallbacks.now x.uppers.now x.flows.now x.incoming.now x.reads.now x.writes.now p.0 x.root r.result r.ensures).flows-sorted
 
 pub offset_bounds-a-first : goal.offset_bounds-a-first
-offset_bounds-a-first c = let x = c.args in
+offset_bounds-a-first c =
+    let x = c.args in
     let p = c.requires in
     let r = c.run-to in
     let m = c.run-of in
@@ -48,7 +53,8 @@ offset_bounds-a-first c = let x = c.args in
     omega (arith, turn-cut x.pairs.now x.marks.now x.t x.a.now x.ring.now x.s x.words.now x.fallbacks.now x.uppers.now (part r.result.first r.result.past x.flows.now) x.incoming.now x.reads.now x.writes.now y x.root m.result m.ensures, p.0.good.holds.size)
 
 pub slice_bounds-gather-count : goal.slice_bounds-gather-count
-slice_bounds-gather-count c = let x = c.args in
+slice_bounds-gather-count c =
+    let x = c.args in
     let p = c.requires in
     let r = c.run-to in
     let m = c.run-of in
@@ -56,7 +62,8 @@ slice_bounds-gather-count c = let x = c.args in
     omega (arith, turn-cut x.pairs.now x.marks.now x.t x.a.now x.ring.now x.s x.words.now x.fallbacks.now x.uppers.now (part r.result.first r.result.past x.flows.now) x.incoming.now x.reads.now x.writes.now y x.root m.result m.ensures)
 
 pub slice_bounds-gather-start : goal.slice_bounds-gather-start
-slice_bounds-gather-start c = let x = c.args in
+slice_bounds-gather-start c =
+    let x = c.args in
     let p = c.requires in
     let r = c.run-to in
     let m = c.run-of in
@@ -64,7 +71,8 @@ slice_bounds-gather-start c = let x = c.args in
     omega (arith, turn-cut x.pairs.now x.marks.now x.t x.a.now x.ring.now x.s x.words.now x.fallbacks.now x.uppers.now (part r.result.first r.result.past x.flows.now) x.incoming.now x.reads.now x.writes.now y x.root m.result m.ensures)
 
 pub slice_bounds-gather-end : goal.slice_bounds-gather-end
-slice_bounds-gather-end c = let x = c.args in
+slice_bounds-gather-end c =
+    let x = c.args in
     let p = c.requires in
     let r = c.run-to in
     let m = c.run-of in
@@ -72,7 +80,8 @@ slice_bounds-gather-end c = let x = c.args in
     omega (arith, turn-cut x.pairs.now x.marks.now x.t x.a.now x.ring.now x.s x.words.now x.fallbacks.now x.uppers.now (part r.result.first r.result.past x.flows.now) x.incoming.now x.reads.now x.writes.now y x.root m.result m.ensures)
 
 pub gather-g-requires : goal.gather-g-requires
-gather-g-requires c = let x = c.args in
+gather-g-requires c =
+    let x = c.args in
     let p = c.requires in
     let r = c.run-to in
     let m = c.run-of in
@@ -88,7 +97,8 @@ gather-g-requires c = let x = c.args in
     )
 
 pub slice_bounds-pass_rules-end : goal.slice_bounds-pass_rules-end
-slice_bounds-pass_rules-end c = let x = c.args in
+slice_bounds-pass_rules-end c =
+    let x = c.args in
     let p = c.requires in
     let r = c.run-to in
     let m = c.run-of in
@@ -99,7 +109,8 @@ slice_bounds-pass_rules-end c = let x = c.args in
     omega (arith, (turn-within x.pairs.now x.marks.now x.t x.a.now x.ring.now x.s x.words.now x.fallbacks.now x.uppers.now (part r.result.first r.result.past x.flows.now) x.incoming.now x.reads.now x.writes.now y x.root q.result q.ensures o.result o.new.fallbacks o.new.uppers z.0 z.1 z.2).0, o.auto.fallbacks, p.0.fallbacks-room)
 
 pub slice_bounds-pass_rules-end-2 : goal.slice_bounds-pass_rules-end-2
-slice_bounds-pass_rules-end-2 c = let x = c.args in
+slice_bounds-pass_rules-end-2 c =
+    let x = c.args in
     let p = c.requires in
     let r = c.run-to in
     let m = c.run-of in
@@ -110,7 +121,8 @@ slice_bounds-pass_rules-end-2 c = let x = c.args in
     omega (arith, (turn-within x.pairs.now x.marks.now x.t x.a.now x.ring.now x.s x.words.now x.fallbacks.now x.uppers.now (part r.result.first r.result.past x.flows.now) x.incoming.now x.reads.now x.writes.now y x.root q.result q.ensures o.result o.new.fallbacks o.new.uppers z.0 z.1 z.2).1, o.auto.uppers, p.0.uppers-room)
 
 pub pass_rules-requires : goal.pass_rules-requires
-pass_rules-requires c = let x = c.args in
+pass_rules-requires c =
+    let x = c.args in
     let p = c.requires in
     let r = c.run-to in
     let m = c.run-of in
@@ -131,7 +143,8 @@ pass_rules-requires c = let x = c.args in
     )
 
 pub returns : goal.returns
-returns c = let x = c.args in
+returns c =
+    let x = c.args in
     let p = c.requires in
     let r = c.run-to in
     let m = c.run-of in

@@ -1,11 +1,9 @@
 -- `all_wide` meets its contract. The invariant: the answer is that of the digits left.
-use borrow.Author.Rules.{rules}
-use mathlib.Core.Path.{◌≡◌, sym, ap, ◌∙◌}
-use Prim.Native.Nat.{◌-◌, ◌/◌, ◌^◌, ◌≤◌}
-use native.Mathlib.Omega.{arith}
+use mathlib.Core.Path.{◌≡◌}
+use Prim.Native.Nat.{◌-◌, ◌≤◌}
 use Rattle.ty.specs.Types.{all_wide}
 use Rattle.ty.specs.Words.{list_of}
-use Rattle.ty.specs.Steps.{rest_of, rest-all, wide-yes, wide-no, wide-none, wide-end}
+use Rattle.ty.specs.Steps.{rest_of}
 use Rattle.ty.proofs.all_wide.Given as goal
 
 abbrev pub invariant-loop-i : goal.invariant-loop-i

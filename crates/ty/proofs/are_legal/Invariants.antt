@@ -1,12 +1,8 @@
 -- `are_legal` meets its contract. Invariant: what is left to test says what the whole says.
-use borrow.Author.Rules.{rules}
-use mathlib.Core.Path.{◌≡◌, sym, ◌∙◌}
-use mathlib.Core.Bool.{true, false}
+use mathlib.Core.Path.{◌≡◌}
 use Prim.Native.Nat.{◌≤◌, ◌-◌}
-use native.Mathlib.Omega.{arith}
 use lib.ListN.{length, drop}
 use Rattle.ty.specs.Words.{all_legal}
-use Rattle.ty.specs.Steps.{all-legal-next, all-legal-end}
 use Rattle.ty.proofs.are_legal.Given as goal
 
 abbrev pub invariant-loop-i : goal.invariant-loop-i

@@ -1,9 +1,8 @@
 -- `contains` meets its contract. The invariant: the digits passed do not have d.
-use borrow.Author.Rules.{rules}
 use borrow.Author.Tests.{eq-eqb, ne_eqb}
-use mathlib.Core.Path.{◌≡◌, refl, sym, ap, ◌∙◌}
+use mathlib.Core.Path.{refl, sym, ap, ◌∙◌}
 use mathlib.Core.Bool.{Bool, ◌||◌}
-use Prim.Native.Nat.{◌+◌, ◌-◌, ◌≤◌}
+use Prim.Native.Nat.{◌+◌}
 use native.Mathlib.Omega.{arith}
 use Rattle.order.specs.Lists.{elem}
 use Rattle.ty.specs.Steps.{rest_of, elem-step, elem-none}
@@ -13,13 +12,15 @@ pub loop-i-init : goal.loop-i-init
 loop-i-init c = (omega arith, omega arith, refl)
 
 pub returns-then-digit-d : goal.returns-then-digit-d
-returns-then-digit-d c = let a = c.args in
+returns-then-digit-d c =
+    let a = c.args in
     let l = c.loop-i in
     sym (l.invariant.2 ∙ elem-step a.load a.n l.i a.d (omega arith) (omega arith)
     ∙ ap (λ (t : Bool). t || elem a.d (rest_of a.load a.n (l.i + 1))) (eq-eqb _ _ (sym c.digit.ensures ∙ c.if-digit-d.true)))
 
 pub loop-i-preserved : goal.loop-i-preserved
-loop-i-preserved c = let a = c.args in
+loop-i-preserved c =
+    let a = c.args in
     let l = c.loop-i in (
       omega arith,
       omega arith,
@@ -28,5 +29,6 @@ loop-i-preserved c = let a = c.args in
     )
 
 pub returns : goal.returns
-returns c = let a = c.args in
+returns c =
+    let a = c.args in
     sym (c.loop-i.invariant.2 ∙ elem-none a.load a.n c.loop-i.i a.d (omega arith))

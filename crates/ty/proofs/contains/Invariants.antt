@@ -1,12 +1,8 @@
 -- `contains` meets its contract. The invariant: the digits passed do not have d.
-use borrow.Author.Rules.{rules}
-use borrow.Author.Tests.{eq-eqb, ne_eqb}
-use mathlib.Core.Path.{◌≡◌, refl, sym, ap, ◌∙◌}
-use mathlib.Core.Bool.{Bool, ◌||◌}
-use Prim.Native.Nat.{◌+◌, ◌-◌, ◌≤◌}
-use native.Mathlib.Omega.{arith}
+use mathlib.Core.Path.{◌≡◌}
+use Prim.Native.Nat.{◌-◌, ◌≤◌}
 use Rattle.order.specs.Lists.{elem}
-use Rattle.ty.specs.Steps.{rest_of, elem-step, elem-none}
+use Rattle.ty.specs.Steps.{rest_of}
 use Rattle.ty.proofs.contains.Given as goal
 
 abbrev pub invariant-loop-i : goal.invariant-loop-i

@@ -1,5 +1,4 @@
 -- `decode` meets its contract: a type where the word is legal.
-use borrow.Author.Rules.{rules}
 use mathlib.Core.Path.{sym, ◌∙◌}
 use Rattle.ty.specs.Answers.{decode-good, decode-bad}
 use Rattle.ty.proofs.decode.Goals as goal

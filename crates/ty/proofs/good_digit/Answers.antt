@@ -1,5 +1,4 @@
 -- `good_digit` meets its contract, by where the digit stands.
-use borrow.Author.Rules.{rules}
 use mathlib.Core.Path.{ap, ◌∙◌}
 use mathlib.Core.Bool.{not}
 use Rattle.ty.specs.Steps.{digit-past, digit-large, digit-in}
@@ -12,6 +11,7 @@ pub returns-then-d-gt-ARRAY : goal.returns-then-d-gt-ARRAY
 returns-then-d-gt-ARRAY c = let a = c.args in digit-large a.load a.n a.i c.if-n-i.false _ c.digit-d.ensures c.if-d-gt-ARRAY.true
 
 pub returns : goal.returns
-returns c = let a = c.args in
+returns c =
+    let a = c.args in
     ap not c.contains-again.ensures
     ∙ digit-in a.load a.n a.i c.if-n-i.false _ c.digit-d.ensures c.if-d-gt-ARRAY.false

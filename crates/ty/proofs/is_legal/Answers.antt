@@ -1,5 +1,4 @@
 -- `is_legal` meets its contract, by the tag.
-use borrow.Author.Rules.{rules}
 use mathlib.Core.Path.{sym, ◌∙◌}
 use Rattle.ty.specs.Steps.{check-primitive, check-object, check-unknown, check-none}
 use Rattle.ty.proofs.is_legal.Goals as goal

@@ -1,11 +1,9 @@
 -- `list_mask` meets its contract. The invariant: the set so far, with the digits left, is the whole.
-use borrow.Author.Rules.{rules}
-use mathlib.Core.Path.{◌≡◌, sym, ap, ◌∙◌}
-use Prim.Native.Nat.{ℕ, ◌+◌, ◌-◌, ◌/◌, ◌^◌, ◌≤◌}
+use mathlib.Core.Path.{sym, ap, ◌∙◌}
+use Prim.Native.Nat.{ℕ, ◌+◌, ◌/◌, ◌^◌}
 use native.Mathlib.Omega.{arith}
 use lib.Bits.{bit_or}
 use Rattle.ty.specs.Types.{mask_with}
-use Rattle.ty.specs.Words.{list_of}
 use Rattle.ty.specs.Steps.{rest_of, rest-all, mask-step, mask-none, mask-end, one-shifted}
 use Rattle.ty.proofs.list_mask.Goals as goal
 
@@ -13,12 +11,14 @@ pub loop-i-init : goal.loop-i-init
 loop-i-init c = (omega arith, ap (mask_with 0) (rest-all c.args.load))
 
 pub returns-then-n-i : goal.returns-then-n-i
-returns-then-n-i c = let x = c.args.load in
+returns-then-n-i c =
+    let x = c.args.load in
     let l = c.loop-i in
     sym (l.invariant.1 ∙ mask-none x (x / 2 ^ 44) l.i l.m c.if-n-i.true)
 
 pub loop-i-preserved : goal.loop-i-preserved
-loop-i-preserved c = let x = c.args.load in
+loop-i-preserved c =
+    let x = c.args.load in
     let l = c.loop-i in
     let e = c.digit-d.ensures in (
       omega arith,
@@ -27,6 +27,7 @@ loop-i-preserved c = let x = c.args.load in
     )
 
 pub returns : goal.returns
-returns c = let x = c.args.load in
+returns c =
+    let x = c.args.load in
     let l = c.loop-i in
     sym (l.invariant.1 ∙ mask-end x (x / 2 ^ 44) l.i l.m (omega arith))

@@ -1,12 +1,9 @@
 -- `list_mask` meets its contract. The invariant: the set so far, with the digits left, is the whole.
-use borrow.Author.Rules.{rules}
-use mathlib.Core.Path.{◌≡◌, sym, ap, ◌∙◌}
-use Prim.Native.Nat.{ℕ, ◌+◌, ◌-◌, ◌/◌, ◌^◌, ◌≤◌}
-use native.Mathlib.Omega.{arith}
-use lib.Bits.{bit_or}
+use mathlib.Core.Path.{◌≡◌}
+use Prim.Native.Nat.{◌-◌, ◌≤◌}
 use Rattle.ty.specs.Types.{mask_with}
 use Rattle.ty.specs.Words.{list_of}
-use Rattle.ty.specs.Steps.{rest_of, rest-all, mask-step, mask-none, mask-end, one-shifted}
+use Rattle.ty.specs.Steps.{rest_of}
 use Rattle.ty.proofs.list_mask.Given as goal
 
 abbrev pub invariant-loop-i : goal.invariant-loop-i

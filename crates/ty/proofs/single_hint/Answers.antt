@@ -1,5 +1,4 @@
 -- `single_hint` meets its contract, by the length and the one category.
-use borrow.Author.Rules.{rules}
 use mathlib.Core.Path.{sym, ap}
 use Rattle.ty.specs.Answers.{maybe_word}
 use Rattle.ty.specs.Words.{word_of}
@@ -11,14 +10,17 @@ returns-then-load-ne1 c = let a = c.args in sym (ap maybe_word (hint-many a.obje
 
 pub returns-then-c-eq-OBJECT : goal.returns-then-c-eq-OBJECT
 unfolding word_of
-returns-then-c-eq-OBJECT c = let a = c.args in
+returns-then-c-eq-OBJECT c =
+    let a = c.args in
     sym (ap maybe_word (hint-object a.object a.load _ c.digit-c.ensures c.if-load-ne1.false c.if-c-eq-OBJECT.true))
 
 pub returns-then-c-eq-ARRAY : goal.returns-then-c-eq-ARRAY
-returns-then-c-eq-ARRAY c = let a = c.args in
+returns-then-c-eq-ARRAY c =
+    let a = c.args in
     sym (ap maybe_word (hint-array a.object a.load _ c.digit-c.ensures c.if-load-ne1.false c.if-c-eq-ARRAY.true))
 
 pub returns : goal.returns
 unfolding word_of
-returns c = let a = c.args in
+returns c =
+    let a = c.args in
     sym (ap maybe_word (hint-primitive a.object a.load _ c.digit-c.ensures c.if-load-ne1.false c.if-c-eq-OBJECT.false c.if-c-eq-ARRAY.false))

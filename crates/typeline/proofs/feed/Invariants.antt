@@ -1,6 +1,6 @@
 -- `feed` meets its contract: a part ends inside the chunk, and what is held is held after each piece.
-use Rattle.std.proofs.Common.{◌≡◌, ◌+◌, ◌-◌, ◌^◌, ◌<◌, ◌≤◌, length, refl, ◌∙◌, zero-le}
-use Rattle.typeline.specs.Held.{Holds, chunk-short, inside-chunk, feed-less, feed-more, next-fits}
+use Rattle.std.proofs.Common.{◌≡◌, ◌+◌, ◌-◌, ◌^◌, ◌<◌, ◌≤◌, length}
+use Rattle.typeline.specs.Held.{Holds}
 use Rattle.typeline.proofs.feed.Given as goal
 
 abbrev pub invariant-loop-i : goal.invariant-loop-i

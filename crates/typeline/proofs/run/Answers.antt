@@ -1,6 +1,6 @@
 -- `run` meets its contract: it ends, by a count of turns that falls, and what is held is held after each read.
-use Rattle.std.proofs.Common.{◌≡◌, ◌≤◌, length, refl, ◌∙◌}
-use Rattle.typeline.specs.Held.{Holds, holds-same, none-used, turn-less}
+use Rattle.std.proofs.Common.{refl, ◌∙◌}
+use Rattle.typeline.specs.Held.{holds-same, none-used, turn-less}
 use Rattle.typeline.proofs.run.Goals as goal
 
 pub no_numbers-numbers-requires : goal.no_numbers-numbers-requires

@@ -1,6 +1,6 @@
 -- `run` meets its contract: it ends, by a count of turns that falls, and what is held is held after each read.
-use Rattle.std.proofs.Common.{◌≡◌, ◌≤◌, length, refl, ◌∙◌}
-use Rattle.typeline.specs.Held.{Holds, holds-same, none-used, turn-less}
+use Rattle.std.proofs.Common.{◌≡◌, ◌≤◌, length}
+use Rattle.typeline.specs.Held.{Holds}
 use Rattle.typeline.proofs.run.Given as goal
 
 abbrev pub invariant-loop-turns : goal.invariant-loop-turns

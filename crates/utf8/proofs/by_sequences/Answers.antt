@@ -10,18 +10,21 @@ pub loop-i-init : goal.loop-i-init
 loop-i-init c = (c.requires.0, c.requires.1, refl)
 
 pub returns-then-n-eq0 : goal.returns-then-n-eq0
-returns-then-n-eq0 c = let a = c.args in
+returns-then-n-eq0 c =
+    let a = c.args in
     let l = c.loop-i in
     sym (l.invariant.2 ∙ pass-stop a.s.now l.i a.to l.invariant.1 c.sequence_at-n.ensures c.if-n-eq0.true)
 
 pub overflow_add-i : goal.overflow_add-i
-overflow_add-i c = let a = c.args in
+overflow_add-i c =
+    let a = c.args in
     let l = c.loop-i in
     let h = pass-in a.s.now l.i a.to l.invariant.1 l.invariant.0 c.sequence_at-n.ensures in
     omega arith
 
 pub loop-i-preserved : goal.loop-i-preserved
-loop-i-preserved c = let a = c.args in
+loop-i-preserved c =
+    let a = c.args in
     let l = c.loop-i in
     let e = c.sequence_at-n.ensures in (
       pass-in a.s.now l.i a.to l.invariant.1 l.invariant.0 e,
@@ -30,6 +33,7 @@ loop-i-preserved c = let a = c.args in
     )
 
 pub returns : goal.returns
-returns c = let a = c.args in
+returns c =
+    let a = c.args in
     let l = c.loop-i in
     sym (l.invariant.2 ∙ pass-end a.s.now l.i a.to l.invariant.1 (search rules))

@@ -11,17 +11,20 @@ unfolding faults
 loop-k-init c = (c.requires, omega arith, refl)
 
 pub overflow_add-bad : goal.overflow_add-bad
-overflow_add-bad c = let a = c.args in
+overflow_add-bad c =
+    let a = c.args in
     let l = c.loop-k in
     omega (arith, l.invariant.2, faults-le a.s.now a.i l.k, c.faults_of-bad.ensures, seam-le a.s.now (a.i + l.k))
 
 pub loop-k-preserved : goal.loop-k-preserved
-loop-k-preserved c = let a = c.args in
+loop-k-preserved c =
+    let a = c.args in
     let l = c.loop-k in
     (l.invariant.0, omega arith, omega (arith, l.invariant.2, c.faults_of-bad.ensures, faults-step a.s.now a.i l.k))
 
 pub returns : goal.returns
-returns c = let a = c.args in
+returns c =
+    let a = c.args in
     let l = c.loop-k in
     let e : l.k ≡ 16 = omega arith in
     ap (λ (n : ℕ). eqb n 0) (l.invariant.2 ∙ ap (faults a.s.now a.i) e)

@@ -10,7 +10,8 @@ pub loop-i-init : goal.loop-i-init
 loop-i-init c = (c.requires.0, c.requires.1, refl)
 
 pub loop-i-preserved : goal.loop-i-preserved
-loop-i-preserved c = let a = c.args in
+loop-i-preserved c =
+    let a = c.args in
     let l = c.loop-i in (
       omega arith,
       l.invariant.1,
@@ -22,6 +23,7 @@ loop-i-preserved c = let a = c.args in
     )
 
 pub returns : goal.returns
-returns c = let a = c.args in
+returns c =
+    let a = c.args in
     let l = c.loop-i in
     sym (l.invariant.2 ∙ ap (λ (t : Bool). l.plain && t) (ascii-end a.s.now l.i a.to l.invariant.1 (omega arith)) ∙ and-true l.plain)

@@ -5,7 +5,8 @@ use Rattle.utf8.proofs.Blocks.{clean-part}
 use Rattle.utf8.proofs.is_clean.Goals as goal
 
 pub returns-then-clean_ends : goal.returns-then-clean_ends
-returns-then-clean_ends c h = let a = c.args in
+returns-then-clean_ends c h =
+    let a = c.args in
     let ends = c.clean_ends.ensures c.if-clean_ends.true in
     clean-part a.s.now a.from a.to (omega arith) c.requires.1 ends (c.clean_blocks.ensures h)
 

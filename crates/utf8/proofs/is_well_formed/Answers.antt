@@ -3,5 +3,6 @@ use Rattle.utf8.proofs.Part.{whole-part}
 use Rattle.utf8.proofs.is_well_formed.Goals as goal
 
 pub returns : goal.returns
-returns c = let a = c.args in
+returns c =
+    let a = c.args in
     whole-part a.s.now a.from a.to c.requires.0 c.requires.1 c.valid_up_to.ensures

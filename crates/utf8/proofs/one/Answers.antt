@@ -7,14 +7,17 @@ use Rattle.utf8.proofs.one.Goals as goal
 
 pub returns-then-lo-b : goal.returns-then-lo-b
 unfolding within
-returns-then-lo-b c = let a = c.args in
+returns-then-lo-b c =
+    let a = c.args in
     sym (match-at (a.lo ‥ a.hi) a.s.now a.i a.to c.requires c.if-i-to.true ∙ rw (le-leb _ _ c.if-lo-b.true))
 
 pub returns-else-lo-b : goal.returns-else-lo-b
 unfolding within
-returns-else-lo-b c = let a = c.args in
+returns-else-lo-b c =
+    let a = c.args in
     sym (match-at (a.lo ‥ a.hi) a.s.now a.i a.to c.requires c.if-i-to.true ∙ rw (lt-leb _ _ c.if-lo-b.false))
 
 pub returns : goal.returns
-returns c = let a = c.args in
+returns c =
+    let a = c.args in
     sym (match-past (a.lo ‥ a.hi) a.s.now a.i a.to c.requires c.if-i-to.false)

@@ -11,7 +11,8 @@ pub loop-i-init : goal.loop-i-init
 loop-i-init c = (search rules, refl, store-all (replicate c.args.dims 91) c.args.out.now c.args.at)
 
 pub loop-i-preserved : goal.loop-i-preserved
-loop-i-preserved c = let a = c.args in
+loop-i-preserved c =
+    let a = c.args in
     let l = c.loop-i in
     let n = length-replicate {A = ℕ} a.dims 91 in (
       search rules,
@@ -23,7 +24,8 @@ pub shape_of-out : goal.shape_of-out
 shape_of-out c = c.loop-i.invariant.1
 
 pub returns : goal.returns
-returns c = let a = c.args in
+returns c =
+    let a = c.args in
     let l = c.loop-i in
     let n = length-replicate {A = ℕ} a.dims 91 in
     sym (l.invariant.2 ∙ store-none (replicate a.dims 91) l.out a.at l.i (omega arith))

@@ -11,7 +11,8 @@ pub loop-i-init : goal.loop-i-init
 loop-i-init c = (search rules, refl, store-all (take c.args.n (drop c.args.from c.args.bytes.now)) c.args.out.now c.args.at)
 
 pub loop-i-preserved : goal.loop-i-preserved
-loop-i-preserved c = let a = c.args in
+loop-i-preserved c =
+    let a = c.args in
     let l = c.loop-i in
     let d = length-drop a.from a.bytes.now in
     let n = length-take-le a.n (drop a.from a.bytes.now) (omega arith) in (
@@ -25,7 +26,8 @@ pub shape_of-out : goal.shape_of-out
 shape_of-out c = c.loop-i.invariant.1
 
 pub returns : goal.returns
-returns c = let a = c.args in
+returns c =
+    let a = c.args in
     let l = c.loop-i in
     let d = length-drop a.from a.bytes.now in
     let n = length-take-le a.n (drop a.from a.bytes.now) (omega arith) in

@@ -15,7 +15,8 @@ pub loop-i-init : goal.loop-i-init
 loop-i-init c = (search rules, refl, c.requires.1, refl, refl)
 
 pub put_type-next-requires : goal.put_type-next-requires
-put_type-next-requires c = let a = c.args in
+put_type-next-requires c =
+    let a = c.args in
     let p = c.requires in
     let l = c.loop-i in
     let e = ap length (words-next a.names.now a.name_at.now a.name_len.now a.words.now l.i (omega arith)) in
@@ -23,7 +24,8 @@ put_type-next-requires c = let a = c.args in
     (p.0, (legal-front (length a.name_at.now) a.words.now l.i (omega arith) l.invariant.2).0, omega arith)
 
 pub loop-i-preserved : goal.loop-i-preserved
-loop-i-preserved c = let a = c.args in
+loop-i-preserved c =
+    let a = c.args in
     let l = c.loop-i in
     let put = c.put_type-next.ensures in
     let w = words-next a.names.now a.name_at.now a.name_len.now a.words.now l.i (omega arith) in
@@ -42,7 +44,8 @@ pub shape_of-out : goal.shape_of-out
 shape_of-out c = c.loop-i.invariant.1
 
 pub returns : goal.returns
-returns c = let a = c.args in
+returns c =
+    let a = c.args in
     let l = c.loop-i in
     let w = words-none a.names.now a.name_at.now a.name_len.now a.words.now l.i (omega arith) in
     let e = ap length w in

@@ -9,19 +9,22 @@ pub loop-i-init : goal.loop-i-init
 loop-i-init c = (search rules, search rules, search rules, c.requires.1)
 
 pub type_length-n-requires : goal.type_length-n-requires
-type_length-n-requires c = let a = c.args in
+type_length-n-requires c =
+    let a = c.args in
     let l = c.loop-i in
     (c.requires.0, (legal-front (length a.name_len.now) a.words.now l.i (omega arith) l.invariant.3).0)
 
 pub loop-i-preserved : goal.loop-i-preserved
-loop-i-preserved c = let a = c.args in
+loop-i-preserved c =
+    let a = c.args in
     let l = c.loop-i in
     let e = size-next a.name_len.now a.words.now l.i (omega arith) in
     let r = c.type_length-n.ensures in
     (omega arith, omega arith, omega arith, (legal-front (length a.name_len.now) a.words.now l.i (omega arith) l.invariant.3).1)
 
 pub returns : goal.returns
-returns c = let a = c.args in
+returns c =
+    let a = c.args in
     let l = c.loop-i in
     let e = size-none a.name_len.now a.words.now l.i (omega arith) in
     (omega arith, omega arith)

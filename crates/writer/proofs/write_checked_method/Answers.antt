@@ -9,24 +9,28 @@ use Rattle.writer.specs.Steps.{checked-short, method-size, method-many, method-i
 use Rattle.writer.proofs.write_checked_method.Goals as goal
 
 pub returns-then-params-gt-PARAMETERS : goal.returns-then-params-gt-PARAMETERS
-returns-then-params-gt-PARAMETERS c = let a = c.args in
+returns-then-params-gt-PARAMETERS c =
+    let a = c.args in
     wrote-none 8 (method-many a.names.now a.name_at.now a.name_len.now a.params.now a.res (length a.out.now) (omega arith)) (λ z. omega arith) c.refused.ensures
 
 pub returns-then-not-are_legal : goal.returns-then-not-are_legal
-returns-then-not-are_legal c = let a = c.args in
+returns-then-not-are_legal c =
+    let a = c.args in
     let h = sym c.are_legal.ensures ∙ c.if-not-are_legal.true in
     wrote-none 7 (method-illegal a.names.now a.name_at.now a.name_len.now a.params.now a.res (length a.out.now) (omega arith) (ap (λ (t : Bool). t && legal_word (length a.name_at.now) a.res) h))
     (λ z. omega arith) c.refused-then-not-are_legal.ensures
 
 pub returns-then-not-is_legal : goal.returns-then-not-is_legal
-returns-then-not-is_legal c = let a = c.args in
+returns-then-not-is_legal c =
+    let a = c.args in
     let h = sym c.are_legal.ensures ∙ c.if-not-are_legal.false in
     let g = sym c.is_legal.ensures ∙ c.if-not-is_legal.true in
     wrote-none 7 (method-illegal a.names.now a.name_at.now a.name_len.now a.params.now a.res (length a.out.now) (omega arith) (ap₂ (λ (t u : Bool). t && u) h g))
     (λ z. omega arith) c.refused-then-not-is_legal.ensures
 
 pub method_length-requires : goal.method_length-requires
-method_length-requires c = let a = c.args in
+method_length-requires c =
+    let a = c.args in
     let p = c.requires in
     let h = sym c.are_legal.ensures ∙ c.if-not-are_legal.false in
     let g = sym c.is_legal.ensures ∙ c.if-not-is_legal.false in (
@@ -37,7 +41,8 @@ method_length-requires c = let a = c.args in
     )
 
 pub returns-then-out-method_length : goal.returns-then-out-method_length
-returns-then-out-method_length c = let a = c.args in
+returns-then-out-method_length c =
+    let a = c.args in
     let p = c.requires in
     let h = sym c.are_legal.ensures ∙ c.if-not-are_legal.false in
     let g = sym c.is_legal.ensures ∙ c.if-not-is_legal.false in
@@ -46,7 +51,8 @@ returns-then-out-method_length c = let a = c.args in
     wrote-none 22 (method-long a.names.now a.name_at.now a.name_len.now a.params.now a.res (length a.out.now) (omega arith) h g (omega arith)) (λ z. omega arith) c.refused-then-out-method_length.ensures
 
 pub put_method-end-requires : goal.put_method-end-requires
-put_method-end-requires c = let a = c.args in
+put_method-end-requires c =
+    let a = c.args in
     let p = c.requires in
     let h = sym c.are_legal.ensures ∙ c.if-not-are_legal.false in
     let g = sym c.is_legal.ensures ∙ c.if-not-is_legal.false in
@@ -55,7 +61,8 @@ put_method-end-requires c = let a = c.args in
     (p, h, g, omega arith)
 
 pub returns : goal.returns
-returns c = let a = c.args in
+returns c =
+    let a = c.args in
     let p = c.requires in
     let h = sym c.are_legal.ensures ∙ c.if-not-are_legal.false in
     let g = sym c.is_legal.ensures ∙ c.if-not-is_legal.false in

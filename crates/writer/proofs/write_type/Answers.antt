@@ -6,17 +6,20 @@ use Rattle.writer.specs.Steps.{type-unnamed, type-named, wrote-none, wrote-as}
 use Rattle.writer.proofs.write_type.Goals as goal
 
 pub returns-then-refusal-ne0 : goal.returns-then-refusal-ne0
-returns-then-refusal-ne0 c = let a = c.args in
+returns-then-refusal-ne0 c =
+    let a = c.args in
     let k = c.check_names-refusal in
     wrote-none k.result (type-unnamed a.names.now a.name_at.now a.name_len.now k.result k.ensures a.word (length a.out.now) c.if-refusal-ne0.true)
     c.if-refusal-ne0.true c.refused.ensures
 
 pub write_checked_type-requires : goal.write_checked_type-requires
-write_checked_type-requires c = let a = c.args in
+write_checked_type-requires c =
+    let a = c.args in
     checked a.names.now a.name_at.now a.name_len.now (sym c.check_names-refusal.ensures ∙ c.if-refusal-ne0.false)
 
 pub returns : goal.returns
-returns c = let a = c.args in
+returns c =
+    let a = c.args in
     let k = c.check_names-refusal in
     wrote-as (type-named a.names.now a.name_at.now a.name_len.now k.result k.ensures a.word (length a.out.now) c.if-refusal-ne0.false)
     c.write_checked_type.ensures

@@ -1,5 +1,5 @@
 -- `copy` is safe and ends.
-use Rattle.std.proofs.Common.{◌≡◌, ◌-◌, ◌≤◌, length, length-set, rules}
+use Rattle.std.proofs.Common.{◌≡◌, ◌-◌, ◌≤◌, length}
 use Rattle.replay_leaves.proofs.on_entries.copy.Given as goal
 
 abbrev pub invariant-loop-i : goal.invariant-loop-i

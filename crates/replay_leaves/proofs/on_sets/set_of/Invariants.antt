@@ -1,5 +1,5 @@
 -- `set_of` is safe and ends.
-use Rattle.std.proofs.Common.{◌-◌, ◌≤◌, length, rules}
+use Rattle.std.proofs.Common.{◌-◌, ◌≤◌, length}
 use Rattle.replay_leaves.proofs.on_sets.set_of.Given as goal
 
 abbrev pub invariant-loop-i : goal.invariant-loop-i

@@ -1,5 +1,5 @@
 -- `as_placed` is safe and ends.
-use Rattle.std.proofs.Common.{◌-◌, ◌≤◌, length, rules}
+use Rattle.std.proofs.Common.{◌-◌, ◌≤◌, length}
 use Rattle.replay_leaves.proofs.on_types.as_placed.Given as goal
 
 abbrev pub invariant-loop-j : goal.invariant-loop-j

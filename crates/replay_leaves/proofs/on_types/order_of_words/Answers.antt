@@ -1,5 +1,5 @@
 -- `order_of_words` is safe: words that `decode` takes are legal.
-use Rattle.std.proofs.Common.{sym, ◌∙◌, rules}
+use Rattle.std.proofs.Common.{sym, ◌∙◌}
 use Rattle.ty.specs.Answers.{good-type}
 use Rattle.replay_leaves.proofs.on_types.order_of_words.Goals as goal
 

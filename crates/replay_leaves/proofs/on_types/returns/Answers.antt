@@ -1,5 +1,5 @@
 -- `returns` is safe: the rank of a legal word is in range.
-use Rattle.std.proofs.Common.{arith, rules}
+use Rattle.std.proofs.Common.{arith}
 use Rattle.keys.specs.Parts.{rank-fits}
 use Rattle.replay_leaves.proofs.on_types.returns.Goals as goal
 

@@ -1,5 +1,5 @@
 -- `word` is safe: a word that `decode` takes is legal.
-use Rattle.std.proofs.Common.{sym, ◌∙◌, rules}
+use Rattle.std.proofs.Common.{sym, ◌∙◌}
 use Rattle.ty.specs.Answers.{good-type}
 use Rattle.replay_leaves.proofs.on_types.word.Goals as goal
 

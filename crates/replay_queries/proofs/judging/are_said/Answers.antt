@@ -1,8 +1,4 @@
 -- `are_said` is safe and ends: it asks once for each answer.
-use borrow.Author.Rules.{rules}
-use mathlib.Core.Path.{◌≡◌}
-use Prim.Native.Nat.{◌-◌}
-use lib.ListN.{length}
 use Rattle.replay_queries.proofs.judging.are_said.Goals as goal
 
 pub count-n-requires : goal.count-n-requires

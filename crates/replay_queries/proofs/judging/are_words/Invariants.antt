@@ -1,5 +1,4 @@
 -- `are_words` is safe and ends.
-use borrow.Author.Rules.{rules}
 use Prim.Native.Nat.{◌-◌, ◌≤◌}
 use lib.ListN.{length}
 use Rattle.replay_queries.proofs.judging.are_words.Given as goal

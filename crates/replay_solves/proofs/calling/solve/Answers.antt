@@ -1,5 +1,4 @@
 -- `solve` is safe: no more is lent of a slice than there is.
-use borrow.Author.Rules.{rules}
 use mathlib.Core.Path.{sym}
 use lib.Seq.{length-take-le}
 use Rattle.replay_solves.proofs.calling.solve.Goals as goal

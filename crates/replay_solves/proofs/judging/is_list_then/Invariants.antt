@@ -1,5 +1,4 @@
 -- `is_list_then` is safe and ends.
-use borrow.Author.Rules.{rules}
 use Prim.Native.Nat.{◌-◌, ◌≤◌}
 use lib.ListN.{length}
 use Rattle.replay_solves.proofs.judging.is_list_then.Given as goal

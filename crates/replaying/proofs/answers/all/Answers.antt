@@ -1,6 +1,5 @@
 -- `all` meets its contract: the verdict says what the comparison says.
 use Rattle.replaying.proofs.Steps.{judges-if}
-use Rattle.std.proofs.Common.{rules}
 use Rattle.replaying.proofs.answers.all.Goals as goal
 
 pub returns : goal.returns

@@ -1,6 +1,6 @@
 -- `is_same` meets its contract: the slices are of one length, and alike below i.
-use Rattle.std.proofs.Common.{◌≡◌, ℕ, ◌-◌, ◌≤◌, List, length, get_or, ap, arith, rules}
-use Rattle.replaying.proofs.Steps.{Alike, alike-more, alike-all, differs}
+use Rattle.std.proofs.Common.{◌≡◌, ◌-◌, ◌≤◌, length}
+use Rattle.replaying.proofs.Steps.{Alike}
 use Rattle.replaying.proofs.answers.is_same.Given as goal
 
 abbrev pub invariant-loop-i : goal.invariant-loop-i

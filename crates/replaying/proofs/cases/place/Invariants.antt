@@ -1,5 +1,5 @@
 -- `place` is safe and ends: a name ends inside the names.
-use Rattle.std.proofs.Common.{◌+◌, ◌-◌, ◌^◌, ◌<◌, ◌≤◌, length, rules}
+use Rattle.std.proofs.Common.{◌+◌, ◌-◌, ◌^◌, ◌<◌, ◌≤◌, length}
 use Rattle.replaying.proofs.cases.place.Given as goal
 
 abbrev pub invariant-loop-i : goal.invariant-loop-i

@@ -1,5 +1,5 @@
 -- `words` is safe and ends.
-use Rattle.std.proofs.Common.{◌≡◌, ◌-◌, length, rules}
+use Rattle.std.proofs.Common.{◌≡◌, ◌-◌, length}
 use Rattle.replaying.proofs.cases.words.Given as goal
 
 abbrev pub invariant-loop-i : goal.invariant-loop-i

@@ -1,5 +1,5 @@
 -- `end` meets its contract: the members end inside, or there is no whole list.
-use Rattle.std.proofs.Common.{refl, arith, rules}
+use Rattle.std.proofs.Common.{refl, arith}
 use Rattle.replaying.proofs.Steps.{end-none, end-some}
 use Rattle.replaying.proofs.lists.end.Goals as goal
 

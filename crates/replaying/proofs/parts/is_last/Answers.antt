@@ -1,5 +1,4 @@
 -- `is_last` meets its contract: a list that is not whole, or where it ends.
-use Rattle.std.proofs.Common.{rules}
 use Rattle.replaying.proofs.Steps.{not-last, last-tested}
 use Rattle.replaying.proofs.parts.is_last.Goals as goal
 

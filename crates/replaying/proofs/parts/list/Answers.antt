@@ -1,5 +1,4 @@
 -- `list` meets its contract: the numbers at the place of the list.
-use Rattle.std.proofs.Common.{rules}
 use Rattle.replaying.proofs.Steps.{list-there}
 use Rattle.replaying.proofs.parts.list.Goals as goal
 

@@ -1,5 +1,5 @@
 -- `number_at` meets its contract: the number, or 0 past the end.
-use Rattle.std.proofs.Common.{sym, rules}
+use Rattle.std.proofs.Common.{sym}
 use lib.ListN.{get_or-eq_default}
 use Rattle.replaying.proofs.parts.number_at.Goals as goal
 

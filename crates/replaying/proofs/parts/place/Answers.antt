@@ -1,7 +1,6 @@
 -- `place` meets its contract: list after list, none of which is outside the slice.
-use Rattle.std.proofs.Common.{◌≡◌, ◌-◌, ◌≤◌, length, arith, rules}
+use Rattle.std.proofs.Common.{arith, rules}
 use Rattle.replaying.proofs.Steps.{place-first, place-next, place-done}
-use Rattle.replaying.specs.Replaying.{Inside, place_of}
 use Rattle.replaying.proofs.parts.place.Goals as goal
 
 pub loop-i-init : goal.loop-i-init

@@ -1,7 +1,6 @@
 -- `names_in` meets its contract: what is left are the names from the next byte on.
-use Rattle.std.proofs.Common.{◌≡◌, ◌+◌, ◌-◌, ◌≤◌, length, get_or, drop, sym, ◌∙◌, arith, rules}
+use Rattle.std.proofs.Common.{◌≡◌, ◌+◌, ◌-◌, ◌≤◌, length, drop}
 use Rattle.replaying.specs.Report.{names_in}
-use Rattle.replaying.specs.ReportLaws.{next-small, in-step, in-end}
 use Rattle.replaying.proofs.report.names_in.Given as goal
 
 abbrev pub invariant-loop-i : goal.invariant-loop-i

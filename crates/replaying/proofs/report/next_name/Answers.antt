@@ -1,5 +1,5 @@
 -- `next_name` meets its contract.
-use Rattle.std.proofs.Common.{◌+◌, Bool, cond, sym, ap, rules, eq-eqb, ne_eqb}
+use Rattle.std.proofs.Common.{◌+◌, Bool, cond, sym, ap, eq-eqb, ne_eqb}
 use Rattle.replaying.proofs.report.next_name.Goals as goal
 
 pub returns-then-b-eq32 : goal.returns-then-b-eq32

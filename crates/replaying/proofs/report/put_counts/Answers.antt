@@ -1,12 +1,13 @@
 -- `put_counts` meets its contract: two numbers and the end of the line.
-use Rattle.std.proofs.Common.{ℕ, ap₂, arith, rules}
+use Rattle.std.proofs.Common.{ℕ, ap₂, arith}
 use Rattle.lineout.specs.Laws.{puts-as}
 use Rattle.replaying.specs.Report.{counts_text, counts_of}
 use Rattle.replaying.specs.ReportLaws.{counts-put}
 use Rattle.replaying.proofs.report.put_counts.Goals as goal
 
 pub returns : goal.returns
-returns c = let p = c.requires.0 in
+returns c =
+    let p = c.requires.0 in
     let a = c.args in
     let agree = c.number_at in
     let one = c.put_field-m in

@@ -1,5 +1,5 @@
 -- `put_names` meets its contract: what is left are the names from the next byte on.
-use Rattle.std.proofs.Common.{◌≡◌, ℕ, ◌+◌, ◌-◌, ◌*◌, ◌≤◌, List, length, get_or, drop, refl, ◌∙◌, subst, arith, rules}
+use Rattle.std.proofs.Common.{ℕ, ◌+◌, List, get_or, drop, refl, ◌∙◌, subst, arith}
 use Rattle.lineout.specs.Laws.{Writing, writing-start}
 use Rattle.replaying.specs.Report.{counts_of, next_text, names_text}
 use Rattle.replaying.specs.ReportLaws.{writing-on, writing-last, next-small, names-step, names-end}
@@ -9,7 +9,8 @@ pub loop-i-init : goal.loop-i-init
 loop-i-init c = let a = c.args in (omega arith, omega arith, omega arith, refl, writing-start (names_text a.counts.now 0 a.names.now) a.at a.out.now)
 
 pub loop-i-preserved : goal.loop-i-preserved
-loop-i-preserved c = let a = c.args in
+loop-i-preserved c =
+    let a = c.args in
     let p = c.requires in
     let l = c.loop-i in
     let h = c.loop-i-test.true in
@@ -35,7 +36,8 @@ pub shape_of-out : goal.shape_of-out
 shape_of-out c = c.put_counts.auto.out ∙ c.loop-i.invariant.3
 
 pub returns : goal.returns
-returns c = let a = c.args in
+returns c =
+    let a = c.args in
     let p = c.requires in
     let l = c.loop-i in
     let put = c.put_counts in

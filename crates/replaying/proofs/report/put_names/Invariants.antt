@@ -1,8 +1,7 @@
 -- `put_names` meets its contract: what is left are the names from the next byte on.
-use Rattle.std.proofs.Common.{◌≡◌, ℕ, ◌+◌, ◌-◌, ◌*◌, ◌≤◌, List, length, get_or, drop, refl, ◌∙◌, subst, arith, rules}
-use Rattle.lineout.specs.Laws.{Writing, writing-start}
-use Rattle.replaying.specs.Report.{counts_of, next_text, names_text}
-use Rattle.replaying.specs.ReportLaws.{writing-on, writing-last, next-small, names-step, names-end}
+use Rattle.std.proofs.Common.{◌≡◌, ◌+◌, ◌-◌, ◌*◌, ◌≤◌, length, drop}
+use Rattle.lineout.specs.Laws.{Writing}
+use Rattle.replaying.specs.Report.{names_text}
 use Rattle.replaying.proofs.report.put_names.Given as goal
 
 abbrev pub invariant-loop-i : goal.invariant-loop-i

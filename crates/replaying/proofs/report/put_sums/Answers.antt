@@ -1,12 +1,13 @@
 -- `put_sums` meets its contract: the four numbers are the counts of the last two lines.
-use Rattle.std.proofs.Common.{ℕ, List, [], ◌∷◌, ap, arith, rules}
+use Rattle.std.proofs.Common.{ℕ, List, [], ◌∷◌, ap, arith}
 use Rattle.lineout.specs.Laws.{puts-as}
 use Rattle.replaying.specs.Report.{names_text, sums_of, unread_all}
 use Rattle.replaying.specs.ReportLaws.{sums-are}
 use Rattle.replaying.proofs.report.put_sums.Goals as goal
 
 pub returns : goal.returns
-returns c = let a = c.args in
+returns c =
+    let a = c.args in
     let unread = c.number_at-unread in
     let agree = c.sum-agree in
     let cases = c.sum in

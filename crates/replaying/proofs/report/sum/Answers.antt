@@ -1,5 +1,5 @@
 -- `sum` meets its contract: what is added so far is the sum of the first k.
-use Rattle.std.proofs.Common.{◌≡◌, ℕ, ◌+◌, ◌-◌, ◌*◌, ◌%◌, ◌^◌, ◌≤◌, get_or, refl, ap, ◌∙◌, arith, rules}
+use Rattle.std.proofs.Common.{◌≡◌, ℕ, ◌+◌, ◌*◌, ◌%◌, ◌^◌, get_or, refl, ap, ◌∙◌, arith}
 use Rattle.replaying.specs.Report.{total}
 use Rattle.replaying.specs.ReportLaws.{total-step}
 use Rattle.replaying.proofs.report.sum.Goals as goal
@@ -9,7 +9,8 @@ unfolding total
 loop-k-init c = (omega arith, refl)
 
 pub loop-k-preserved : goal.loop-k-preserved
-loop-k-preserved c = let a = c.args in
+loop-k-preserved c =
+    let a = c.args in
     let l = c.loop-k in
     let h = c.loop-k-test.true in
     let n = get_or a.counts.now (2 * l.k + a.first) 0 in (
@@ -18,6 +19,7 @@ loop-k-preserved c = let a = c.args in
     )
 
 pub returns : goal.returns
-returns c = let a = c.args in
+returns c =
+    let a = c.args in
     let l = c.loop-k in
     l.invariant.1 ∙ ap (total a.counts.now a.first) (let e : l.k ≡ a.n = omega arith in e)

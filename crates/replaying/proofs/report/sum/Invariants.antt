@@ -1,7 +1,6 @@
 -- `sum` meets its contract: what is added so far is the sum of the first k.
-use Rattle.std.proofs.Common.{◌≡◌, ℕ, ◌+◌, ◌-◌, ◌*◌, ◌%◌, ◌^◌, ◌≤◌, get_or, refl, ap, ◌∙◌, arith, rules}
+use Rattle.std.proofs.Common.{◌≡◌, ◌-◌, ◌≤◌}
 use Rattle.replaying.specs.Report.{total}
-use Rattle.replaying.specs.ReportLaws.{total-step}
 use Rattle.replaying.proofs.report.sum.Given as goal
 
 abbrev pub invariant-loop-k : goal.invariant-loop-k

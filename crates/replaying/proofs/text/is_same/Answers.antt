@@ -1,6 +1,6 @@
 -- `is_same` meets its contract: the slices are of one length, and alike below i.
-use Rattle.std.proofs.Common.{◌≡◌, ℕ, ◌-◌, ◌≤◌, List, length, get_or, ap, arith, rules}
-use Rattle.replaying.proofs.Steps.{Alike, alike-more, alike-all, differs}
+use Rattle.std.proofs.Common.{ℕ, List, length, get_or, ap, arith}
+use Rattle.replaying.proofs.Steps.{alike-more, alike-all, differs}
 use Rattle.replaying.proofs.text.is_same.Goals as goal
 
 pub returns-then-x-y : goal.returns-then-x-y
@@ -10,16 +10,19 @@ pub loop-i-init : goal.loop-i-init
 loop-i-init c = (omega arith, let q = c.if-x-y.false in omega arith, λ k l. absurd (omega arith))
 
 pub returns-then-x-i : goal.returns-then-x-i
-returns-then-x-i c = let a = c.args in
+returns-then-x-i c =
+    let a = c.args in
     let i = c.loop-i.i in
     differs a.x.now a.y.now (λ q. c.if-x-i.true (ap (λ (l : List ℕ). get_or l i 0) q))
 
 pub loop-i-preserved : goal.loop-i-preserved
-loop-i-preserved c = let a = c.args in
+loop-i-preserved c =
+    let a = c.args in
     let l = c.loop-i in
     (omega arith, l.invariant.1, alike-more a.x.now a.y.now l.i l.invariant.2 c.if-x-i.false)
 
 pub returns : goal.returns
-returns c = let a = c.args in
+returns c =
+    let a = c.args in
     let l = c.loop-i in
     alike-all a.x.now a.y.now l.i l.invariant.1 (omega arith) l.invariant.2

@@ -1,6 +1,6 @@
 -- `part_end` meets its contract: the index stays inside, and b does not stand before it.
-use Rattle.std.proofs.Common.{◌+◌, ◌-◌, ◌≤◌, length, arith, rules}
-use Rattle.replaying.proofs.Steps.{Without, without-more}
+use Rattle.std.proofs.Common.{◌+◌, ◌-◌, ◌≤◌, length}
+use Rattle.replaying.proofs.Steps.{Without}
 use Rattle.replaying.proofs.text.part_end.Given as goal
 
 abbrev pub invariant-loop-i : goal.invariant-loop-i

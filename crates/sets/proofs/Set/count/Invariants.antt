@@ -1,12 +1,8 @@
 -- `Set::count` meets its contract. At word k, n is the count of the words below k; the measure is the number of words left.
-use borrow.Author.Rules.{rules}
-use mathlib.Core.Path.{◌≡◌, ◌∙◌}
+use mathlib.Core.Path.{◌≡◌}
 use Prim.Native.Nat.{◌+◌, ◌-◌, ◌*◌, ◌≤◌}
-use native.Mathlib.Omega.{arith}
-use lib.Count.{ones-le}
 use lib.ListN.{drop}
-use Rattle.sets.proofs.Good.{array-length, array-fits}
-use Rattle.sets.proofs.Loops.{sum_ones, sum-members, sum-drop, sum-end}
+use Rattle.sets.proofs.Loops.{sum_ones}
 use Rattle.sets.proofs.Set.count.Given as goal
 
 abbrev pub invariant-loop-k : goal.invariant-loop-k

@@ -1,11 +1,7 @@
 -- `Set::difference` meets its contract. At word k the words below k have lost what the other set has; the measure is the number of words left.
-use borrow.Author.Rules.{rules}
 use Prim.Native.Nat.{◌-◌}
-use native.Mathlib.Omega.{arith}
-use Rattle.sets.specs.Sets.{clear, subtract}
-use Rattle.sets.specs.Laws.{clear-zero}
-use Rattle.sets.proofs.Good.{array-length}
-use Rattle.sets.proofs.Loops.{Passed, passed-none, passed-more, passed-all}
+use Rattle.sets.specs.Sets.{clear}
+use Rattle.sets.proofs.Loops.{Passed}
 use Rattle.sets.proofs.Set.difference.Given as goal
 
 abbrev pub invariant-loop-k : goal.invariant-loop-k

@@ -12,5 +12,6 @@ unfolding member at bit
 returns-then-i-lt1024 c = search rules
 
 pub returns-else-i-lt1024 : goal.returns-else-i-lt1024
-returns-else-i-lt1024 c = let l = array-length 16 c.args.self.words _ c.well_formed.0.1.1.0 in
+returns-else-i-lt1024 c =
+    let l = array-length 16 c.args.self.words _ c.well_formed.0.1.1.0 in
     sym (member-past c.args.self.words c.args.i (omega arith))

@@ -1,7 +1,6 @@
 -- `Set::lowest` meets its contract. At word k the words below k are 0; the measure is the number of words left.
-use borrow.Author.Rules.{rules}
 use mathlib.Core.Path.{◌≡◌, ap, ◌∙◌}
-use Prim.Native.Nat.{ℕ, ◌+◌, ◌-◌, ◌*◌, ◌≤◌}
+use Prim.Native.Nat.{ℕ, ◌+◌, ◌*◌}
 use native.Mathlib.Omega.{arith}
 use lib.Count.{trailing_le}
 use lib.ListN.{get_or, drop}
@@ -19,7 +18,8 @@ pub overflow_add-result : goal.overflow_add-result
 overflow_add-result c = omega (arith, trailing_le 64 (get_or c.args.self.words c.loop-k.k 0))
 
 pub returns-then-w-ne0 : goal.returns-then-w-ne0
-returns-then-w-ne0 c = let ws = c.args.self.words in
+returns-then-w-ne0 c =
+    let ws = c.args.self.words in
     let k = c.loop-k.k in
     let l = array-length 16 ws _ c.well_formed.0.1.1.0 in
     let d = low-drop ws k (omega arith) in
@@ -28,14 +28,16 @@ returns-then-w-ne0 c = let ws = c.args.self.words in
     omega arith
 
 pub loop-k-preserved : goal.loop-k-preserved
-loop-k-preserved c = let ws = c.args.self.words in
+loop-k-preserved c =
+    let ws = c.args.self.words in
     let k = c.loop-k.k in
     let l = array-length 16 ws _ c.well_formed.0.1.1.0 in
     let d = low-drop ws k (omega arith) ∙ ap (λ (w : ℕ). low_step w (low_words (drop (k + 1) ws))) c.if-w-ne0.false in
     (omega arith, omega arith)
 
 pub returns : goal.returns
-returns c = let ws = c.args.self.words in
+returns c =
+    let ws = c.args.self.words in
     let l = array-length 16 ws _ c.well_formed.0.1.1.0 in
     let z = low-end ws c.loop-k.k (omega arith) in
     let f = low-members ws l (array-fits 16 ws _ c.well_formed.0.1.1.0) in

@@ -1,12 +1,8 @@
 -- `Set::lowest` meets its contract. At word k the words below k are 0; the measure is the number of words left.
-use borrow.Author.Rules.{rules}
-use mathlib.Core.Path.{◌≡◌, ap, ◌∙◌}
-use Prim.Native.Nat.{ℕ, ◌+◌, ◌-◌, ◌*◌, ◌≤◌}
-use native.Mathlib.Omega.{arith}
-use lib.Count.{trailing_le}
-use lib.ListN.{get_or, drop}
-use Rattle.sets.proofs.Good.{array-length, array-fits}
-use Rattle.sets.proofs.Loops.{low_words, low_step, low-members, low-drop, low-end, low-pos}
+use mathlib.Core.Path.{◌≡◌}
+use Prim.Native.Nat.{◌+◌, ◌-◌, ◌*◌, ◌≤◌}
+use lib.ListN.{drop}
+use Rattle.sets.proofs.Loops.{low_words}
 use Rattle.sets.proofs.Set.lowest.Given as goal
 
 abbrev pub invariant-loop-k : goal.invariant-loop-k

@@ -1,10 +1,6 @@
 -- `Set::same` meets its contract. At word k the words below k are equal; the measure is the number of words left.
-use borrow.Author.Rules.{rules}
-use mathlib.Core.Path.{◌≡◌, refl, sym, ◌∙◌}
-use Prim.Native.Nat.{◌-◌, ◌≤◌}
+use mathlib.Core.Path.{refl, sym, ◌∙◌}
 use native.Mathlib.Omega.{arith}
-use lib.ListN.{drop}
-use Rattle.sets.specs.Sets.{same_words}
 use Rattle.sets.proofs.Good.{array-length}
 use Rattle.sets.proofs.Loops.{same-stop, same-step, same-end}
 use Rattle.sets.proofs.Set.same.Goals as goal
@@ -13,7 +9,8 @@ pub loop-k-init : goal.loop-k-init
 loop-k-init c = (omega arith, refl)
 
 pub returns-then-self-k : goal.returns-then-self-k
-returns-then-self-k c = let a = c.args.self.words in
+returns-then-self-k c =
+    let a = c.args.self.words in
     let b = c.args.other.words in
     let la = array-length 16 a _ c.well_formed.0.1.1.0 in
     let lb = array-length 16 b _ c.well_formed.1.0.1.1.0 in
@@ -21,7 +18,8 @@ returns-then-self-k c = let a = c.args.self.words in
     sym (l.invariant.1 ∙ same-stop a b l.k (omega arith) (omega arith) c.if-self-k.true)
 
 pub loop-k-preserved : goal.loop-k-preserved
-loop-k-preserved c = let a = c.args.self.words in
+loop-k-preserved c =
+    let a = c.args.self.words in
     let b = c.args.other.words in
     let la = array-length 16 a _ c.well_formed.0.1.1.0 in
     let lb = array-length 16 b _ c.well_formed.1.0.1.1.0 in
@@ -29,7 +27,8 @@ loop-k-preserved c = let a = c.args.self.words in
     (omega arith, l.invariant.1 ∙ same-step a b l.k (omega arith) (omega arith) c.if-self-k.false)
 
 pub returns : goal.returns
-returns c = let a = c.args.self.words in
+returns c =
+    let a = c.args.self.words in
     let b = c.args.other.words in
     let la = array-length 16 a _ c.well_formed.0.1.1.0 in
     let lb = array-length 16 b _ c.well_formed.1.0.1.1.0 in

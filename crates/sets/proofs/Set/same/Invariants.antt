@@ -1,12 +1,8 @@
 -- `Set::same` meets its contract. At word k the words below k are equal; the measure is the number of words left.
-use borrow.Author.Rules.{rules}
-use mathlib.Core.Path.{◌≡◌, refl, sym, ◌∙◌}
+use mathlib.Core.Path.{◌≡◌}
 use Prim.Native.Nat.{◌-◌, ◌≤◌}
-use native.Mathlib.Omega.{arith}
 use lib.ListN.{drop}
 use Rattle.sets.specs.Sets.{same_words}
-use Rattle.sets.proofs.Good.{array-length}
-use Rattle.sets.proofs.Loops.{same-stop, same-step, same-end}
 use Rattle.sets.proofs.Set.same.Given as goal
 
 abbrev pub invariant-loop-k : goal.invariant-loop-k

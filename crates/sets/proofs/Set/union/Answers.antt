@@ -1,25 +1,25 @@
 -- `Set::union` meets its contract. At word k the words below k are united; the measure is the number of words left.
-use borrow.Author.Rules.{rules}
 use mathlib.Core.Path.{refl}
-use Prim.Native.Nat.{◌-◌}
 use native.Mathlib.Omega.{arith}
 use lib.Bits.{bit_or}
 use Rattle.sets.specs.Sets.{unite}
 use Rattle.sets.proofs.Good.{array-length}
-use Rattle.sets.proofs.Loops.{Passed, passed-none, passed-more, passed-all}
+use Rattle.sets.proofs.Loops.{passed-none, passed-more, passed-all}
 use Rattle.sets.proofs.Set.union.Goals as goal
 
 pub loop-k-init : goal.loop-k-init
 loop-k-init c = passed-none bit_or c.args.self.words c.args.other.words (array-length 16 c.args.self.words _ c.well_formed.0.1.1.0)
 
 pub loop-k-preserved : goal.loop-k-preserved
-loop-k-preserved c = let s = c.args in
+loop-k-preserved c =
+    let s = c.args in
     let l = c.loop-k in
     passed-more bit_or s.self.words s.other.words l.self.words l.k l.invariant (omega arith)
 
 pub returns : goal.returns
 unfolding unite
-returns c = let l = c.loop-k in
+returns c =
+    let l = c.loop-k in
     passed-all bit_or c.args.self.words c.args.other.words refl
     (array-length 16 c.args.self.words _ c.well_formed.0.1.1.0)
     (array-length 16 c.args.other.words _ c.well_formed.1.0.1.1.0)

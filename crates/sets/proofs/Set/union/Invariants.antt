@@ -1,12 +1,7 @@
 -- `Set::union` meets its contract. At word k the words below k are united; the measure is the number of words left.
-use borrow.Author.Rules.{rules}
-use mathlib.Core.Path.{refl}
 use Prim.Native.Nat.{◌-◌}
-use native.Mathlib.Omega.{arith}
 use lib.Bits.{bit_or}
-use Rattle.sets.specs.Sets.{unite}
-use Rattle.sets.proofs.Good.{array-length}
-use Rattle.sets.proofs.Loops.{Passed, passed-none, passed-more, passed-all}
+use Rattle.sets.proofs.Loops.{Passed}
 use Rattle.sets.proofs.Set.union.Given as goal
 
 abbrev pub invariant-loop-k : goal.invariant-loop-k

@@ -1,5 +1,4 @@
 -- `TypeWord::array` meets its contract.
-use borrow.Author.Rules.{rules}
 use borrow.Author.Tests.{lt-ltb, le-ltb}
 use Rattle.ty.specs.Answers.{array_word}
 use Rattle.ty.proofs.TypeWord.array.Goals as goal

@@ -1,5 +1,4 @@
 -- `TypeWord::categories` meets its contract, by dimensions and tag.
-use borrow.Author.Rules.{rules}
 use mathlib.Core.Path.{◌∙◌}
 use native.Mathlib.Omega.{arith}
 use Rattle.ty.specs.Steps.{mask-array, mask-primitive, mask-object, mask-unknown, legal-category, one-shifted}
@@ -12,7 +11,8 @@ pub overflow_shl-result-then-tag-eq0 : goal.overflow_shl-result-then-tag-eq0
 overflow_shl-result-then-tag-eq0 c = let l = legal-category 1024 c.args.self.word c.requires c.if-tag-eq0.true in omega arith
 
 pub returns-then-tag-eq0 : goal.returns-then-tag-eq0
-returns-then-tag-eq0 c = let w = c.args.self.word in
+returns-then-tag-eq0 c =
+    let w = c.args.self.word in
     let l = legal-category 1024 w c.requires c.if-tag-eq0.true in
     one-shifted _ (omega arith) ∙ mask-primitive w c.if-w-ge-DIMENSION.false c.if-tag-eq0.true
 

@@ -1,5 +1,4 @@
 -- `TypeWord::is_wide` meets its contract, by dimensions and tag.
-use borrow.Author.Rules.{rules}
 use mathlib.Core.Path.{◌∙◌}
 use Rattle.ty.specs.Steps.{wide-array, wide-primitive, wide-object, wide-unknown}
 use Rattle.ty.proofs.TypeWord.is_wide.Goals as goal

@@ -1,5 +1,4 @@
 -- `append` meets its contract: it stays inside the line, and ends.
-use Rattle.std.proofs.Common.{◌≡◌, ◌-◌, ◌≤◌, length, rules}
 use Rattle.typeline.specs.Held.{append-again}
 use Rattle.typeline.proofs.input.append.Goals as goal
 

@@ -1,6 +1,5 @@
 -- `append` meets its contract: it stays inside the line, and ends.
-use Rattle.std.proofs.Common.{◌≡◌, ◌-◌, ◌≤◌, length, rules}
-use Rattle.typeline.specs.Held.{append-again}
+use Rattle.std.proofs.Common.{◌≡◌, ◌-◌, ◌≤◌, length}
 use Rattle.typeline.proofs.input.append.Given as goal
 
 abbrev pub invariant-loop-i : goal.invariant-loop-i

@@ -1,5 +1,5 @@
 -- `line_end` meets its contract: the place stays between the start and the end of the chunk.
-use Rattle.std.proofs.Common.{◌-◌, ◌≤◌, length, rules}
+use Rattle.std.proofs.Common.{◌-◌, ◌≤◌, length}
 use Rattle.typeline.proofs.input.line_end.Given as goal
 
 abbrev pub invariant-loop-e : goal.invariant-loop-e
