@@ -21,7 +21,7 @@ fn main() {
         println!("cargo:rustc-link-lib=static=bracepuffin");
     } else {
         println!(
-            "cargo:warning=no {}: `rt staticlib bracepuffin` at the root of the repository makes it; nothing links until then",
+            "cargo:warning=no {}: `tools/archive` at the root of the repository makes it; nothing links until then",
             archive.display()
         );
     }

@@ -10,6 +10,8 @@ mod on_types;
 use replaying::answers::Verdict;
 use replaying::cases::Case;
 use replaying::{cases, parts, report, text};
+use std::io;
+use std::io::Write;
 
 const NAMES: [u8; 50] = *b"pairs order legal edits word hint set sets put run";
 
@@ -54,17 +56,17 @@ fn each_line(input: &[u8], counts: &mut [u64]) {
     }
 }
 
-fn print(counts: &[u64]) {
+fn print(output: &mut impl Write, counts: &[u64]) -> io::Result<()> {
     let mut out = [0u8; report::ROOM];
     let n = report::put(&NAMES, counts, &mut out);
-    io::write_all(libc::STDOUT_FILENO, parts::bytes(&out, 0, n as u64));
+    output.write_all(parts::bytes(&out, 0, n as u64))
 }
 
-fn main() {
+fn main(rt: HostRuntime) -> io::Result<()> {
     let mut input = cases::room();
     let mut counts = [0u64; 128];
-    let n = io::read_full(libc::STDIN_FILENO, &mut input);
+    let n = replaying::input::fill(&mut rt.stdin(), &mut input)?;
     report::note_full(&mut counts, n == input.len());
     each_line(parts::bytes(&input, 0, n as u64), &mut counts);
-    print(&counts);
+    print(&mut rt.stdout(), &counts)
 }

@@ -11,6 +11,8 @@ mod judging;
 use replaying::answers::Verdict;
 use replaying::cases::Case;
 use replaying::{cases, parts, report, text};
+use std::io;
+use std::io::Write;
 
 // The points o52 to o71 are those of docs/DECISIONS.md.
 const NAMES: [u8; 99] =
@@ -100,18 +102,18 @@ fn each_line(input: &[u8], table: &mut [u64], store: &mut [u8], counts: &mut [u6
     }
 }
 
-fn print(counts: &[u64]) {
+fn print(output: &mut impl Write, counts: &[u64]) -> io::Result<()> {
     let mut out = [0u8; report::ROOM];
     let n = report::put(&NAMES, counts, &mut out);
-    io::write_all(libc::STDOUT_FILENO, parts::bytes(&out, 0, n as u64));
+    output.write_all(parts::bytes(&out, 0, n as u64))
 }
 
-fn main() {
+fn main(rt: HostRuntime) -> io::Result<()> {
     let mut input = cases::room();
     let mut table = [0u64; 1600];
     let mut store = [0u8; 2048];
     let mut counts = [0u64; 128];
-    let n = io::read_full(libc::STDIN_FILENO, &mut input);
+    let n = replaying::input::fill(&mut rt.stdin(), &mut input)?;
     report::note_full(&mut counts, n == input.len());
     each_line(
         parts::bytes(&input, 0, n as u64),
@@ -119,5 +121,5 @@ fn main() {
         &mut store,
         &mut counts,
     );
-    print(&counts);
+    print(&mut rt.stdout(), &counts)
 }

@@ -140,7 +140,7 @@ note-full-one κs a r₁ r₂ x₁ x₂ p q = p ∙ sym q
 
 pub report-put-one : (κs : Lfts 3) (a : Dens κs report-put-kinds.ps) (r₁ r₂ : (res_t report-put-kinds.r κs).Denot)
     (x₁ x₂ : AtExit (ended_of 3 report-put-kinds.ps report-put-kinds.r) κs) → report-put-reads.Post κs a r₁ x₁ → report-put-reads.Post κs a r₂ x₂ → (r₁ ≡ r₂) × (x₁.1.1.0.now ≡ x₂.1.1.0.now)
-report-put-one κs a r₁ r₂ x₁ x₂ p q = (p.0.Filled-is ∙ sym q.0.Filled-is, p.0.out-is ∙ sym q.0.out-is)
+report-put-one κs a r₁ r₂ x₁ x₂ p q = (p.0.filled-is ∙ sym q.0.filled-is, p.0.out-is ∙ sym q.0.out-is)
 
 -- ---- parts: of what is handed out, what stands there
 

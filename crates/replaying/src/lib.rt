@@ -7,6 +7,7 @@
 
 pub mod answers;
 pub mod cases;
+pub mod input;
 pub mod lists;
 pub mod parts;
 pub mod report;

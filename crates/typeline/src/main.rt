@@ -221,10 +221,10 @@ fn some(
 {
     let n = match input.read(chunk) {
         Ok(n) => n,
+        Err(e) if e.kind() == ErrorKind::Interrupted => return Ok(s),
         Err(e) => {
-            if e.kind() == ErrorKind::Interrupted {
-                return Ok(s);
-            }
+            // What was answered is not lost.
+            output::flush(output, out, s.filled)?;
             return Err(e);
         }
     };

@@ -41,7 +41,7 @@ const OWN: &str = "CPU implementer";
 pub fn another() -> Option<&'static str> {
     cfg!(target_arch = "aarch64").then_some(
         "The archive is for x86-64, where nothing was measured. These figures are of the same module, compiled for this \
-         Arm processor with the same options (`tools/native-arm`), and of the Rust compiled for it too: read the ratios and the \
+         Arm processor with the same options, and of the Rust compiled for it too: read the ratios and the \
          growth, not the times.",
     )
 }

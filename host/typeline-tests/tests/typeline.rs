@@ -1,9 +1,9 @@
 //! The program `typeline` as a process: what it prints, byte by byte, for the scope paper's example, for scripts at every limit
 //! and for random ones, beside `judge::lines`.
 //!
-//! `rt check typeline` makes the program, target/bin/typeline of the repository; BRACEPUFFIN_TYPELINE names another one. It is
-//! for x86-64: elsewhere the tests run it through the emulator that cargo runs them through. BRACEPUFFIN_CASES sets how many
-//! random inputs are tried, where a million stands for 200.
+//! `tools/run typeline` makes the program, and `rt ci` too: crates/typeline/out/typeline of the repository; BRACEPUFFIN_TYPELINE
+//! names another one. It is for x86-64: elsewhere the tests run it through the emulator that cargo runs them through.
+//! BRACEPUFFIN_CASES sets how many random inputs are tried, where a million stands for 200.
 
 use std::ffi::OsString;
 use std::io::Write;
@@ -17,7 +17,7 @@ use judge::rng::Rng;
 use judge::stored::{PAPER, RUN_INPUT, RUN_OUTPUT};
 
 fn program() -> PathBuf {
-    let made = || Path::new(env!("CARGO_MANIFEST_DIR")).join("../../target/bin/typeline");
+    let made = || Path::new(env!("CARGO_MANIFEST_DIR")).join("../../crates/typeline/out/typeline");
     env::var_os("BRACEPUFFIN_TYPELINE").map_or_else(made, PathBuf::from)
 }
 

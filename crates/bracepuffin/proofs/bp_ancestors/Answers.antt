@@ -6,4 +6,4 @@ use Rattle.bracepuffin.proofs.bp_ancestors.Goals as goal
 
 pub returns : goal.returns
 unfolding ancestors_of ancestors_told
-returns c = let r = c.ancestors_of-a.ensures in (c.set_answer.ensures ∙ ap set_answer r.result, r.memory)
+returns c = let r = c.ancestors_of-a.ensures in record { value = c.set_answer.ensures ∙ ap set_answer r.result; work_after = r.memory }

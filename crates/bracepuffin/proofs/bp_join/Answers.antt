@@ -6,4 +6,4 @@ use Rattle.bracepuffin.proofs.bp_join.Goals as goal
 
 pub returns : goal.returns
 unfolding value_of answer_of join_told
-returns c = let r = c.ask-a.ensures in (c.number_answer.ensures ∙ ap number_answer r.result, r.memory)
+returns c = let r = c.ask-a.ensures in record { value = c.number_answer.ensures ∙ ap number_answer r.result; work_after = r.memory }

@@ -6,4 +6,4 @@ use Rattle.bracepuffin.proofs.bp_relation.Goals as goal
 
 pub returns : goal.returns
 unfolding value_of answer_of relation_told
-returns c = let r = c.ask-a.ensures in (c.relation_answer.ensures ∙ ap relation_answer r.result, r.memory)
+returns c = let r = c.ask-a.ensures in record { value = c.relation_answer.ensures ∙ ap relation_answer r.result; work_after = r.memory }

@@ -7,4 +7,4 @@ pub returns : goal.returns
 unfolding solved_told
 returns c =
     let r = c.solve_slices-c.ensures in
-    (c.solved_answer.ensures ∙ ap solved_answer r.counts, r.memory)
+    record { value = c.solved_answer.ensures ∙ ap solved_answer r.counts; solve_leaves = r.memory }

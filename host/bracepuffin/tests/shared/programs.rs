@@ -73,9 +73,9 @@ pub fn prints(source: &Path, name: &str, options: &[&str]) -> String {
     run(&mut emulated(&program))
 }
 
-/// What `typeline` prints for an input. `rt check typeline` makes it; BRACEPUFFIN_TYPELINE names another one.
+/// What `typeline` prints for an input. `tools/run typeline` makes it, and `rt ci` too; BRACEPUFFIN_TYPELINE names another one.
 pub fn typeline(input: &str) -> String {
-    let made = || file("target/bin/typeline");
+    let made = || file("crates/typeline/out/typeline");
     let program = env::var_os("BRACEPUFFIN_TYPELINE").map_or_else(made, PathBuf::from);
     let mut child = emulated(&program)
         .stdin(Stdio::piped())

@@ -6,7 +6,7 @@ use Rattle.replaying.proofs.report.one_more.Goals as goal
 pub returns-then-at-counts : goal.returns-then-at-counts
 returns-then-at-counts c =
     let a = c.args in
-    more-at a.at c.wrapping_add_u64.result a.counts.now c.wrapping_add_u64.ensures
+    more-at a.at c.wrapping_add_u64.result a.counts.now c.wrapping_add_u64.ensures.value
 
 pub returns-else-at-counts : goal.returns-else-at-counts
 returns-else-at-counts c =

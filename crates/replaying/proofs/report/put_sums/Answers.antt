@@ -15,6 +15,6 @@ returns c =
     let put = c.put_names in
     let x = put.ensures.1 in (
       puts-as (names_text (0 ∷ unread.result ∷ agree.result ∷ all.result ∷ []) 0 unread_all) (names_text (sums_of a.counts.now a.n) 0 unread_all) a.at _ a.out.now _
-          (ap (λ (l : List ℕ). names_text l 0 unread_all) (sums-are a.counts.now a.n _ _ cases.result _ unread.ensures agree.ensures cases.ensures all.ensures)) put.ensures.0,
+          (ap (λ (l : List ℕ). names_text l 0 unread_all) (sums-are a.counts.now a.n _ _ cases.result _ unread.ensures agree.ensures cases.ensures all.ensures.value)) put.ensures.0,
       omega arith,
     )

@@ -15,7 +15,7 @@ loop-k-preserved c =
     let h = c.loop-k-test.true in
     let n = get_or a.counts.now (2 * l.k + a.first) 0 in (
       omega arith,
-      c.wrapping_add_u64-s.ensures ∙ ap (λ (x : ℕ). (l.s + x) % 2 ^ 64) c.number_at.ensures ∙ ap (λ (x : ℕ). (x + n) % 2 ^ 64) l.invariant.1 ∙ total-step a.counts.now a.first l.k,
+      c.wrapping_add_u64-s.ensures.value ∙ ap (λ (x : ℕ). (l.s + x) % 2 ^ 64) c.number_at.ensures ∙ ap (λ (x : ℕ). (x + n) % 2 ^ 64) l.invariant.1 ∙ total-step a.counts.now a.first l.k,
     )
 
 pub returns : goal.returns
