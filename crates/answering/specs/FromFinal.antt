@@ -15,7 +15,8 @@ use Rattle.lattice.specs.Lattice.{World}
 use Rattle.joins.specs.Joins.{Fits, AllLegal}
 use Rattle.solving.specs.Solving.{Domain, Fallback, Upper, Lower, Exact, Table, state_of, answers}
 use Rattle.solving.specs.Tidy.{Tidy}
-use Rattle.solving.specs.TableKeys.{keys_of, keys-sorted, tidy-keyed, table-back}
+use Rattle.solving.specs.TableKeys.{keys_of}
+use Rattle.solving.proofs.TableKeys.{keys-sorted, tidy-keyed, table-back}
 use Rattle.copying.specs.Copies.{run_in, words_in, word_in}
 use Rattle.copying.specs.Steps.{paste-front, paste-more}
 use Rattle.resolving.specs.Bounds.{Bounds, state_in}

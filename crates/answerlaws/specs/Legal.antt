@@ -11,9 +11,10 @@ use Rattle.ty.specs.Types.{ArgType, is_concrete, concrete_hint, compare}
 use Rattle.ty.specs.Words.{legal_type}
 use Rattle.lattice.specs.Lattice.{World, Lawful, join_all, most_specific_upper}
 use Rattle.lattice.specs.Legality.{join_all-legal, hint-legal, specific-legal}
-use Rattle.solving.specs.OrderedLaws.{insert-only}
-use Rattle.solving.specs.Chains.{types-only}
-use Rattle.solving.specs.Tidy.{LegalBound, LegalState, produced-legal}
+use Rattle.solving.proofs.OrderedLaws.{insert-only}
+use Rattle.solving.proofs.Chains.{types-only}
+use Rattle.solving.specs.Tidy.{LegalBound}
+use Rattle.solving.proofs.Tidy.{LegalState, produced-legal}
 use Rattle.solving.specs.Solving.{Bound, bound, Table, types_of, TypeState, state_of, produced_type, only_concrete, Cause, Tried, Answer, Because, judged, tried, evidence_fits, upper_candidate, evidence_cast, fallback_join, hint_of, hints_of, only_one, domain_hint, ways, first_answer, resolve_state, Domain, Fallback, Upper, Lower, Exact}
 
 -- ---- what answers is the candidate

@@ -7,8 +7,10 @@ use Rattle.sorted.specs.Sorted.{Sorted, run_of}
 use Rattle.sorted.specs.Places.{run-within}
 use Rattle.sorted.specs.Parts.{part, part-sorted, part-front, entries, run-in-run}
 use Rattle.keys.specs.Rank.{key_type}
-use Rattle.solving.specs.Tidy.{Tidy, part-tidy}
-use Rattle.solving.specs.TableKeys.{key_of, keys_of, tidy-keyed, prefix, types-run}
+use Rattle.solving.specs.Tidy.{Tidy}
+use Rattle.solving.proofs.Tidy.{part-tidy}
+use Rattle.solving.specs.TableKeys.{key_of, keys_of, prefix}
+use Rattle.solving.proofs.TableKeys.{tidy-keyed, types-run}
 use Rattle.solving.specs.Solving.{Domain, Fallback, Upper, Lower, Exact, Table, types_of, state_of}
 use Rattle.copying.specs.Copies.{run_in, uppers_in}
 

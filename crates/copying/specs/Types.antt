@@ -12,10 +12,11 @@ use Rattle.ty.specs.Round.{type-of-word, legal-of-type}
 use Rattle.keys.specs.Rank.{rank, unrank, key, key_type}
 use Rattle.keys.specs.Laws.{rank-lt, key-type}
 use Rattle.solving.specs.Ordered.{Ascending}
-use Rattle.solving.specs.Orders.{types-ascend}
+use Rattle.solving.proofs.Orders.{types-ascend}
 use Rattle.solving.specs.Solving.{Upper, Lower, Exact, Bound, Table, compare_bounds, types_of, evidence}
 use Rattle.solving.specs.Tidy.{Tidy}
-use Rattle.solving.specs.TableKeys.{key_of, keys_of, Keyed, AllKeyed, tidy-keyed, prefix, types-run}
+use Rattle.solving.specs.TableKeys.{key_of, keys_of, Keyed, AllKeyed, prefix}
+use Rattle.solving.proofs.TableKeys.{tidy-keyed, types-run}
 use Rattle.inserting.specs.Store.{Ranked, AllRanked}
 use Rattle.inserting.specs.Laws.{ranked}
 use Rattle.copying.specs.Copies.{run_in, rank_in, word_in, ranks_in, words_in, or_lower, evidence_in, uppers_in}

@@ -12,7 +12,7 @@ use Rattle.tableview.specs.TableRows.{Rows, rows_in, rows_view}
 use Rattle.tableview.specs.RowRefusals.{Pair, listed, row_checks, records_refusal}
 use Rattle.stackview.specs.LayerRows.{shown_in}
 use Rattle.stackview.specs.LayerRefusals.{open_checks, layer_row_refusal, layers_refusal}
-use Rattle.stackview.specs.OneLayer.{rest-opens, plain-rows}
+use Rattle.stackview.proofs.OneLayer.{rest-opens, plain-rows}
 use Rattle.tablecheck.specs.declared.TableCheck.{TableCheck}
 use Rattle.tablecheck.specs.TableCheck.{records_taken, names_refused, name_stopped, names_many, told, rows_check, table_check}
 use Rattle.questionlaws.specs.OneLayer.{Plain}

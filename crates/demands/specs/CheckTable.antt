@@ -12,9 +12,10 @@ use Rattle.rows.specs.Rows.{all_below}
 use Rattle.columns.specs.Given.{Given, given}
 use Rattle.tableview.specs.TableRows.{rows_view, rows_in}
 use Rattle.stackview.specs.LayerRows.{shown_in}
-use Rattle.tableview.specs.Domain.{Aligned, Placed, even-exactly}
-use Rattle.stackview.specs.Domain.{LayersInDomain, stack-exactly, shown-object}
-use Rattle.stackview.specs.Shown.{stack-refused}
+use Rattle.tableview.specs.Domain.{Aligned}
+use Rattle.tableview.proofs.Domain.{Placed, even-exactly}
+use Rattle.stackview.proofs.Domain.{LayersInDomain, stack-exactly, shown-object}
+use Rattle.stackview.proofs.Shown.{stack-refused}
 use Rattle.questions.specs.declared.Question.TheVariants.{Relation, Distance, Supertype, Cast, Join, Assignable}
 use Rattle.questions.specs.Questions.{good_numbers}
 use Rattle.tablecheck.specs.TableCheck.{told, table_check}

@@ -19,8 +19,10 @@ use Rattle.view.specs.Relations.{relation_number-injective}
 use Rattle.columns.specs.Given.{Given}
 use Rattle.tableview.specs.TableRows.{Rows, rows_view}
 use Rattle.stackview.specs.LayerRows.{shown_in}
-use Rattle.tableview.specs.Paths.{NoWay, Shortest, IsObject, Kind, near, top, neither, kind}
-use Rattle.tableview.specs.Answers.{Ancestor, Whole, Lacking, ByFacts, LeastCommon, yes-rows, no-rows, unknown-rows, set-rows, list-rows, lowest-rows, members-sorted, cast-rows, supertype-rows, supertype-right-rows, supertype-left-rows, supertype-nearest-rows}
+use Rattle.tableview.specs.Paths.{NoWay, Shortest, IsObject}
+use Rattle.tableview.proofs.Paths.{Kind, near, top, neither, kind}
+use Rattle.tableview.specs.Answers.{Ancestor, Whole, Lacking, ByFacts, LeastCommon}
+use Rattle.tableview.proofs.Answers.{yes-rows, no-rows, unknown-rows, set-rows, list-rows, lowest-rows, members-sorted, cast-rows, supertype-rows, supertype-right-rows, supertype-left-rows, supertype-nearest-rows}
 use Rattle.questions.specs.declared.Question.TheVariants.{Relation, Distance, Supertype, Cast}
 use Rattle.questions.specs.declared.Ancestors.{Ancestors}
 use Rattle.questions.specs.Questions.{question_refusal, ancestors_refusal, answered, gathered}

@@ -3,7 +3,7 @@ pub mod Examples
 pub mod Refusals
 pub mod Zeros
 pub mod Descriptors
-pub mod Contracts
+pub mod ReaderContracts
 pub mod Parts
 pub mod Numbers
 pub mod Writers

@@ -17,7 +17,7 @@ use Rattle.tableview.specs.TableRows.{rows_view, rows_world}
 use Rattle.stackview.specs.LayerRows.{shown_in}
 use Rattle.questions.specs.Questions.{refusal_of, answered}
 use Rattle.solving.specs.declared.Counts.{Counts}
-use Rattle.solving.specs.Runs.{propagate-stops}
+use Rattle.solving.proofs.Runs.{propagate-stops}
 use Rattle.solving.specs.Solving.{links_of, table_of, Solution, Unsolved, Solved, solve}
 use Rattle.problems.specs.Problems.{Columns, even_problem}
 use Rattle.answering.specs.Answering.{answer_word}

@@ -23,10 +23,12 @@ use Rattle.columns.specs.Given.{Given, even}
 use Rattle.tableview.specs.TableRows.{Rows, rows_view, rows_in}
 use Rattle.stackview.specs.LayerRows.{shown_in}
 use Rattle.stackview.specs.LayerRefusals.{stack_refusal_of}
-use Rattle.tableview.specs.Canonical.{columns_of, rows-back}
-use Rattle.tableview.specs.Domain.{Aligned, Placed, even-exactly, rows-aligned, rows-placed}
-use Rattle.stackview.specs.Domain.{LayersInDomain, stack-exactly, shown-object}
-use Rattle.stackview.specs.Shown.{stack-refused}
+use Rattle.tableview.specs.Canonical.{columns_of}
+use Rattle.tableview.proofs.Canonical.{rows-back}
+use Rattle.tableview.specs.Domain.{Aligned}
+use Rattle.tableview.proofs.Domain.{Placed, even-exactly, rows-aligned, rows-placed}
+use Rattle.stackview.proofs.Domain.{LayersInDomain, stack-exactly, shown-object}
+use Rattle.stackview.proofs.Shown.{stack-refused}
 use Rattle.questions.specs.Questions.{good_numbers, table_checks, refusal_of}
 use Rattle.questions.specs.Laws.{once, are-classes, are-types}
 use Rattle.questionlaws.specs.Accepted.{NumbersIn}

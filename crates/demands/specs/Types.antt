@@ -21,7 +21,8 @@ use Rattle.columns.specs.Given.{Given}
 use Rattle.tableview.specs.TableRows.{Rows, place_of, rows_view, rows_world}
 use Rattle.stackview.specs.LayerRows.{shown_in}
 use Rattle.tableview.specs.Paths.{IsObject}
-use Rattle.tableview.specs.Answers.{Ancestor, Whole, LeastCommon, join-rows-legal, join-rows-above, join-rows-classes, assignable-rows-classes, assignable-rows-array}
+use Rattle.tableview.specs.Answers.{Ancestor, Whole, LeastCommon}
+use Rattle.tableview.proofs.Answers.{join-rows-legal, join-rows-above, join-rows-classes, assignable-rows-classes, assignable-rows-array}
 use Rattle.questions.specs.declared.Question.TheVariants.{Join, Assignable}
 use Rattle.questions.specs.Questions.{question_refusal}
 use Rattle.questionlaws.specs.Accepted.{accepted}

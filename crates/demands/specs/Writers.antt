@@ -52,7 +52,7 @@ use Rattle.bracepuffin.specs.declared.BpWritten.{BpWritten}
 use Rattle.bracepuffin.specs.declared.BpMethod.{BpMethod}
 use Rattle.bracepuffin.specs.Boundary.{type_found, type_answer, Wrote, written_answer, found_answer}
 use Rattle.demands.specs.Descriptors.{method_found, ReadsMethod}
-use Rattle.demands.specs.Contracts.{bp-read-type, bp-read-method}
+use Rattle.demands.specs.ReaderContracts.{bp-read-type, bp-read-method}
 
 -- ---- lookup
 

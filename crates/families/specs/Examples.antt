@@ -1,11 +1,8 @@
 -- Which question reads which view, by computation. 0 has the parent 1, and 1 the parent 2 in the whole table alone; 3 is Object. The search from 0 reads a
 -- table in which 1 has no parents.
-use Rattle.std.specs.Prelude.{◌≡◌, refl, true, false, List, [], ◌∷◌, ℕ, zero, suc, ltb}
-use Rattle.std.proofs.Math.Option.{some, none}
-use Rattle.sets.specs.Sets.{bit, at, member, insert, members, first}
-use Rattle.view.specs.declared.Relation.TheVariants.{Yes}
-use Rattle.view.specs.View.{View, insert_all, with_parents, grow, level, reached, reach, steps, distance, ancestor, all_recorded, complete, relation, cast_by_facts}
-use Rattle.families.specs.Families.{Family, distance_from, ancestor_from, relation_of, cast_of}
+use Rattle.std.specs.Prelude.{false, List, [], ◌∷◌, ℕ, zero, suc, ltb}
+use Rattle.view.specs.View.{View}
+use Rattle.families.specs.Families.{Family}
 
 abbrev up : List ℕ → ℕ → List ℕ
 up above zero = 1 ∷ []
@@ -15,10 +12,5 @@ up above (suc (suc c)) = []
 abbrev with : List ℕ → View
 with above = record { names = 4; object = 3; recorded = λ c. ltb c 3; parents = up above; declared = λ c. false; interface = λ c. false; final = λ c. false }
 
-abbrev partly : Family
+abbrev pub partly : Family
 partly = record { whole = with (2 ∷ []); from = λ x. with [] }
-
--- A YES OF THE WALK COMES THOUGH THE SEARCH HAS NONE, also to a cast; a distance and an ancestor are the search's alone
-pub late-yes : (relation_of partly 0 2 ≡ Yes) × (cast_of partly 2 0 ≡ true) × (ancestor_from partly 0 2 ≡ false) × (distance_from partly 0 2 ≡ none) × (distance_from partly 0 1 ≡ some 1)
-unfolding bit at member insert members first insert_all with_parents grow level reached reach steps distance ancestor all_recorded complete relation cast_by_facts distance_from ancestor_from relation_of cast_of
-late-yes = (refl, refl, refl, refl, refl)

@@ -1,4 +1,3 @@
 -- Tables whose searches need not all read the same view.
 pub mod Families
-pub mod Layers
 pub mod Examples

@@ -18,8 +18,9 @@ use Rattle.tableview.specs.Inner.{state_view, state_world}
 use Rattle.tableview.specs.TableRows.{rows_view, rows_world}
 use Rattle.stackview.specs.LayerRows.{shown_in}
 use Rattle.stackview.specs.LayerRefusals.{stack_refusal_of}
-use Rattle.stackview.specs.Agrees.{stack_in, stack-view, stack-world}
-use Rattle.stackview.specs.Shown.{stack-refused}
+use Rattle.stackview.specs.Agrees.{stack_in}
+use Rattle.stackview.proofs.Agrees.{stack-view, stack-world}
+use Rattle.stackview.proofs.Shown.{stack-refused}
 use Rattle.questions.specs.Questions.{good_numbers, table_checks, refusal_of}
 use Rattle.solving.specs.Solving.{Problem, Solution, Unsolved, Solved, solve}
 use Rattle.problems.specs.Problems.{ProblemRow, Columns, problem_in, problem}

@@ -13,7 +13,7 @@ use Rattle.layers.specs.Stacks.{top_keys, open_refusal}
 use Rattle.layers.specs.StackLaws.{refusal-top}
 use Rattle.solving.specs.Ordered.{insert}
 use Rattle.solving.specs.Solving.{bound, compare_bounds, compare_pairs, Problem, links_of, table_of, Finish, Stopped, Ended, propagate, Solution, Unsolved, Solved, solution, solve}
-use Rattle.solving.specs.Runs.{propagate-stops}
+use Rattle.solving.proofs.Runs.{propagate-stops}
 use Rattle.lattice.specs.Lattice.{World}
 use Rattle.tableview.specs.Inner.{state_world}
 use Rattle.problems.specs.Problems.{ProblemRow, counted, variable, bounded, flow, upper_flow, reading, writing, among, row_checks, row_refusal, problem}

@@ -19,7 +19,8 @@ use Rattle.layers.specs.StackLaws.{upright-ground, upright-row, upright-open}
 use Rattle.solving.specs.Solving.{Problem, Solution, Unsolved, Solved, solve}
 use Rattle.tableview.specs.Inner.{state_world}
 use Rattle.problems.specs.Problems.{ProblemRow, counted, variable, bounded, flow, upper_flow, reading, writing, no_problem, problem_row}
-use Rattle.problems.specs.Held.{Held, Later, held-none, held-row, held-counted}
+use Rattle.problems.specs.Held.{Held, Later}
+use Rattle.problems.proofs.Held.{held-none, held-row, held-counted}
 use Rattle.hexline.specs.Hex.{digit, byte_then, hex_bytes, bad_hex, number_at, numbers_in, bytes_number}
 use Rattle.frames.specs.Frames.{Store, empty_store, shown, kind_of, body_of, bad_kind, good_length, rank_of, bad_order, Question, Message, naming, recording, opening, row, solving, asking, Relating, Supertyping, Casting, message_of, message_refusal, frame_checks, Refused, stepped, with_message, solved_step, answer, accepted, frame_bytes, frame}
 

@@ -21,19 +21,25 @@ use Rattle.layers.specs.StackLaws.{refusal-top}
 use Rattle.layercolumns.specs.LayerColumns.{open_flags, opening_row, stack_rows, stack_table}
 use Rattle.layercolumns.specs.Fold.{StackReading, told, recorded_ran, stack_step, stack_run, run-append, stack_start}
 use Rattle.solving.specs.Solving.{Problem, Solution, Unsolved, Solved, solve}
-use Rattle.solving.specs.Solve.{SameRows, solve-same}
+use Rattle.solving.specs.Solve.{SameRows}
+use Rattle.solving.proofs.Solve.{solve-same}
 use Rattle.tableview.specs.Inner.{state_view, state_world}
 use Rattle.tableview.specs.TableRows.{Record, Rows, rows_view, rows_world}
-use Rattle.tableview.specs.Canonical.{columns_of, named_rows, recorded_rows, table_rows, columns-even}
+use Rattle.tableview.specs.Canonical.{columns_of, named_rows, recorded_rows, table_rows}
+use Rattle.tableview.proofs.Canonical.{columns-even}
 use Rattle.stackview.specs.LayerRows.{shown_table}
-use Rattle.stackview.specs.LayerViews.{none_opens, one-layer}
-use Rattle.stackview.specs.Agrees.{stack_in, stack-view, stack-world}
-use Rattle.stackview.specs.Canonical.{stack-rows, shown-back}
+use Rattle.stackview.specs.LayerViews.{none_opens}
+use Rattle.stackview.proofs.LayerViews.{one-layer}
+use Rattle.stackview.specs.Agrees.{stack_in}
+use Rattle.stackview.proofs.Agrees.{stack-view, stack-world}
+use Rattle.stackview.proofs.Canonical.{stack-rows, shown-back}
 use Rattle.problems.specs.Problems.{ProblemRow, counted, variable, bounded, flow, upper_flow, reading, writing, no_problem, with_row, row_refusal, problem_row, problem}
-use Rattle.problems.specs.Plain.{list_rows, with_rows, same-rows}
+use Rattle.problems.specs.Plain.{list_rows, with_rows}
+use Rattle.problems.proofs.Plain.{same-rows}
 use Rattle.hexline.specs.Hex.{hex_bytes}
 use Rattle.frames.specs.Frames.{Store, empty_store, shown, kind_of, body_of, bad_kind, rank_of, Question, Message, naming, recording, opening, row, solving, asking, Relating, Supertyping, Casting, message_of, message_refusal, frame_checks, Refused, stepped, with_message, solved_step, accepted, frame_bytes, frame}
-use Rattle.problems.specs.Own.{own_columns, own-taken, own-problem}
+use Rattle.problems.specs.Own.{own_columns}
+use Rattle.problems.proofs.Own.{own-taken, own-problem}
 use Rattle.framelaws.specs.Reached.{passed, order-says, after, reached-sound, by-if, last-kind}
 use Rattle.framelaws.specs.Messages.{row_kind, message_kind, row-records}
 

@@ -12,12 +12,14 @@ use Rattle.rows.specs.Keys.{take-filled}
 use Rattle.layers.specs.Layers.{layer_keys}
 use Rattle.tableview.specs.Inner.{state_world}
 use Rattle.solving.specs.Solving.{Pair, Bound, Solution, Unsolved, Solved, solve}
-use Rattle.solving.specs.TableKeys.{key_of, keys_of, bound_of, table-back}
+use Rattle.solving.specs.TableKeys.{key_of, keys_of, bound_of}
+use Rattle.solving.proofs.TableKeys.{table-back}
 use Rattle.solving.specs.LinkKeys.{pair_of}
 use Rattle.problems.specs.Problems.{counted, variable, bounded, flow, upper_flow, reading, writing}
 use Rattle.problems.specs.Held.{Links}
-use Rattle.problems.specs.Stored.{pair_key, held-keyed}
-use Rattle.problems.specs.Kept.{links-back}
+use Rattle.problems.specs.Stored.{pair_key}
+use Rattle.problems.proofs.Stored.{held-keyed}
+use Rattle.problems.proofs.Kept.{links-back}
 use Rattle.hexline.specs.Hex.{hex_bytes, number_at, numbers_in, bytes_number}
 use Rattle.frames.specs.Frames.{Store, shown, kind_of, body_of, good_length, rank_of, Message, naming, recording, opening, row, solving, asking, Relating, Supertyping, Casting, message_of, frame_checks, Refused, Stepped, stepped, with_message, solved_step, accepted, frame_bytes, frame}
 use Rattle.framelaws.specs.Reached.{Sound, passed, sound-frame, by-if}

@@ -16,7 +16,7 @@ use Rattle.solving.specs.Solving.{Problem}
 use Rattle.solving.specs.TableKeys.{bound_of}
 use Rattle.solving.specs.LinkKeys.{pair_of}
 use Rattle.problems.specs.Problems.{ProblemRow, variable, bounded, flow, upper_flow, reading, writing, problem_row, Placed}
-use Rattle.problems.specs.Stored.{keys-back}
+use Rattle.problems.proofs.Stored.{keys-back}
 use Rattle.problems.specs.Kept.{problem_of}
 use Rattle.problemrows.specs.ProblemRows.{Ran, variable_refusal, variable_row, entry_row, pair_row, bound_row}
 use Rattle.problemrows.specs.Kept.{placed, flow-kept, upper-kept, read-kept, write-kept, variable-kept, bound-kept}

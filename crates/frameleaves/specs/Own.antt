@@ -10,7 +10,8 @@ use Rattle.layers.specs.Layers.{layers_room}
 use Rattle.layers.specs.Stacks.{numbers_of as stack_numbers, Holds}
 use Rattle.solving.specs.TableKeys.{keys_of, bound_of}
 use Rattle.solving.specs.LinkKeys.{pair_of}
-use Rattle.problems.specs.Stored.{pair_key, keys-back}
+use Rattle.problems.specs.Stored.{pair_key}
+use Rattle.problems.proofs.Stored.{keys-back}
 use Rattle.frames.specs.Frames as frames
 use Rattle.frames.specs.Frames.{stepped}
 use Rattle.framelaws.specs.Reached.{sound-room}

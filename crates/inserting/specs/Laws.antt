@@ -19,9 +19,12 @@ use Rattle.keys.specs.Laws.{LegalType, rank-lt, unrank-rank, legal-unrank}
 use Rattle.lattice.specs.Legality.{legal-base, legal-depth, legal-both}
 use Rattle.queue.specs.Laws.{offer-shows, room-for}
 use Rattle.solving.specs.Ordered.{present, insert}
-use Rattle.solving.specs.Inserts.{New, all-refused}
-use Rattle.solving.specs.Tidy.{Given, insert-tidy}
-use Rattle.solving.specs.TableKeys.{key_of, Keyed, table_by, tidy-keyed, held-answer, put-holds, Holds}
+use Rattle.solving.specs.Inserts.{New}
+use Rattle.solving.proofs.Inserts.{all-refused}
+use Rattle.solving.specs.Tidy.{Given}
+use Rattle.solving.proofs.Tidy.{insert-tidy}
+use Rattle.solving.specs.TableKeys.{key_of, Keyed, table_by, Holds}
+use Rattle.solving.proofs.TableKeys.{tidy-keyed, held-answer, put-holds}
 use Rattle.solving.specs.Solving.{Bound, bound, Table, compare_bounds, Addition, to_one, Outcome, Refused, Going, room, enqueue, insert_bound, insert_all}
 use Rattle.inserting.specs.Store.{Store, refuse, grow, by_answer, put_bound, put_all, deepest, sent_types, sent_of, Ranked, Sendable, Good, Ready, Shown}
 use Rattle.inserting.specs.declared.Sent.{Sent}

@@ -16,8 +16,10 @@ use Rattle.ty.specs.Words.{legal_at_base}
 use Rattle.keys.specs.Rank.{unrank}
 use Rattle.lattice.specs.Legality.{legal-base}
 use Rattle.solving.specs.Queue.{Below}
-use Rattle.solving.specs.Tidy.{Given, one-by}
-use Rattle.solving.specs.LinkKeys.{pair_of, partners-run}
+use Rattle.solving.specs.Tidy.{Given}
+use Rattle.solving.proofs.Tidy.{one-by}
+use Rattle.solving.specs.LinkKeys.{pair_of}
+use Rattle.solving.proofs.LinkKeys.{partners-run}
 use Rattle.solving.specs.Steps.{array_rule}
 use Rattle.solving.specs.Solving.{Lower, bound, Pair, partners, Addition, to_one, to_each, array_rules}
 use Rattle.inserting.specs.Store.{Store, put_bound, put_all, Ranked, AllRanked, Ready}

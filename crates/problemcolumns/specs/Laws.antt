@@ -15,7 +15,8 @@ use Rattle.rows.specs.Rows.{filled}
 use Rattle.rows.specs.Keys.{take-filled}
 use Rattle.problems.specs.Problems.{ProblemRow, variable, bounded, flow, upper_flow, reading, writing, no_problem, problem_row, problem_rows, Placed, Columns, variable_rows, bound_rows, pair_rows, problem_in, problem}
 use Rattle.problems.specs.Held.{Words}
-use Rattle.problems.specs.Stored.{pair_key, keys-back}
+use Rattle.problems.specs.Stored.{pair_key}
+use Rattle.problems.proofs.Stored.{keys-back}
 use Rattle.problems.specs.Kept.{problem_of, Keeps}
 use Rattle.problemrows.specs.ProblemRows.{Ran, refused, taken, count_refusal, variable_row, variable_refusal, pair_row, bound_row}
 use Rattle.problemrows.specs.Laws.{count-fits}

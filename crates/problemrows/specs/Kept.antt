@@ -15,12 +15,16 @@ use Rattle.ty.specs.Round.{legal-type-more, legal-of-word}
 use Rattle.keys.specs.Rank.{key}
 use Rattle.solving.specs.Ordered.{insert}
 use Rattle.solving.specs.Solving.{Bound, bound, compare_bounds, Pair, compare_pairs, Problem}
-use Rattle.solving.specs.TableKeys.{keys_of, bound_of, Keyed, AllKeyed, table-back}
-use Rattle.solving.specs.LinkKeys.{pair_of, pairs-put}
+use Rattle.solving.specs.TableKeys.{keys_of, bound_of, Keyed, AllKeyed}
+use Rattle.solving.proofs.TableKeys.{table-back}
+use Rattle.solving.specs.LinkKeys.{pair_of}
+use Rattle.solving.proofs.LinkKeys.{pairs-put}
 use Rattle.problems.specs.Problems.{ProblemRow, counted, variable, bounded, flow, upper_flow, reading, writing, no_problem, with_variable, with_row, row_checks, row_refusal, problem_row, Placed}
-use Rattle.problems.specs.Held.{Held, Links, Later, held-row, held-count}
-use Rattle.problems.specs.Stored.{pair-back, keys-back, pair-room, bound-stored, bound-room, held-keyed}
-use Rattle.problems.specs.Kept.{problem_of, Keeps, kept-sorted}
+use Rattle.problems.specs.Held.{Held, Links, Later}
+use Rattle.problems.proofs.Held.{held-row, held-count}
+use Rattle.problems.proofs.Stored.{pair-back, keys-back, pair-room, bound-stored, bound-room, held-keyed}
+use Rattle.problems.specs.Kept.{problem_of, Keeps}
+use Rattle.problems.proofs.Kept.{kept-sorted}
 use Rattle.problemrows.specs.ProblemRows.{Ran, refused, taken, count_refusal, variable_refusal, variable_row, entry_row, pair_row, bound_row}
 
 abbrev pub placed : ℕ → Problem → Placed

@@ -18,7 +18,8 @@ use Rattle.ty.specs.Words.{legal_word, type_of}
 use Rattle.keys.specs.Rank.{key}
 use Rattle.rows.specs.Rows.{filled}
 use Rattle.rows.specs.Keys.{filled-same, take-filled, put-filled}
-use Rattle.problems.specs.Stored.{is_full, put-full}
+use Rattle.problems.specs.Stored.{is_full}
+use Rattle.problems.proofs.Stored.{put-full}
 use Rattle.problemrows.specs.declared.Added.{Added}
 use Rattle.problemrows.specs.ProblemRows.{Ran, refused, taken, count_refusal, variable_refusal, variable_row, entry_row, pair_row, bound_row, Adds}
 

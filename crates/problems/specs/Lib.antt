@@ -1,6 +1,5 @@
 -- Rows and columns of a problem, and what a problem that is taken means.
 pub mod Problems
-pub mod Rooms
 pub mod Held
 pub mod Plain
 pub mod Exact

@@ -10,7 +10,8 @@ use Rattle.lattice.specs.Lattice.{World, Lawful}
 use Rattle.joins.specs.Joins.{Fits}
 use Rattle.solving.specs.Queue.{Below}
 use Rattle.solving.specs.Tidy.{Tidy, Among}
-use Rattle.solving.specs.TableKeys.{Holds, bound_of, tidy-keyed, table-back}
+use Rattle.solving.specs.TableKeys.{Holds, bound_of}
+use Rattle.solving.proofs.TableKeys.{tidy-keyed, table-back}
 use Rattle.solving.specs.Solving.{Table, Links, state_of, additions, Finish, propagate, room}
 use Rattle.inserting.specs.declared.State.{State}
 use Rattle.inserting.specs.Store.{Store, store, put_all}

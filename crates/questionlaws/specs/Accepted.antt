@@ -13,8 +13,9 @@ use Rattle.columns.specs.Given.{Given, even}
 use Rattle.tableview.specs.TableRows.{rows_view, rows_world}
 use Rattle.stackview.specs.LayerRows.{shown_in}
 use Rattle.stackview.specs.LayerRefusals.{stack_refusal_of}
-use Rattle.stackview.specs.Agrees.{stack_in, stack-view, stack-upright}
-use Rattle.stackview.specs.Shown.{stack-refused, object-within}
+use Rattle.stackview.specs.Agrees.{stack_in}
+use Rattle.stackview.proofs.Agrees.{stack-view, stack-upright}
+use Rattle.stackview.proofs.Shown.{stack-refused, object-within}
 use Rattle.questions.specs.declared.Question.{Question}
 use Rattle.questions.specs.declared.Question.TheVariants.{Relation}
 use Rattle.questions.specs.Questions.{of_types, good_numbers, table_checks, refusal_of, question_refusal, ancestors_refusal}

@@ -8,7 +8,7 @@ use Rattle.view.specs.Loops.{subtype_relation}
 use Rattle.columns.specs.Given.{Given}
 use Rattle.tableview.specs.TableRows.{rows_view}
 use Rattle.stackview.specs.LayerRows.{shown_in}
-use Rattle.tableview.specs.Bare.{rows-relation, rows-relation-ends}
+use Rattle.tableview.proofs.Bare.{rows-relation, rows-relation-ends}
 use Rattle.questions.specs.declared.Question.TheVariants.{Relation as Related}
 use Rattle.questions.specs.Questions.{question_refusal}
 use Rattle.questionlaws.specs.Accepted.{accepted}

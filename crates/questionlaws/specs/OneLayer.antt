@@ -9,7 +9,7 @@ use Rattle.layercolumns.specs.LayerColumns.{first_open}
 use Rattle.tableview.specs.TableRows.{Rows, rows_view, rows_world, rows_in}
 use Rattle.tableview.specs.RowRefusals.{table_refusal}
 use Rattle.stackview.specs.LayerRows.{shown_in}
-use Rattle.stackview.specs.OneLayer.{plain-refusal, plain-rows}
+use Rattle.stackview.proofs.OneLayer.{plain-refusal, plain-rows}
 use Rattle.questions.specs.declared.Question.{Question}
 use Rattle.questions.specs.declared.Answer.{Answer}
 use Rattle.questions.specs.declared.Ancestors.{Ancestors}

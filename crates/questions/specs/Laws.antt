@@ -28,8 +28,10 @@ use Rattle.layercolumns.specs.LayerColumns.{stack_table, RoomFor, Shows}
 use Rattle.tableview.specs.TableRows.{rows_view, rows_world}
 use Rattle.stackview.specs.LayerRows.{shown_in}
 use Rattle.stackview.specs.LayerRefusals.{stack_refusal_of}
-use Rattle.stackview.specs.Agrees.{stack_in, stack-view}
-use Rattle.stackview.specs.Shown.{checked_stack, checked-even, checked-uneven, stack-refused, shows-view, shows-world, shows-wide, shows-few, shows-object}
+use Rattle.stackview.specs.Agrees.{stack_in}
+use Rattle.stackview.proofs.Agrees.{stack-view}
+use Rattle.stackview.specs.Shown.{checked_stack}
+use Rattle.stackview.proofs.Shown.{checked-even, checked-uneven, stack-refused, shows-view, shows-world, shows-wide, shows-few, shows-object}
 use Rattle.questions.specs.declared.Question.{Question}
 use Rattle.questions.specs.declared.Question.TheVariants.{Relation, Distance, Supertype, Cast, Join, Assignable}
 use Rattle.questions.specs.declared.Answer.{Answer}

@@ -13,8 +13,9 @@ use Rattle.order.specs.Lists.{elem}
 use Rattle.sets.specs.Sets.{member, insert}
 use Rattle.sets.specs.Laws.{member-empty, member-insert, member-remove, length-insert, length-remove}
 use Rattle.view.specs.View.{numbers}
-use Rattle.solving.specs.Runs.{numbers-length}
-use Rattle.solving.specs.Queue.{NotIn, Distinct, Below, pigeon}
+use Rattle.solving.proofs.Runs.{numbers-length}
+use Rattle.solving.specs.Queue.{NotIn, Distinct, Below}
+use Rattle.solving.proofs.Queue.{pigeon}
 use Rattle.solving.specs.Solving.{enqueue}
 use Rattle.queue.specs.Ring.{line, around, first_set, offered, ring_offered, rested, popped, Shows}
 use Rattle.queue.specs.declared.Queue.{Queue}

@@ -22,7 +22,8 @@ use Rattle.joins.specs.Joins.{Fits, AllLegal}
 use Rattle.candidates.specs.Maybe.{LegalMaybe, maybe_type, AllLegal as AllWords}
 use Rattle.candidates.specs.Steps.{types_from}
 use Rattle.solving.specs.Solving.{produced_type, or_else, only_concrete, element_of, array_element, resolve_state}
-use Rattle.solving.specs.Resolve.{passing, all_produce, produces_all, resolve, resolve-ways}
+use Rattle.solving.specs.Resolve.{passing, all_produce, produces_all, resolve}
+use Rattle.solving.proofs.Resolve.{resolve-ways}
 use Rattle.resolving.specs.Bounds.{state_in, kept_if, fitting, by_upper, by_cast, by_fallback, by_hint, from_fallback, from_cast, from_upper}
 
 -- ---- legal words

@@ -8,10 +8,11 @@ use Rattle.tables.specs.declared.Tables.{Tables}
 use Rattle.lattice.specs.JoinAll.{AscendFrom, Ascend}
 use Rattle.joins.specs.Joins.{Fits, AllLegal}
 use Rattle.solving.specs.Ordered.{After, Ascending}
-use Rattle.solving.specs.Orders.{types-ascend}
+use Rattle.solving.proofs.Orders.{types-ascend}
 use Rattle.solving.specs.Solving.{Domain, Fallback, Upper, Lower, Exact, Table, types_of, state_of}
 use Rattle.solving.specs.Tidy.{Tidy}
-use Rattle.solving.specs.TableKeys.{keys_of, tidy-keyed}
+use Rattle.solving.specs.TableKeys.{keys_of}
+use Rattle.solving.proofs.TableKeys.{tidy-keyed}
 use Rattle.copying.specs.Copies.{run_in, words_in}
 use Rattle.copying.specs.Types.{copied-words, copied-legal, legal-at}
 use Rattle.resolving.specs.Bounds.{state_in, Bounds}

@@ -5,7 +5,8 @@ use mathlib.Core.List.Memᴰ
 use mathlib.Core.List.{List, [], ◌∷◌, ◌++◌, map, Memᴰ}
 use Rattle.ty.specs.Types.{ArgType}
 use Rattle.solving.specs.Queue.{Below}
-use Rattle.solving.specs.Tidy.{Given, each-by, arrays-by, partner-of}
+use Rattle.solving.specs.Tidy.{Given}
+use Rattle.solving.proofs.Tidy.{each-by, arrays-by, partner-of}
 use Rattle.solving.specs.LinkKeys.{pair_of}
 use Rattle.solving.specs.Solving.{Fallback, Upper, Lower, Pair, partners, Addition, to_each, array_rules}
 use Rattle.inserting.specs.declared.Sent.{Sent}

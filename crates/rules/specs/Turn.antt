@@ -5,7 +5,8 @@ use Rattle.std.proofs.Common.{sym, ap, ◌∙◌, subst}
 use mathlib.Core.List.{List, ◌++◌, map}
 use Rattle.keys.specs.Rank.{unrank}
 use Rattle.lattice.specs.Lattice.{World, Lawful}
-use Rattle.solving.specs.Tidy.{Tidy, Among, given-more, additions-given, tidy-state}
+use Rattle.solving.specs.Tidy.{Tidy, Among}
+use Rattle.solving.proofs.Tidy.{given-more, additions-given, tidy-state}
 use Rattle.solving.specs.LinkKeys.{pair_of}
 use Rattle.solving.specs.Solving.{Fallback, Upper, Lower, Exact, Table, TypeState, state_of, produced_type, list_of, array_element, produced_array, Links, partners, Addition, to_each, array_rules, additions, turn}
 use Rattle.inserting.specs.declared.Sent.{Sent}

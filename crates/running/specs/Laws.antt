@@ -9,10 +9,12 @@ use Rattle.lattice.specs.Lattice.{World, Lawful}
 use Rattle.queue.specs.Ring.{Shows}
 use Rattle.queue.specs.Laws.{fill-shows, shown-length, pop-front, pop-shows}
 use Rattle.queue.specs.declared.Popped.{Popped}
-use Rattle.solving.specs.Runs.{turn-room}
-use Rattle.solving.specs.Tidy.{Tidy, Among, tidy-more, front-tidy, turn-tidy}
-use Rattle.solving.specs.TableKeys.{Holds, key_of, keys_of, bound_of, tidy-keyed, table-back}
-use Rattle.solving.specs.Steps.{rest, after, propagate-rest, rest-end, rest-step}
+use Rattle.solving.proofs.Runs.{turn-room}
+use Rattle.solving.specs.Tidy.{Tidy, Among}
+use Rattle.solving.proofs.Tidy.{tidy-more, front-tidy, turn-tidy}
+use Rattle.solving.specs.TableKeys.{Holds, key_of, keys_of, bound_of}
+use Rattle.solving.proofs.TableKeys.{tidy-keyed, table-back}
+use Rattle.solving.proofs.Steps.{rest, after, propagate-rest, rest-end, rest-step}
 use Rattle.solving.specs.Solving.{Table, state_of, Links, additions, Outcome, Refused, Going, room, turn, Finish, Stopped, Ended, propagate}
 use Rattle.inserting.specs.declared.State.{State}
 use Rattle.inserting.specs.Store.{Store, store, put_all, Good, Ready, Shown}

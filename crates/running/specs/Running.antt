@@ -3,7 +3,7 @@ use Rattle.std.specs.Prelude.{◌≡◌, List, [], map, ℕ, suc, ◌<◌, take,
 use Rattle.lattice.specs.Lattice.{World}
 use Rattle.queue.specs.Ring.{line, first_set, rested}
 use Rattle.solving.specs.Solving.{Table, Links, turn, Finish, Stopped, Ended}
-use Rattle.solving.specs.Steps.{rest, after}
+use Rattle.solving.proofs.Steps.{rest, after}
 use Rattle.solving.specs.Tidy.{Tidy}
 use Rattle.solving.specs.TableKeys.{bound_of, Holds}
 use Rattle.inserting.specs.declared.State.{State}

@@ -22,9 +22,9 @@ use Rattle.rows.specs.Rows.{all_below, filled}
 use Rattle.rows.specs.Keys.{take-filled}
 use Rattle.tableview.specs.Inner.{state_view, state_world}
 use Rattle.solving.specs.Solving.{Table, state_of, resolve_state, answers, Solution, Unsolved, Solved, solve}
-use Rattle.solving.specs.Solve.{solve-ended, solve-legal, solve-answers}
+use Rattle.solving.proofs.Solve.{solve-ended, solve-legal, solve-answers}
 use Rattle.answerlaws.specs.Legal.{answer-legal, state-legal}
-use Rattle.problems.specs.Held.{held-checked}
+use Rattle.problems.proofs.Held.{held-checked}
 use Rattle.answering.specs.Answering.{answer_word}
 use Rattle.lineout.specs.Printed.{decimal, word_text, number_text, printed, variable_lines, refusal_line, Puts}
 use Rattle.lineout.specs.Laws.{word-none, word-some, number-none, number-some, puts-as}

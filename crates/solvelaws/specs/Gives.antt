@@ -26,12 +26,12 @@ use Rattle.tableview.specs.TableRows.{rows_world}
 use Rattle.stackview.specs.LayerRows.{shown_in}
 use Rattle.solving.specs.declared.Counts.{Counts}
 use Rattle.solving.specs.Ordered.{Ascending}
-use Rattle.solving.specs.Runs.{propagate-stops}
+use Rattle.solving.proofs.Runs.{propagate-stops}
 use Rattle.solving.specs.Closed.{Closed}
 use Rattle.solving.specs.Tidy.{LegalBound}
 use Rattle.solving.specs.Ways.{Fitting}
 use Rattle.solving.specs.Chains.{Demand}
-use Rattle.solving.specs.Solve.{solve-keeps, solve-ascending, solve-fits, solve-turns, solve-closed, solve-answers, solve-concrete, solve-chain, solve-legal, checked-within}
+use Rattle.solving.proofs.Solve.{solve-keeps, solve-ascending, solve-fits, solve-turns, solve-closed, solve-answers, solve-concrete, solve-chain, solve-legal, checked-within}
 use Rattle.solving.specs.Solving.{Upper, Exact, Bound, bound, Table, compare_bounds, state_of, Finish, Stopped, Ended, propagate, resolve_state, Problem, links_of, table_of, Solution, Unsolved, Solved, solution, solve}
 use Rattle.problems.specs.Problems.{Columns, even_problem}
 use Rattle.problems.specs.Held.{Words}

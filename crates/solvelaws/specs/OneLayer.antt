@@ -7,7 +7,7 @@ use Rattle.checks.specs.Checks.{check, first_refusal}
 use Rattle.columns.specs.Given.{Given, even}
 use Rattle.tableview.specs.TableRows.{rows_view, rows_world, rows_in}
 use Rattle.tableview.specs.RowRefusals.{table_refusal}
-use Rattle.stackview.specs.OneLayer.{plain-refusal, plain-rows}
+use Rattle.stackview.proofs.OneLayer.{plain-refusal, plain-rows}
 use Rattle.solving.specs.Solving.{Solution, Unsolved, solve}
 use Rattle.problems.specs.Problems.{Columns, Placed, even_problem, problem}
 use Rattle.solves.specs.SolveResult.{Lent}

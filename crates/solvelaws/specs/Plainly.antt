@@ -13,16 +13,18 @@ use Rattle.columns.specs.Given.{Given, even}
 use Rattle.tableview.specs.TableRows.{rows_view, rows_world}
 use Rattle.stackview.specs.LayerRows.{shown_in}
 use Rattle.stackview.specs.LayerRefusals.{stack_refusal_of}
-use Rattle.stackview.specs.Shown.{stack-refused}
-use Rattle.tableview.specs.Domain.{even-exactly}
-use Rattle.stackview.specs.Domain.{stack-exactly}
+use Rattle.stackview.proofs.Shown.{stack-refused}
+use Rattle.tableview.proofs.Domain.{even-exactly}
+use Rattle.stackview.proofs.Domain.{stack-exactly}
 use Rattle.questionlaws.specs.Accepted.{good-rows}
 use Rattle.solving.specs.Solving.{Unsolved, solve}
 use Rattle.problems.specs.Problems.{Columns, even_problem}
 use Rattle.solving.specs.Solve.{Checked}
 use Rattle.problems.specs.Held.{Words}
-use Rattle.problems.specs.Plain.{plain_problem, Meant, problem-solves, problem-means}
-use Rattle.problems.specs.Exact.{Allowed, taken-allowed}
+use Rattle.problems.specs.Plain.{plain_problem, Meant}
+use Rattle.problems.proofs.Plain.{problem-solves, problem-means}
+use Rattle.problems.specs.Exact.{Allowed}
+use Rattle.problems.proofs.Exact.{taken-allowed}
 use Rattle.solves.specs.SolveResult.{Lent}
 use Rattle.solvedoor.specs.SolveDoor.{too_short, problem_over, solve_checks, solve_refusal, solve_in}
 

@@ -23,18 +23,20 @@ use Rattle.stackview.specs.LayerRows.{shown_in}
 use Rattle.tableview.specs.RowRefusals.{Pair, listed, different, row_checks as record_checks}
 use Rattle.layercolumns.specs.LayerColumns.{open_flags}
 use Rattle.stackview.specs.LayerRefusals.{open_checks, layer_row_refusal, under_after, pairs_after, layers_refusal, stack_refusal_of}
-use Rattle.tableview.specs.Domain.{Aligned, Placed, even-exactly}
-use Rattle.stackview.specs.Domain.{LayersInDomain, stack-exactly, shown-object}
-use Rattle.stackview.specs.Shown.{stack-refused}
+use Rattle.tableview.specs.Domain.{Aligned}
+use Rattle.tableview.proofs.Domain.{Placed, even-exactly}
+use Rattle.stackview.proofs.Domain.{LayersInDomain, stack-exactly, shown-object}
+use Rattle.stackview.proofs.Shown.{stack-refused}
 use Rattle.ty.specs.Words.{legal_word, type_of}
 use Rattle.solving.specs.declared.Counts.{Counts}
 use Rattle.solving.specs.Ordered.{insert}
-use Rattle.solving.specs.Runs.{propagate-stops}
+use Rattle.solving.proofs.Runs.{propagate-stops}
 use Rattle.solving.specs.Solving.{bound, compare_bounds, compare_pairs, Finish, Stopped, Ended, propagate, Problem, links_of, table_of, Solution, Unsolved, Solved, solution, solve}
 use Rattle.problems.specs.Problems.{ProblemRow, counted, variable, bounded, flow, upper_flow, reading, writing, no_problem, with_row, among, row_checks, row_refusal, problem_row, problem_rows, Columns, even_problem, problem_in, problem}
 use Rattle.problems.specs.Held.{Words}
 use Rattle.problems.specs.Plain.{plain_problem}
-use Rattle.problems.specs.Exact.{Allowed, allowed-taken, taken-allowed}
+use Rattle.problems.specs.Exact.{Allowed}
+use Rattle.problems.proofs.Exact.{allowed-taken, taken-allowed}
 use Rattle.solver.specs.Solver as solver
 use Rattle.solves.specs.SolveResult.{Lent, counts_of, answers_after, components_after, kinds_after, types_after}
 use Rattle.solvedoor.specs.SolveDoor.{too_short, problem_over, solve_checks, solve_refusal, solve_in, solve_work, SolvesIn}

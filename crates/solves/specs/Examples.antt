@@ -5,7 +5,8 @@ use Rattle.std.proofs.Math.Option.{none}
 use Rattle.ty.specs.Words.{word_of}
 use Rattle.lattice.specs.Examples.{world}
 use Rattle.solving.specs.declared.Counts.{Counts}
-use Rattle.solving.specs.Examples.{trusses, paper}
+use Rattle.solving.specs.Examples.{trusses}
+use Rattle.solving.proofs.Examples.{paper}
 use Rattle.solving.specs.Solving.{Solution, Unsolved, Solved, solve}
 use Rattle.solver.specs.Solver.{counted}
 use Rattle.solves.specs.SolveResult.{counts_of, answers_after, components_after, kinds_after, types_after}

@@ -18,16 +18,21 @@ use Rattle.joins.specs.Joins.{Fits}
 use Rattle.order.specs.declared.Order.{Order}
 use Rattle.solving.specs.declared.Counts.{Counts}
 use Rattle.solving.specs.Ordered.{set_of, Ascending}
-use Rattle.solving.specs.OrderedLaws.{Total, set-ascending, set-has, set-only, same-members}
-use Rattle.solving.specs.Orders.{bounds-total, pairs-total}
+use Rattle.solving.specs.OrderedLaws.{Total}
+use Rattle.solving.proofs.OrderedLaws.{set-ascending, set-has, set-only, same-members}
+use Rattle.solving.proofs.Orders.{bounds-total, pairs-total}
 use Rattle.solving.specs.Queue.{Below}
-use Rattle.solving.specs.Runs.{propagate-stops}
-use Rattle.solving.specs.Tidy.{Tidy, Among, propagate-tidy}
-use Rattle.solving.specs.TableKeys.{Holds, key_of, keys_of, bound_of, AllKeyed, bound-back, tidy-keyed}
+use Rattle.solving.proofs.Runs.{propagate-stops}
+use Rattle.solving.specs.Tidy.{Tidy, Among}
+use Rattle.solving.proofs.Tidy.{propagate-tidy}
+use Rattle.solving.specs.TableKeys.{Holds, key_of, keys_of, bound_of, AllKeyed}
+use Rattle.solving.proofs.TableKeys.{bound-back, tidy-keyed}
 use Rattle.solving.specs.LinkKeys.{pair_of}
-use Rattle.solving.specs.Solve.{Checked, checked-among, checked-tidy, answers-length}
+use Rattle.solving.specs.Solve.{Checked}
+use Rattle.solving.proofs.Solve.{checked-among, checked-tidy, answers-length}
 use Rattle.solving.specs.Solving.{Bound, Table, compare_bounds, compare_pairs, Links, links_of, table_of, room, Problem, Finish, Stopped, Ended, propagate, Solution, solution, solve, answers}
-use Rattle.problems.specs.Kept.{problem_of, Keeps, keeps-checked, keeps-flows, kept-below, keeps-few}
+use Rattle.problems.specs.Kept.{problem_of, Keeps}
+use Rattle.problems.proofs.Kept.{keeps-checked, keeps-flows, kept-below, keeps-few}
 use Rattle.rules.specs.Rules.{links_in}
 use Rattle.copying.specs.Steps.{paste-front}
 use Rattle.resolving.specs.Bounds.{Classed, Classes}

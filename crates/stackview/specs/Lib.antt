@@ -3,9 +3,6 @@ pub mod LayerRows
 pub mod Taken
 pub mod LayerViews
 pub mod LayerRefusals
-pub mod Refused
 pub mod Agrees
 pub mod Shown
-pub mod OneLayer
 pub mod Domain
-pub mod Canonical

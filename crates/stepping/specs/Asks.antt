@@ -8,7 +8,7 @@ use Rattle.order.specs.Truth.{both}
 use Rattle.checks.specs.Checks.{first_refusal}
 use Rattle.sorted.specs.Sorted.{Sorted}
 use Rattle.layers.specs.Stacks.{Holds}
-use Rattle.problems.specs.Kept.{keeps-bounds, keeps-flows, keeps-uppers, keeps-reads, keeps-writes}
+use Rattle.problems.proofs.Kept.{keeps-bounds, keeps-flows, keeps-uppers, keeps-reads, keeps-writes}
 use Rattle.frames.specs.Frames.{bad_kind, good_length, bad_order}
 use Rattle.framelaws.specs.Reached.{order-says}
 use Rattle.framestate.specs.declared.Numbers.{Numbers}

@@ -26,12 +26,13 @@ use Rattle.layercolumns.specs.LayerColumns.{placed_row, stack_rows, stack_table,
 use Rattle.layercolumns.specs.Laws.{stack-end, stack-step, stack-stop, holds-lowest}
 use Rattle.tableview.specs.TableRows.{rows_view, names_of}
 use Rattle.tableview.specs.RowRefusals.{Pair}
-use Rattle.tableview.specs.Refused.{Holds, none-held}
+use Rattle.tableview.proofs.Refused.{Holds, none-held}
 use Rattle.stackview.specs.LayerRows.{shown_in}
 use Rattle.stackview.specs.LayerRefusals.{under_after, pairs_after, stack_refusal_of}
-use Rattle.stackview.specs.Refused.{placed-refused, goes-on}
-use Rattle.stackview.specs.Agrees.{stack_in, stack-view}
-use Rattle.stackview.specs.Shown.{stack-refused}
+use Rattle.stackview.proofs.Refused.{placed-refused, goes-on}
+use Rattle.stackview.specs.Agrees.{stack_in}
+use Rattle.stackview.proofs.Agrees.{stack-view}
+use Rattle.stackview.proofs.Shown.{stack-refused}
 use Rattle.tablecheck.specs.declared.Stop.{Stop}
 use Rattle.tablecheck.specs.TableCheck.{names_taken, records_taken, names_refused, name_stopped, names_many, records_refused, record_stopped, told, rows_check, table_check}
 use Rattle.tablecheck.specs.Inside.{placed_taken, stop_of, unrecorded, came_to, Equal, Fresh, Gone}

@@ -9,8 +9,10 @@ use Rattle.ty.specs.Round.{legal-type-more}
 use Rattle.ty.specs.Answers.{maybe_word}
 use Rattle.lattice.specs.Lattice.{World, Lawful, most_specific_upper}
 use Rattle.lattice.specs.Legality.{specific-legal}
-use Rattle.solving.specs.Tidy.{Tidy, produced-legal, tidy-state}
-use Rattle.solving.specs.TableKeys.{keys_of, AllKeyed, tidy-keyed}
+use Rattle.solving.specs.Tidy.{Tidy}
+use Rattle.solving.proofs.Tidy.{produced-legal, tidy-state}
+use Rattle.solving.specs.TableKeys.{keys_of, AllKeyed}
+use Rattle.solving.proofs.TableKeys.{tidy-keyed}
 use Rattle.solving.specs.Solving.{Fallback, Table, TypeState, state_of, produced_type, or_else, array_element, produced_array}
 use Rattle.inserting.specs.Store.{AllRanked, Sendable}
 use Rattle.copying.specs.Copies.{run_in, ranks_in, uppers_in}

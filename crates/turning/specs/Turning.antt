@@ -25,7 +25,8 @@ use Rattle.joins.specs.Joins.{Fits, AllLegal}
 use Rattle.solving.specs.Queue.{Below}
 use Rattle.solving.specs.Ordered.{After, Ascending}
 use Rattle.solving.specs.Tidy.{Tidy}
-use Rattle.solving.specs.TableKeys.{keys_of, bound_of, AllKeyed, tidy-keyed, keys-sorted, table-back}
+use Rattle.solving.specs.TableKeys.{keys_of, bound_of, AllKeyed}
+use Rattle.solving.proofs.TableKeys.{tidy-keyed, keys-sorted, table-back}
 use Rattle.solving.specs.Solving.{Fallback, Upper, Lower, Exact, Table, TypeState, Links, Addition, partners, state_of, types_of, evidence, produced_type, additions, or_else, room}
 use Rattle.copying.specs.Own.{own_in, own-run, own-uppers, own-within, own-is, own_table, own-keys, own-tidy, own-state}
 use Rattle.copying.specs.Copies.{run_in, rank_in, word_in, ranks_in, words_in, evidence_in, uppers_in}
@@ -42,8 +43,9 @@ use Rattle.inserting.specs.declared.Sent.{Sent}
 use Rattle.inserting.specs.declared.Sent.TheVariants.{Nothing as NoType}
 use Rattle.inserting.specs.Store.{Store, store, put_all, AllRanked, Sendable, Good, Ready}
 use Rattle.passing.specs.Steps.{run-inside}
-use Rattle.solving.specs.LinkKeys.{pair_of, partners-own}
-use Rattle.solving.specs.Steps.{additions-by}
+use Rattle.solving.specs.LinkKeys.{pair_of}
+use Rattle.solving.proofs.LinkKeys.{partners-own}
+use Rattle.solving.proofs.Steps.{additions-by}
 use Rattle.rules.specs.Rules.{links_in, all_rules}
 use Rattle.rules.specs.Turn.{Copied, rules-additions}
 use Rattle.keys.specs.Rank.{unrank}

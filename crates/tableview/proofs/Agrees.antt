@@ -37,7 +37,8 @@ use Rattle.columns.specs.Given.{Given, even, no_marks, table}
 use Rattle.columns.specs.GivenLaws.{even-is, good-in}
 use Rattle.tableview.specs.TableRows.{Record, is_recorded, listed_parents, set_of, last_declared, fact_from, any_flags, interface_flag, final_flag, place_of, rows_view, rows_world, names_of, records_of, rows_in}
 use Rattle.tableview.specs.Inner.{state_view, state_world, view_in, world_in}
-use Rattle.tableview.specs.Taken.{After, records-after}
+use Rattle.tableview.specs.Taken.{After}
+use Rattle.tableview.proofs.Taken.{records-after}
 
 -- ---- names
 

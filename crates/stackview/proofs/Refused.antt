@@ -23,11 +23,11 @@ use Rattle.layercolumns.specs.LayerColumns.{open_flags, placed_row, stack_rows, 
 use Rattle.layercolumns.specs.Laws.{row-outside, row-opens, row-records, opening-classed, opening-listed, opening-good}
 use Rattle.tableview.specs.TableRows.{names_of}
 use Rattle.tableview.specs.RowRefusals.{Pair, listed, row_checks}
-use Rattle.tableview.specs.Taken.{elem-below}
-use Rattle.tableview.specs.Agrees.{member-elem}
-use Rattle.tableview.specs.Refused.{Holds, row-holds, row-refused, none-held, names-many}
+use Rattle.tableview.proofs.Taken.{elem-below}
+use Rattle.tableview.proofs.Agrees.{member-elem}
+use Rattle.tableview.proofs.Refused.{Holds, row-holds, row-refused, none-held, names-many}
 use Rattle.stackview.specs.LayerRefusals.{open_checks, layer_row_refusal, under_after, pairs_after, layers_refusal, stack_refusal_of}
-use Rattle.stackview.specs.Taken.{opened-taken, recording, taken-upright}
+use Rattle.stackview.proofs.Taken.{opened-taken, recording, taken-upright}
 
 -- the keys of the topmost layer after a record
 pub top-now : (s : Stack) → Upright s → (flags class : ℕ) (parents : List ℕ) → stack_refusal s flags class parents ≡ 0 → top_keys (stack_row s flags class parents) ≡ put_all class parents (top_keys s)

@@ -6,7 +6,7 @@ use Rattle.order.specs.Truth.{both}
 use Rattle.utf8.specs.Utf8.{well_formed, WellFormed, WellFormed.empty, WellFormed.more}
 use Rattle.utf8.specs.Laws.{well_formed-decides}
 use Rattle.codepoints.specs.CodePoints.{is_scalar, are_scalars, encode_all}
-use Rattle.codepoints.specs.Sequences.{encode-stands, fits-encoded, encode-first, encode-some}
+use Rattle.codepoints.proofs.Sequences.{encode-stands, fits-encoded, encode-first, encode-some}
 
 encoded-sound : (cs : List ℕ) → are_scalars cs ≡ true → WellFormed (encode_all cs)
 unfolding are_scalars encode_all

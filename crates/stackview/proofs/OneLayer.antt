@@ -12,11 +12,12 @@ use Rattle.layercolumns.specs.LayerColumns.{open_flags, first_open, grounded}
 use Rattle.layercolumns.specs.Laws.{table-lowest}
 use Rattle.tableview.specs.TableRows.{Record, records_of, names_of, rows_in}
 use Rattle.tableview.specs.RowRefusals.{table_refusal}
-use Rattle.tableview.specs.Refused.{table-refusal}
+use Rattle.tableview.proofs.Refused.{table-refusal}
 use Rattle.stackview.specs.LayerRows.{shown_in}
-use Rattle.stackview.specs.LayerViews.{none_opens, one-layer}
+use Rattle.stackview.specs.LayerViews.{none_opens}
+use Rattle.stackview.proofs.LayerViews.{one-layer}
 use Rattle.stackview.specs.LayerRefusals.{stack_refusal_of}
-use Rattle.stackview.specs.Refused.{stack-refusal}
+use Rattle.stackview.proofs.Refused.{stack-refusal}
 use Rattle.stackview.specs.Agrees.{stack_in}
 
 -- all rows stand before the first that opens a layer

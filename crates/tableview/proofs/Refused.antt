@@ -22,9 +22,9 @@ use Rattle.columns.specs.Names.{row-adds, names-agree}
 use Rattle.columns.specs.Given.{Given, no_marks, table}
 use Rattle.tableview.specs.TableRows.{set_of, names_of}
 use Rattle.tableview.specs.RowRefusals.{Pair, listed, different, row_checks, records_refusal, table_refusal}
-use Rattle.tableview.specs.Taken.{elem-below, placed-taken}
-use Rattle.tableview.specs.Agrees.{elem-set, set-sorted, member-elem}
-use Rattle.tableview.specs.Domain.{keys_of, Small, elem-listed, set-counted, listed-small, below-members}
+use Rattle.tableview.proofs.Taken.{elem-below, placed-taken}
+use Rattle.tableview.proofs.Agrees.{elem-set, set-sorted, member-elem}
+use Rattle.tableview.proofs.Domain.{keys_of, Small, elem-listed, set-counted, listed-small, below-members}
 
 -- ---- names
 

@@ -3,7 +3,8 @@ use Rattle.std.specs.Prelude.{◌≡◌, refl, Bool, true, false, cond, not, ◌
 use Rattle.std.proofs.Common.{ap, ◌∙◌, arith, lt-ltb, le-ltb, leb-true, leb-false}
 use Rattle.order.specs.declared.Order.{Order}
 use Rattle.solving.specs.Ordered.{present, insert, Ascending}
-use Rattle.solving.specs.OrderedLaws.{Total, insert-length, insert-there, present-exactly}
+use Rattle.solving.specs.OrderedLaws.{Total}
+use Rattle.solving.proofs.OrderedLaws.{insert-length, insert-there, present-exactly}
 
 module _ {A : Type 0} (compare : A → A → Order) (t : Total compare) where
   -- what stands after an entry

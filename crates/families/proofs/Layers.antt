@@ -7,8 +7,10 @@ use Rattle.view.specs.declared.Relation.{Relation}
 use Rattle.view.specs.View.{View, distance, ancestors, relation, cast, supertype}
 use Rattle.tableview.specs.TableRows.{Record, rows_view}
 use Rattle.stackview.specs.LayerRows.{shown_rows}
-use Rattle.stackview.specs.LayerViews.{lowest_layer, layers_above, through, shown-through}
-use Rattle.families.specs.Families.{Family, plain, distance_from, ancestors_from, relation_of, cast_of, supertype_of, plain-distance, plain-ancestors, plain-relation, plain-cast, plain-supertype}
+use Rattle.stackview.specs.LayerViews.{lowest_layer, layers_above, through}
+use Rattle.stackview.proofs.LayerViews.{shown-through}
+use Rattle.families.specs.Families.{Family, plain, distance_from, ancestors_from, relation_of, cast_of, supertype_of}
+use Rattle.families.proofs.Families.{plain-distance, plain-ancestors, plain-relation, plain-cast, plain-supertype}
 
 module _ (names : List (List ℕ)) (records : List Record) where
   -- a lookup through the layers, by hierarchy.rs

@@ -7,7 +7,8 @@ use Rattle.columns.specs.Fold.{Row}
 use Rattle.columns.specs.Given.{no_marks}
 use Rattle.layercolumns.specs.Fold.{told, stack_run, stack_start, stack-fold}
 use Rattle.tableview.specs.TableRows.{Rows}
-use Rattle.tableview.specs.Canonical.{columns_of, table_rows, rows-held, rows-back}
+use Rattle.tableview.specs.Canonical.{columns_of, table_rows}
+use Rattle.tableview.proofs.Canonical.{rows-held, rows-back}
 use Rattle.stackview.specs.LayerRows.{shown_table, shown_in}
 use Rattle.stackview.specs.Agrees.{stack_in}
 

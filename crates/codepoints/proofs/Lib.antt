@@ -1,0 +1,4 @@
+-- Laws of the definitions in specs/.
+pub mod Examples
+pub mod Sequences
+pub mod Theorems

@@ -1,0 +1,3 @@
+-- Laws of the definitions in specs/.
+pub mod Examples
+pub mod Texts
