@@ -26,6 +26,10 @@ pub record Holds (last pairs marks rows answers out : List ℕ) (n : Numbers) (f
   pub all-out : length out ≡ 131072
   pub waits : filled ≤ 49152
 
+-- what is left where output fails: such a state, with nothing in the buffer that is still to be written
+abbrev pub StillHolds : (last pairs marks rows answers out : List ℕ) → Type 0
+StillHolds last pairs marks rows answers out = (n : Numbers) × Holds last pairs marks rows answers out n 0
+
 -- the numbers of one layer without a name or a record
 abbrev pub empty_layers : StackTables
 empty_layers = record {

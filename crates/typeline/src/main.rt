@@ -5,8 +5,8 @@
 mod input;
 mod output;
 
-ghost use Rattle.std.specs.Prelude.{◌≡◌, ◌≤◌, IfOk, length};
-ghost use Rattle.typeline.specs.Held.{Holds, empty_layers, empty_numbers, Empty};
+ghost use Rattle.std.specs.Prelude.{◌≡◌, ◌≤◌, IfOk, length, OnErr};
+ghost use Rattle.typeline.specs.Held.{Holds, StillHolds, empty_layers, empty_numbers, Empty};
 
 use framestate::Numbers;
 use layers::{Layer, StackTables};
@@ -111,7 +111,8 @@ fn whole(
     out: &mut [u8],
 ) -> io::Result<State>
     requires { Holds last.old pairs.old marks.old rows.old answers.old out.old s.numbers s.filled }
-    ensures { IfOk result (λ t. Holds last.new pairs.new marks.new rows.new answers.new out.new t.numbers t.filled × (t.used ≡ 0)) }
+    ensures ok { IfOk result (λ t. Holds last.new pairs.new marks.new rows.new answers.new out.new t.numbers t.filled × (t.used ≡ 0)) }
+    ensures err { OnErr result (StillHolds last.new pairs.new marks.new rows.new answers.new out.new) }
 {
     let number = std::num::wrapping_add_u64(s.lines, 1);
     let numbers = s.numbers;
@@ -144,7 +145,8 @@ fn piece(
     out: &mut [u8],
 ) -> io::Result<State>
     requires { Holds last.old pairs.old marks.old rows.old answers.old out.old s.numbers s.filled × (length line.old ≡ 1025) × (s.used ≤ 1025) }
-    ensures { IfOk result (λ t. Holds last.new pairs.new marks.new rows.new answers.new out.new t.numbers t.filled × (t.used ≤ 1025)) }
+    ensures ok { IfOk result (λ t. Holds last.new pairs.new marks.new rows.new answers.new out.new t.numbers t.filled × (t.used ≤ 1025)) }
+    ensures err { OnErr result (StillHolds last.new pairs.new marks.new rows.new answers.new out.new) }
 {
     let used = input::append(line, s.used, part);
     if is_whole {
@@ -177,7 +179,8 @@ fn feed(
     out: &mut [u8],
 ) -> io::Result<State>
     requires { Holds last.old pairs.old marks.old rows.old answers.old out.old s.numbers s.filled × (length line.old ≡ 1025) × (s.used ≤ 1025) }
-    ensures { IfOk result (λ t. Holds last.new pairs.new marks.new rows.new answers.new out.new t.numbers t.filled × (t.used ≤ 1025)) }
+    ensures ok { IfOk result (λ t. Holds last.new pairs.new marks.new rows.new answers.new out.new t.numbers t.filled × (t.used ≤ 1025)) }
+    ensures err { OnErr result (StillHolds last.new pairs.new marks.new rows.new answers.new out.new) }
 {
     let mut t = s;
     let mut i: usize = 0;
@@ -217,7 +220,8 @@ fn some(
     out: &mut [u8],
 ) -> io::Result<State>
     requires { Holds last.old pairs.old marks.old rows.old answers.old out.old s.numbers s.filled × (length line.old ≡ 1025) × (s.used ≤ 1025) }
-    ensures { IfOk result (λ t. Holds last.new pairs.new marks.new rows.new answers.new out.new t.numbers t.filled × (t.used ≤ 1025)) }
+    ensures ok { IfOk result (λ t. Holds last.new pairs.new marks.new rows.new answers.new out.new t.numbers t.filled × (t.used ≤ 1025)) }
+    ensures err { OnErr result (StillHolds last.new pairs.new marks.new rows.new answers.new out.new) }
 {
     let n = match input.read(chunk) {
         Ok(n) => n,

@@ -10,7 +10,7 @@ pub loop-i-smaller : goal.loop-i-smaller
 loop-i-smaller g c = feed-less (length c.args.chunk.now) c.loop-i.i c.line_end-e.result c.loop-i-test.true c.line_end-e.ensures.0 c.line_end-e.ensures.1
 
 pub loop-i-preserved : goal.loop-i-preserved
-loop-i-preserved g c = let v = c.loop-i.invariant in let h = c.in_ok-t.ensures in record {
+loop-i-preserved g c = let v = c.loop-i.invariant in let h = c.in_ok-t.ensures.ok in record {
   within = feed-more (length c.args.chunk.now) c.line_end-e.result c.line_end-e.ensures.1;
   short = v.short;
   holds = h.0;

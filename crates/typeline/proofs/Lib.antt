@@ -1,0 +1,2 @@
+-- Laws that several functions of the program use.
+pub mod Failed
