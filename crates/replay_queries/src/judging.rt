@@ -1,5 +1,5 @@
 // What is said over a table of eight columns, beside the answers recorded.
-use crate::{asking, cutting};
+use crate::{calling, cutting};
 use bracepuffin::{BpAnswer, BpSet, BpTable};
 use replaying::answers::Verdict;
 use replaying::{answers, parts};
@@ -55,7 +55,7 @@ fn are_said(
     let n = count(place, t);
     let mut i: usize = 0;
     while i < n {
-        let said = asking::ask(question(place, i), t, store, x, other(place, t, y, i), work);
+        let said = calling::ask(question(place, i), t, store, x, other(place, t, y, i), work);
         i += 1;
         if !is_said(said, r, i) {
             return false;
@@ -104,10 +104,10 @@ fn judge(
     work: &mut [u64],
 ) -> Verdict {
     if place == 2 {
-        return is_set(asking::ancestors(t, store, x, work), r);
+        return is_set(calling::ancestors(t, store, x, work), r);
     }
     if place == 5 {
-        return is_check(asking::check(t, store), r);
+        return is_check(calling::check(t, store), r);
     }
     answers::judged(are_said(place, t, store, x, y, r, work))
 }

@@ -5,7 +5,7 @@
 // `t_check` holds the table that it asks about itself.
 #![tactic(auto)]
 
-mod asking;
+mod calling;
 mod cutting;
 mod judging;
 
