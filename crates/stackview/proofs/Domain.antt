@@ -28,8 +28,8 @@ use Rattle.tableview.specs.TableRows.{Record, Rows, rows_view, names_of, records
 use Rattle.tableview.specs.RowRefusals.{different}
 use Rattle.tableview.specs.Canonical.{joined}
 use Rattle.tableview.proofs.Agrees.{names-length}
-use Rattle.tableview.specs.Domain.{GoodName, pairs_of, Aligned, keys_from}
-use Rattle.tableview.proofs.Domain.{GoodRow, Placed, inside-plain, row, record-exactly, from-longer, pairs-counted, names-exactly, object-there}
+use Rattle.tableview.specs.Domain.{GoodName, pairs_of, Aligned, keys_from, GoodRow}
+use Rattle.tableview.proofs.Domain.{Placed, inside-plain, row, record-exactly, from-longer, pairs-counted, names-exactly, object-there}
 use Rattle.stackview.specs.LayerRows.{opens_layer, shown_table, shown_in}
 use Rattle.stackview.specs.LayerViews.{lowest_layer, layers_above}
 use Rattle.stackview.proofs.LayerViews.{open-lowest, open-layers, record-lowest, record-layers}

@@ -2,13 +2,11 @@
 -- in it.
 use Rattle.std.specs.Prelude.{◌≡◌, get_or}
 use Rattle.std.proofs.Math.Bool.{true, false}
-use mathlib.Core.List.Memᴰ
 use mathlib.Core.List.{List, [], Memᴰ}
 use Prim.Native.Nat.{ℕ, ◌+◌, ◌≤◌, ◌<◌}
 use Rattle.std.proofs.Math.ListN.{length}
 use Rattle.tableview.specs.TableRows.{Record, records_of}
-use Rattle.tableview.specs.Domain.{keys_from}
-use Rattle.tableview.proofs.Domain.{GoodRow}
+use Rattle.tableview.specs.Domain.{keys_from, GoodRow}
 use Rattle.stackview.specs.LayerRows.{opens_layer}
 use Rattle.stackview.specs.LayerViews.{lowest_layer, layers_above}
 
