@@ -45,32 +45,7 @@ use Rattle.tableview.specs.Canonical.{joined, places_from, sizes_of, parent_list
 use Rattle.tableview.proofs.Canonical.{columns-even, rows-back}
 use Rattle.tableview.proofs.Paths.{parents-exactly}
 use Rattle.tableview.specs.Domain.{GoodName, Flags, pairs_of, Aligned, key_of, keys_from}
-
--- flags, and a class and at most 254 parents that are numbers of names
-pub record GoodRow (names : ℕ) (r : Record) : Type 0 where
-  pub flags-good : Flags r.flags
-  pub class-in : r.class < names
-  pub parents-in : (p : ℕ) → Memᴰ p r.parents → p < names
-  pub few : length r.parents ≤ 254
-
--- THE LIMITS: at most 1,024 names of 24,576 bytes, each good and above the one before it; rows of them; at most 4,096 different pairs
-pub record InLimits (t : Rows) : Type 0 where
-  pub few-names : length t.names ≤ 1024
-  pub few-bytes : length (joined t.names) ≤ 24576
-  pub names-good : (i : ℕ) → i < length t.names → GoodName (get_or t.names i [])
-  pub rising : (i : ℕ) → suc i < length t.names → compare_lists (get_or t.names i []) (get_or t.names (suc i) []) ≡ Less
-  pub rows-good : (r : Record) → Memᴰ r t.records → GoodRow (length t.names) r
-  pub few-pairs : different (pairs_of t.records) ≤ 4096
-
--- and java/lang/Object among the names
-pub record InDomain (t : Rows) : Type 0 where
-  pub limits : InLimits t
-  pub object-named : Memᴰ object_name t.names
-
--- each name inside the bytes, each list of parents inside the parents
-pub record Placed (g : Given) : Type 0 where
-  pub names-in : (i : ℕ) → i < length g.name_at → get_or g.name_at i 0 + get_or g.name_len i 0 ≤ length g.names
-  pub parents-in : (i : ℕ) → i < length g.rec_flags → get_or g.rec_at i 0 + get_or g.rec_len i 0 ≤ length g.parents
+use Rattle.tableview.specs.Domain.{GoodRow, InLimits, InDomain, Placed}
 
 -- ---- columns
 
