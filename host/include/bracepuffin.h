@@ -22,10 +22,10 @@
  * What a call takes from the stack at most, in KB of 1,024 bytes (tools/stack measures it). Give a thread that much more.
  *
  * stack: begin
- *     bp_read_type             21
- *     bp_read_type_strict      21
- *     bp_read_method           77
- *     bp_read_method_strict    77
+ *     bp_read_type              9
+ *     bp_read_type_strict       9
+ *     bp_read_method           49
+ *     bp_read_method_strict    49
  *     bp_write_type             1
  *     bp_write_method           1
  *     bp_lookup                 1
@@ -35,9 +35,9 @@
  *     bp_ancestors            262
  *     bp_supertype            264
  *     bp_cast                 262
- *     bp_join                 317
+ *     bp_join                 284
  *     bp_assignable           262
- *     bp_solve                675
+ *     bp_solve                641
  * stack: end
  *
  * A type is handed over as a word of 64 bits, see BP_PRIMITIVE, BP_CLASS and BP_ARRAY.

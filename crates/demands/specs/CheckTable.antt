@@ -13,8 +13,10 @@ use Rattle.columns.specs.Given.{Given, given}
 use Rattle.tableview.specs.TableRows.{rows_view, rows_in}
 use Rattle.stackview.specs.LayerRows.{shown_in}
 use Rattle.tableview.specs.Domain.{Aligned}
-use Rattle.tableview.proofs.Domain.{Placed, even-exactly}
-use Rattle.stackview.proofs.Domain.{LayersInDomain, stack-exactly, shown-object}
+use Rattle.tableview.specs.Domain.{Placed}
+use Rattle.tableview.proofs.Domain.{even-exactly}
+use Rattle.stackview.specs.Domain.{LayersInDomain}
+use Rattle.stackview.proofs.Domain.{stack-exactly, shown-object}
 use Rattle.stackview.proofs.Shown.{stack-refused}
 use Rattle.questions.specs.declared.Question.TheVariants.{Relation, Distance, Supertype, Cast, Join, Assignable}
 use Rattle.questions.specs.Questions.{good_numbers}

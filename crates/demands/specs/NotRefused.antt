@@ -26,8 +26,10 @@ use Rattle.stackview.specs.LayerRefusals.{stack_refusal_of}
 use Rattle.tableview.specs.Canonical.{columns_of}
 use Rattle.tableview.proofs.Canonical.{rows-back}
 use Rattle.tableview.specs.Domain.{Aligned}
-use Rattle.tableview.proofs.Domain.{Placed, even-exactly, rows-aligned, rows-placed}
-use Rattle.stackview.proofs.Domain.{LayersInDomain, stack-exactly, shown-object}
+use Rattle.tableview.specs.Domain.{Placed}
+use Rattle.tableview.proofs.Domain.{even-exactly, rows-aligned, rows-placed}
+use Rattle.stackview.specs.Domain.{LayersInDomain}
+use Rattle.stackview.proofs.Domain.{stack-exactly, shown-object}
 use Rattle.stackview.proofs.Shown.{stack-refused}
 use Rattle.questions.specs.Questions.{good_numbers, table_checks, refusal_of}
 use Rattle.questions.specs.Laws.{once, are-classes, are-types}

@@ -24,8 +24,10 @@ use Rattle.tableview.specs.RowRefusals.{Pair, listed, different, row_checks as r
 use Rattle.layercolumns.specs.LayerColumns.{open_flags}
 use Rattle.stackview.specs.LayerRefusals.{open_checks, layer_row_refusal, under_after, pairs_after, layers_refusal, stack_refusal_of}
 use Rattle.tableview.specs.Domain.{Aligned}
-use Rattle.tableview.proofs.Domain.{Placed, even-exactly}
-use Rattle.stackview.proofs.Domain.{LayersInDomain, stack-exactly, shown-object}
+use Rattle.tableview.specs.Domain.{Placed}
+use Rattle.tableview.proofs.Domain.{even-exactly}
+use Rattle.stackview.specs.Domain.{LayersInDomain}
+use Rattle.stackview.proofs.Domain.{stack-exactly, shown-object}
 use Rattle.stackview.proofs.Shown.{stack-refused}
 use Rattle.ty.specs.Words.{legal_word, type_of}
 use Rattle.solving.specs.declared.Counts.{Counts}

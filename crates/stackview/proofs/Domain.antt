@@ -1,6 +1,6 @@
 -- The domain of a table of layers in the words of its rows, and that columns are taken exactly if each row lies inside its slice and the rows are
 -- in it.
-use Rattle.std.specs.Prelude.{◌≡◌, Bool, cond, ◌↔◌, take, drop, get_or}
+use Rattle.std.specs.Prelude.{◌≡◌, Bool, cond, ◌↔◌, take, drop}
 use Rattle.std.proofs.Math.Path.{refl, sym, ap, subst}
 use Rattle.std.proofs.Common.{◌∙◌, true≢false, length-take, length-drop, eqb-true}
 use Rattle.std.proofs.Math.Bool.{true, false}
@@ -12,8 +12,6 @@ use native.Mathlib.Omega.{arith}
 use Rattle.std.proofs.Math.Dec.{eqb}
 use Rattle.std.proofs.Math.ListN.{length}
 use Rattle.std.proofs.lemmas.Bool.{eqb-false, lt-leb}
-use Rattle.order.specs.Compare.{compare_lists}
-use Rattle.order.specs.declared.Order.TheVariants.{Less}
 use Rattle.rows.specs.declared.Outcome.{Outcome}
 use Rattle.rows.specs.Rows.{object_name, no_tables, State, record_refusal, put_all}
 use Rattle.columns.specs.Columns.{name_rows}
@@ -24,12 +22,11 @@ use Rattle.layers.specs.Stacks.{Stack, StackRan, ground, top_keys, stack_refusal
 use Rattle.layers.specs.StackLaws.{upright-ground, refusal-top}
 use Rattle.layercolumns.specs.LayerColumns.{open_flags, placed_row, stack_rows, stack_table}
 use Rattle.layercolumns.specs.Laws.{row-opens, row-records, opening-good}
-use Rattle.tableview.specs.TableRows.{Record, Rows, rows_view, names_of, records_of, rows_in}
-use Rattle.tableview.specs.RowRefusals.{different}
-use Rattle.tableview.specs.Canonical.{joined}
+use Rattle.tableview.specs.TableRows.{Record, rows_view, records_of, rows_in}
 use Rattle.tableview.proofs.Agrees.{names-length}
-use Rattle.tableview.specs.Domain.{GoodName, pairs_of, Aligned, keys_from, GoodRow}
-use Rattle.tableview.proofs.Domain.{Placed, inside-plain, row, record-exactly, from-longer, pairs-counted, names-exactly, object-there}
+use Rattle.tableview.specs.Domain.{Aligned, keys_from}
+use Rattle.tableview.specs.Domain.{GoodRow, Placed}
+use Rattle.tableview.proofs.Domain.{inside-plain, row, record-exactly, from-longer, pairs-counted, names-exactly, object-there}
 use Rattle.stackview.specs.LayerRows.{opens_layer, shown_table, shown_in}
 use Rattle.stackview.specs.LayerViews.{lowest_layer, layers_above}
 use Rattle.stackview.proofs.LayerViews.{open-lowest, open-layers, record-lowest, record-layers}
@@ -37,28 +34,7 @@ use Rattle.stackview.proofs.Taken.{taken-inside, opened-plain, opened-taken, rec
 use Rattle.stackview.proofs.Refused.{top-now, top-none, numbers-kept}
 use Rattle.stackview.specs.Agrees.{stack_in}
 use Rattle.stackview.specs.Domain.{StackFit}
-
--- ---- THE LIMITS: as of a plain table; a row that opens a layer is of class 0 and lists nothing; at most three layers above the lowest; at most 4,096 different
--- pairs a layer
-
-pub record LayersInLimits (t : Rows) : Type 0 where
-  pub few-names : length t.names ≤ 1024
-  pub few-bytes : length (joined t.names) ≤ 24576
-  pub names-good : (i : ℕ) → i < length t.names → GoodName (get_or t.names i [])
-  pub rising : (i : ℕ) → suc i < length t.names → compare_lists (get_or t.names i []) (get_or t.names (suc i) []) ≡ Less
-  pub rows-good : (r : Record) → Memᴰ r t.records → opens_layer r ≡ false → GoodRow (length t.names) r
-  pub opens-bare : (r : Record) → Memᴰ r t.records → opens_layer r ≡ true → (r.class ≡ 0) × (r.parents ≡ [])
-  pub few-layers : length (layers_above t.records) ≤ 3
-  pub few-pairs : (layer : List Record) → Memᴰ layer (lowest_layer t.records ∷ layers_above t.records) → different (pairs_of layer) ≤ 4096
-
--- THE DOMAIN: and java/lang/Object among the names
-pub record LayersInDomain (t : Rows) : Type 0 where
-  pub limits : LayersInLimits t
-  pub object-named : Memᴰ object_name t.names
-
--- the rows that columns hold, those that open a layer among them
-abbrev given_rows : Given → Rows
-given_rows g = record { names = names_of g.names g.name_at g.name_len; records = records_of g.parents g.rec_flags g.rec_class g.rec_at g.rec_len }
+use Rattle.stackview.specs.Domain.{LayersInLimits, given_rows}
 
 -- no parent is listed exactly if the length says so
 none-listed : (parents : List ℕ) (a l : ℕ) → a + l ≤ length parents → (l ≡ 0) ↔ (take l (drop a parents) ≡ [])

@@ -44,12 +44,8 @@ use Rattle.tableview.proofs.Agrees.{names-length, member-elem, elem-set, set-sor
 use Rattle.tableview.specs.Canonical.{joined, places_from, sizes_of, parent_lists, columns_of}
 use Rattle.tableview.proofs.Canonical.{columns-even, rows-back}
 use Rattle.tableview.proofs.Paths.{parents-exactly}
-use Rattle.tableview.specs.Domain.{GoodName, Flags, GoodRow, pairs_of, InLimits, InDomain, Aligned, key_of, keys_from}
-
--- each name inside the bytes, each list of parents inside the parents
-pub record Placed (g : Given) : Type 0 where
-  pub names-in : (i : ℕ) → i < length g.name_at → get_or g.name_at i 0 + get_or g.name_len i 0 ≤ length g.names
-  pub parents-in : (i : ℕ) → i < length g.rec_flags → get_or g.rec_at i 0 + get_or g.rec_len i 0 ≤ length g.parents
+use Rattle.tableview.specs.Domain.{GoodName, Flags, pairs_of, Aligned, key_of, keys_from}
+use Rattle.tableview.specs.Domain.{GoodRow, InLimits, InDomain, Placed}
 
 -- ---- columns
 
