@@ -26,7 +26,7 @@ pub record Holds (last pairs marks rows answers out : List ℕ) (n : Numbers) (f
   pub all-out : length out ≡ 131072
   pub waits : filled ≤ 49152
 
--- what is left where output fails: such a state, with nothing in the buffer that is still to be written
+-- what is left where input or output fails: a state that lines lead to, and its rooms; what waited in the buffer is given up
 abbrev pub StillHolds : (last pairs marks rows answers out : List ℕ) → Type 0
 StillHolds last pairs marks rows answers out = (n : Numbers) × Holds last pairs marks rows answers out n 0
 
