@@ -1,8 +1,7 @@
 -- What the contracts cite: a component's bounds as words and where each kind ends, the table of some keys, and an answer as a number.
-use Rattle.std.specs.Prelude.{◌≡◌, List, [], ◌++◌, map, ℕ, ◌+◌, ◌-◌, ◌^◌, ◌≤◌, length, take, drop, get_or}
+use Rattle.std.specs.Prelude.{◌≡◌, List, [], ◌++◌, map, ℕ, ◌+◌, ◌-◌, ◌^◌, ◌≤◌, length, take, drop, get_or, Some, None}
 use Rattle.std.proofs.Math.Option.{Option, some, none}
-use Rattle.ty.specs.declared.MaybeType.{MaybeType}
-use Rattle.ty.specs.declared.MaybeType.TheVariants.{Is, Nothing}
+use Rattle.ty.specs.Answers.{MaybeType}
 use Rattle.ty.specs.Types.{ArgType}
 use Rattle.ty.specs.Words.{word_of}
 use Rattle.tables.specs.declared.Tables.{Tables}
@@ -70,8 +69,8 @@ pub record Final (names : ℕ) (keys : List ℕ) : Type 0 where
 -- ---- answers as numbers, all ones where there is none
 
 abbrev pub number_in : MaybeType → ℕ
-number_in (Is t) = t.word
-number_in Nothing = 2 ^ 64 - 1
+number_in (Some t) = t.word
+number_in None = 2 ^ 64 - 1
 
 abbrev pub answer_word : Option ArgType → ℕ
 answer_word none = 2 ^ 64 - 1

@@ -16,7 +16,7 @@ use copying::copy_words;
 use keys::COMPONENT;
 use resolving::resolve_state;
 use tables::Tables;
-use ty::MaybeType;
+use ty::TypeWord;
 
 // Where the words of each kind end; each begins where the one before it ends, the domain's at 0.
 #[derive(Clone, Copy)]
@@ -48,7 +48,7 @@ pub fn copy_state(keys: &[u64], component: u64, out: &mut [u64]) -> Parts
 }
 
 // The answer from the words of each kind.
-fn answer_from(pairs: &[u64], marks: &[u64], t: Tables, out: &[u64], p: Parts) -> MaybeType
+fn answer_from(pairs: &[u64], marks: &[u64], t: Tables, out: &[u64], p: Parts) -> Option<TypeWord>
     requires { Classed pairs.now marks.now t × InOrder p out.now × PartsLegal t p out.now }
     ensures { result ≡ maybe_word (resolve_state (world_of pairs.now marks.now t) (parts_state p out.now)) }
 {
@@ -77,7 +77,7 @@ pub fn answer(
     keys: &[u64],
     component: u64,
     out: &mut [u64],
-) -> MaybeType
+) -> Option<TypeWord>
     requires { Classed pairs.now marks.now t × Final t.names keys.now × (component < 512) × (length keys.now ≤ length out.old) }
     ensures { result ≡ maybe_word (resolve_state (world_of pairs.now marks.now t) (state_of (table_in keys.now) component)) }
 {
@@ -89,12 +89,12 @@ pub fn answer(
 }
 
 // An answer's word, all ones where there is none.
-fn word_in(m: MaybeType) -> u64
+fn word_in(m: Option<TypeWord>) -> u64
     ensures { result ≡ number_in m }
 {
     match m {
-        MaybeType::Is(t) => t.word,
-        MaybeType::Nothing => 18446744073709551615,
+        Some(t) => t.word,
+        None => 18446744073709551615,
     }
 }
 

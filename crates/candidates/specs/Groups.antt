@@ -16,7 +16,7 @@ use Rattle.sets.specs.Laws.{member-empty, member-insert, member-remove, member-s
 use Rattle.ty.specs.Types.{ArgType, Object, Array, arrays, compare, is_primitive}
 use Rattle.ty.specs.Words.{Legal, tag_step, dims_of, tag_of, load_of, type_of, base_of}
 use Rattle.ty.specs.Steps.{check-object}
-use Rattle.ty.specs.declared.MaybeType.{MaybeType}
+use Rattle.ty.specs.Answers.{MaybeType}
 use Rattle.view.specs.declared.Relation.TheVariants.{Yes, No, Unknown as Incomplete}
 use Rattle.view.specs.View.{View, reached, reach, ancestor, complete, relation}
 use Rattle.view.specs.Ancestors.{ancestor-self, ancestor-object, reach-ancestor}

@@ -1,10 +1,9 @@
 -- Lists of legal words, and a type that may be missing as a word: there and back.
-use Rattle.std.specs.Prelude.{◌≡◌, refl, Bool, true, false, cond, List, [], ◌∷◌, ℕ, ◌^◌, ◌<◌, eqb, length, get_or}
+use Rattle.std.specs.Prelude.{◌≡◌, refl, Bool, true, false, cond, List, [], ◌∷◌, ℕ, ◌^◌, ◌<◌, eqb, length, get_or, Some, None}
 use Rattle.std.proofs.Common.{sym, ap, ◌∙◌, subst, arith, le-leb, lt-ltb}
 use Rattle.std.proofs.Math.Option.{Option, some, none}
-use Rattle.ty.specs.declared.MaybeType.{MaybeType}
-use Rattle.ty.specs.declared.MaybeType.TheVariants.{Is, Nothing}
-use Rattle.order.specs.declared.Order.TheVariants.{Less, Equal, Greater}
+use Rattle.ty.specs.Answers.{MaybeType}
+use Rattle.std.specs.declared.cmp.Ordering.TheVariants.{Less, Equal, Greater}
 use Rattle.ty.specs.Types.{ArgType, Primitive, Object, Array, Unknown, depth, compare, is_concrete, concrete_hint, hint_of_list}
 use Rattle.ty.specs.Words.{Legal, type_of, legal_type, legal_at_base}
 use Rattle.ty.specs.Distinct.{distinct-first}
@@ -17,13 +16,13 @@ abbrev pub AllLegal : List ℕ → Type 0
 AllLegal ws = (i : ℕ) → i < length ws → Legal (get_or ws i 0)
 
 abbrev pub LegalMaybe : MaybeType → Type 0
-LegalMaybe (Is t) = Legal t.word
-LegalMaybe Nothing = Unit {0}
+LegalMaybe (Some t) = Legal t.word
+LegalMaybe None = Unit {0}
 
 -- the type that a word stands for, if there is one
 abbrev pub maybe_type : MaybeType → Option ArgType
-maybe_type (Is t) = some (type_of t.word)
-maybe_type Nothing = none
+maybe_type (Some t) = some (type_of t.word)
+maybe_type None = none
 
 abbrev pub LegalOption : Option ArgType → Type 0
 LegalOption none = Unit {0}
@@ -41,8 +40,8 @@ maybe-legal (some t) h = legal-of-type 1024 t (omega arith) h
 
 -- a legal word, if there is one, from its type
 pub maybe-word : (m : MaybeType) → LegalMaybe m → m ≡ maybe_word (maybe_type m)
-maybe-word (Is t) h = ap (λ (w : ℕ). Is (word w)) (sym (word-of-type 1024 t.word h))
-maybe-word Nothing h = refl
+maybe-word (Some t) h = ap (λ (w : ℕ). Some (word w)) (sym (word-of-type 1024 t.word h))
+maybe-word None h = refl
 
 -- ---- what is a hint of a legal type is legal
 

@@ -15,10 +15,10 @@ ghost use Rattle.candidates.specs.Maybe.{AllLegal, LegalMaybe, maybe_type};
 ghost use Rattle.candidates.specs.Groups.{head_of, ClassAt, Stands, Grouped, Adds, Takes, BestIs};
 
 use assignable::{is_assignable, not_no, unknown_accepts};
-use order::Order;
+use std::cmp::Ordering;
 use sets::Set;
 use tables::{NAMES, Tables};
-use ty::{MaybeType, TAG, TypeWord};
+use ty::{TAG, TypeWord};
 
 // From how many upper bounds on those of one head are asked at once. One to three are the common case, and cheaper two by two.
 const MANY: usize = 4;
@@ -247,30 +247,30 @@ pub fn is_assignable_to_all(
 }
 
 // The lesser of two types in the order of types.
-fn lesser_of(t: TypeWord, u: TypeWord) -> MaybeType
+fn lesser_of(t: TypeWord, u: TypeWord) -> Option<TypeWord>
     requires { Legal t.word × Legal u.word }
     ensures { LegalMaybe result × (maybe_type result ≡ lesser (type_of t.word) (some (type_of u.word))) }
 {
     match keys::compare_types(t, u) {
-        Order::Less => MaybeType::Is(t),
-        Order::Equal => MaybeType::Is(t),
-        Order::Greater => MaybeType::Is(u),
+        Ordering::Less => Some(t),
+        Ordering::Equal => Some(t),
+        Ordering::Greater => Some(u),
     }
 }
 
 // The lesser of a type and the best so far, if there is one.
-fn lesser(t: TypeWord, best: MaybeType) -> MaybeType
+fn lesser(t: TypeWord, best: Option<TypeWord>) -> Option<TypeWord>
     requires { Legal t.word × LegalMaybe best }
     ensures { LegalMaybe result × (maybe_type result ≡ lesser (type_of t.word) (maybe_type best)) }
 {
     match best {
-        MaybeType::Is(u) => lesser_of(t, u),
-        MaybeType::Nothing => MaybeType::Is(t),
+        Some(u) => lesser_of(t, u),
+        None => Some(t),
     }
 }
 
 // The lesser of a hint and the best so far, where the hint counts.
-fn lesser_if(taken: bool, hint: TypeWord, best: MaybeType) -> MaybeType
+fn lesser_if(taken: bool, hint: TypeWord, best: Option<TypeWord>) -> Option<TypeWord>
     requires { Legal hint.word × LegalMaybe best }
     ensures { LegalMaybe result × (maybe_type result ≡ cond taken (lesser (type_of hint.word) (maybe_type best)) (maybe_type best)) }
 {
@@ -287,8 +287,8 @@ fn with_hint(
     t: Tables,
     upper: &[u64],
     hint: TypeWord,
-    best: MaybeType,
-) -> MaybeType
+    best: Option<TypeWord>,
+) -> Option<TypeWord>
     requires { Prepared pairs.now marks.now t × AllLegal upper.now × Legal hint.word × LegalMaybe best }
     ensures { LegalMaybe result × (maybe_type result ≡ candidate (world_of pairs.now marks.now t) (map type_of upper.now) (some (type_of hint.word)) (maybe_type best)) }
 {
@@ -303,24 +303,24 @@ fn with_bound(
     t: Tables,
     upper: &[u64],
     bound: TypeWord,
-    best: MaybeType,
-) -> MaybeType
+    best: Option<TypeWord>,
+) -> Option<TypeWord>
     requires { Prepared pairs.now marks.now t × (t.object < names_room) × AllLegal upper.now × Legal bound.word × LegalMaybe best }
     ensures { LegalMaybe result × (maybe_type result ≡ candidate (world_of pairs.now marks.now t) (map type_of upper.now) (concrete_hint t.object (type_of bound.word)) (maybe_type best)) }
 {
     let object = t.object;
     match bound.concrete_hint(object) {
-        MaybeType::Is(hint) => with_hint(pairs, marks, t, upper, hint, best),
-        MaybeType::Nothing => best,
+        Some(hint) => with_hint(pairs, marks, t, upper, hint, best),
+        None => best,
     }
 }
 
 // The least hint of an upper bound that is assignable to all of them, from the last bound to the first: every two are compared.
-fn least_of_few(pairs: &[u64], marks: &[u64], t: Tables, upper: &[u64]) -> MaybeType
+fn least_of_few(pairs: &[u64], marks: &[u64], t: Tables, upper: &[u64]) -> Option<TypeWord>
     requires { Prepared pairs.now marks.now t × (t.object < names_room) × AllLegal upper.now }
     ensures { result ≡ maybe_word (most_specific_upper (world_of pairs.now marks.now t) (map type_of upper.now)) }
 {
-    let mut best = MaybeType::Nothing;
+    let mut best = None;
     let mut i = upper.len();
     while 0 < i {
         i -= 1;
@@ -333,7 +333,7 @@ fn least_of_few(pairs: &[u64], marks: &[u64], t: Tables, upper: &[u64]) -> Maybe
 // The best so far among many, and the group of the class that was asked last: in the order of types those of one head are neighbours.
 #[derive(Clone, Copy)]
 struct Best {
-    best: MaybeType,
+    best: Option<TypeWord>,
     group: Group,
 }
 
@@ -413,18 +413,18 @@ fn with_any_bound(
 {
     let object = t.object;
     match bound.concrete_hint(object) {
-        MaybeType::Is(hint) => with_any_hint(pairs, marks, t, upper, hint, b),
-        MaybeType::Nothing => b,
+        Some(hint) => with_any_hint(pairs, marks, t, upper, hint, b),
+        None => b,
     }
 }
 
 // The same as of few; no word has the head 0 and a class.
-fn least_of_many(pairs: &[u64], marks: &[u64], t: Tables, upper: &[u64]) -> MaybeType
+fn least_of_many(pairs: &[u64], marks: &[u64], t: Tables, upper: &[u64]) -> Option<TypeWord>
     requires { Prepared pairs.now marks.now t × (t.object < names_room) × AllLegal upper.now }
     ensures { result ≡ maybe_word (most_specific_upper (world_of pairs.now marks.now t) (map type_of upper.now)) }
 {
     let mut b = Best {
-        best: MaybeType::Nothing,
+        best: None,
         group: Group {
             head: 0,
             rest: true,
@@ -441,7 +441,7 @@ fn least_of_many(pairs: &[u64], marks: &[u64], t: Tables, upper: &[u64]) -> Mayb
 }
 
 // The least hint of an upper bound that is assignable to all of them.
-pub fn most_specific_upper(pairs: &[u64], marks: &[u64], t: Tables, upper: &[u64]) -> MaybeType
+pub fn most_specific_upper(pairs: &[u64], marks: &[u64], t: Tables, upper: &[u64]) -> Option<TypeWord>
     requires { Prepared pairs.now marks.now t × (t.object < names_room) × AllLegal upper.now }
     ensures { result ≡ maybe_word (most_specific_upper (world_of pairs.now marks.now t) (map type_of upper.now)) }
 {

@@ -18,7 +18,7 @@ ghost use Rattle.lattice.specs.JoinAll.{Ascend};
 ghost use Rattle.joins.specs.Joins.{with_first, Fits, Joinable, Apart, Known, Base, both_arrays, AllLegal};
 
 use tables::Tables;
-use ty::{DIMENSION, LENGTH, MaybeType, TAG, TypeWord, digit};
+use ty::{DIMENSION, LENGTH, TAG, TypeWord, digit};
 
 // The tag of an Unknown in its place, and the place of a list's first member.
 const UNKNOWN: u64 = 2 << 48;
@@ -378,12 +378,12 @@ fn join_arrays(pairs: &[u64], marks: &[u64], t: Tables, left: TypeWord, right: T
 
 // The join of a list of types, from the first on; of none there is none. The order matters, and the Rust sorts its list: here a list
 // comes as the set that it is, in order (specs/JoinAll of lattice: then the sort changes nothing).
-pub fn join_all(pairs: &[u64], marks: &[u64], t: Tables, words: &[u64]) -> MaybeType
+pub fn join_all(pairs: &[u64], marks: &[u64], t: Tables, words: &[u64]) -> Option<TypeWord>
     requires { Fits t × AllLegal t words.now × Ascend (map type_of words.now) × Prepared pairs.now marks.now t }
     ensures { result ≡ maybe_word (join_all (world_of pairs.now marks.now t) (map type_of words.now)) }
 {
     if words.len() == 0 {
-        return MaybeType::Nothing;
+        return None;
     }
     let mut all = TypeWord { word: words[0] };
     let mut i: usize = 1;
@@ -391,5 +391,5 @@ pub fn join_all(pairs: &[u64], marks: &[u64], t: Tables, words: &[u64]) -> Maybe
         all = join(pairs, marks, t, all, TypeWord { word: words[i] });
         i += 1;
     }
-    MaybeType::Is(all)
+    Some(all)
 }

@@ -1,8 +1,8 @@
 -- Worked examples of ranks and keys, by computation.
 use Rattle.std.specs.Prelude.{◌≡◌, refl, List, [], ◌∷◌, map, ℕ, replicate}
 use Rattle.order.specs.Compare.{compare_numbers, compare_lists}
-use Rattle.order.specs.declared.Order.{Order}
-use Rattle.order.specs.declared.Order.TheVariants.{Less}
+use Rattle.std.specs.declared.cmp.Ordering.{Ordering}
+use Rattle.std.specs.declared.cmp.Ordering.TheVariants.{Less}
 use Rattle.ty.specs.Types.{ArgType, Primitive, Object, Array, Unknown, Void, Boolean, Int, arrays, compare}
 use Rattle.ty.specs.Words.{pack, unpack}
 use Rattle.keys.specs.Rank.{deeper, digits_of, rank, trim, members_of, known_base, unrank, key, key_component, key_kind, key_type}
@@ -39,7 +39,7 @@ unfolding rank deeper digits_of pack unrank known_base members_of trim unpack ar
 rank-examples = (refl, refl)
 
 -- each compared with the next
-abbrev pub neighbours : {A : Type 0} → (A → A → Order) → List A → List Order
+abbrev pub neighbours : {A : Type 0} → (A → A → Ordering) → List A → List Ordering
 neighbours f [] = []
 neighbours f (x ∷ []) = []
 neighbours f (x ∷ y ∷ ys) = f x y ∷ neighbours f (y ∷ ys)

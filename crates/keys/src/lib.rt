@@ -7,7 +7,7 @@ ghost use Rattle.ty.specs.Words.{Legal, pack, type_of, word_of};
 ghost use Rattle.ty.specs.Round.{list_load};
 ghost use Rattle.keys.specs.Rank.{rank, unrank, members_of, key, key_component, key_kind, key_type};
 
-use order::Order;
+use std::cmp::Ordering;
 use ty::{DIMENSION, LENGTH, TAG, TypeWord, digit};
 
 // The tag of an Unknown, in its place in a word.
@@ -88,19 +88,11 @@ pub fn type_of_rank(r: u64) -> TypeWord
 }
 
 // The order of two types is the order of their ranks.
-pub fn compare_types(a: TypeWord, b: TypeWord) -> Order
+pub fn compare_types(a: TypeWord, b: TypeWord) -> Ordering
     requires { Legal a.word × Legal b.word }
     ensures { result ≡ compare (type_of a.word) (type_of b.word) }
 {
-    let x = rank_of(a);
-    let y = rank_of(b);
-    if x < y {
-        return Order::Less;
-    }
-    if y < x {
-        return Order::Greater;
-    }
-    Order::Equal
+    rank_of(a).cmp(&rank_of(b))
 }
 
 // The key of a bound: a type of one kind on a component.

@@ -10,8 +10,8 @@ use Rattle.std.proofs.Math.Logic.{⊎_elim}
 use Rattle.std.proofs.Math.Option.{Option, some, none}
 use Rattle.order.specs.Compare.{flip}
 use Rattle.order.specs.Laws.{less-not-greater, equal-not-greater}
-use Rattle.order.specs.declared.Order.{Order}
-use Rattle.order.specs.declared.Order.TheVariants.{Less, Equal, Greater}
+use Rattle.std.specs.declared.cmp.Ordering.{Ordering}
+use Rattle.std.specs.declared.cmp.Ordering.TheVariants.{Less, Equal, Greater}
 use Rattle.ty.specs.Types.{ArgType, Primitive, Object, Array, Unknown, compare, is_concrete, hint_of_list, concrete_hint, ObjectCategory, ArrayCategory}
 use Rattle.ty.specs.Order.{compare-same, compare-trans, compare-swap, compare-equal}
 use Rattle.lattice.specs.Lattice.{World, is_assignable, assignable_to_all, lesser, candidate, least_hint, most_specific_upper}
@@ -68,7 +68,7 @@ module _ (object : ℕ) where
 -- ---- the lesser of two
 
 -- the first unless it is the greater
-abbrev picked : ArgType → ArgType → Order → Option ArgType
+abbrev picked : ArgType → ArgType → Ordering → Option ArgType
 picked t v Less = some t
 picked t v Equal = some t
 picked t v Greater = some v
@@ -83,7 +83,7 @@ most-self t h = equal-not-greater (sym (compare-same t) ∙ h)
 lesser-picked : (t v : ArgType) → lesser t (some v) ≡ picked t v (compare t v)
 lesser-picked t v = go (compare t v) refl
   where
-    go : (c : Order) → compare t v ≡ c → lesser t (some v) ≡ picked t v c
+    go : (c : Ordering) → compare t v ≡ c → lesser t (some v) ≡ picked t v c
     go Less e = rw e
     go Equal e = rw e
     go Greater e = rw e
@@ -98,7 +98,7 @@ lesser-is t u none h =
     subst (Lesser t none) (let r : t ≡ u = cc in r) (inl refl, most-self t, λ v q. absurd (none-some v q))
 lesser-is t u (some v) h = go (compare t v) refl (sym (lesser-picked t v) ∙ h)
   where
-    go : (c : Order) → compare t v ≡ c → picked t v c ≡ some u → Lesser t (some v) u
+    go : (c : Ordering) → compare t v ≡ c → picked t v c ≡ some u → Lesser t (some v) u
     go Less e q =
         subst (Lesser t (some v)) (let r : t ≡ u = cc in r)
         (inl refl, most-self t, λ x f k. less-not-greater (sym e ∙ ap (compare t) (let r : v ≡ x = cc in r) ∙ k))
@@ -113,7 +113,7 @@ lesser-some : (t : ArgType) (o : Option ArgType) → lesser t o ≡ none → ⊥
 lesser-some t none h = none-some t (sym h)
 lesser-some t (some v) h = go (compare t v) (sym (lesser-picked t v) ∙ h)
   where
-    go : (c : Order) → picked t v c ≡ none → ⊥
+    go : (c : Ordering) → picked t v c ≡ none → ⊥
     go Less q = none-some t (sym q)
     go Equal q = none-some t (sym q)
     go Greater q = none-some v (sym q)
@@ -121,7 +121,7 @@ lesser-some t (some v) h = go (compare t v) (sym (lesser-picked t v) ∙ h)
 most-trans : (t u v : ArgType) → AtMost t u → AtMost u v → AtMost t v
 most-trans t u v p q = go (compare t u) refl (compare u v) refl
   where
-    go : (a : Order) → compare t u ≡ a → (b : Order) → compare u v ≡ b → AtMost t v
+    go : (a : Ordering) → compare t u ≡ a → (b : Ordering) → compare u v ≡ b → AtMost t v
     go Less e Less f k = less-not-greater (sym (compare-trans t u v e f) ∙ k)
     go Less e Equal f k = p (ap (compare t) (compare-equal u v f) ∙ k)
     go Less e Greater f k = q f

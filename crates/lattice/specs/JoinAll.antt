@@ -5,8 +5,8 @@ use Rattle.std.proofs.Common.{sym, ap, ap₂, ◌∙◌}
 use Rattle.std.proofs.lemmas.Bool.{false≢true}
 use mathlib.Core.List.{List, [], ◌∷◌, Permᴰ}
 use Rattle.std.proofs.Math.Option.{Option}
-use Rattle.order.specs.declared.Order.{Order}
-use Rattle.order.specs.declared.Order.TheVariants.{Less, Equal, Greater}
+use Rattle.std.specs.declared.cmp.Ordering.{Ordering}
+use Rattle.std.specs.declared.cmp.Ordering.TheVariants.{Less, Equal, Greater}
 use Rattle.order.specs.Compare.{is_less, flip}
 use Rattle.ty.specs.Types.{ArgType, compare}
 use Rattle.ty.specs.Order.{compare-equal, compare-swap, compare-trans}
@@ -48,7 +48,7 @@ module _ (t u : ArgType) (us : List ArgType) where
 not-less : (t u : ArgType) → compare t u ≡ Less → is_less (compare u t) ≡ false
 not-less t u h = ap is_less (compare-swap t u ∙ ap flip h)
 
-is-less : (o : Order) → is_less o ≡ true → o ≡ Less
+is-less : (o : Ordering) → is_less o ≡ true → o ≡ Less
 is-less Less e = refl
 is-less Equal e = absurd (false≢true e)
 is-less Greater e = absurd (false≢true e)
@@ -97,7 +97,7 @@ swap-less a b (u ∷ us) h = go (is_less (compare u a)) refl (is_less (compare u
 insert-swap : (a b : ArgType) (l : List ArgType) → insert_type a (insert_type b l) ≡ insert_type b (insert_type a l)
 insert-swap a b l = go (compare a b) refl
   where
-    go : (o : Order) → compare a b ≡ o → insert_type a (insert_type b l) ≡ insert_type b (insert_type a l)
+    go : (o : Ordering) → compare a b ≡ o → insert_type a (insert_type b l) ≡ insert_type b (insert_type a l)
     go Less e = swap-less a b l e
     go Equal e = ap₂ (λ (x y : ArgType). insert_type x (insert_type y l)) (compare-equal a b e) (sym (compare-equal a b e))
     go Greater e = sym (swap-less b a l (compare-swap a b ∙ ap flip e))

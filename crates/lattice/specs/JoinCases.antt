@@ -6,8 +6,8 @@ use Rattle.std.proofs.lemmas.Bool.{false≢true}
 use Rattle.std.proofs.Math.Bool.{or-true}
 use Rattle.order.specs.Compare.{is_equal}
 use Rattle.order.specs.Lists.{elem}
-use Rattle.order.specs.declared.Order.{Order}
-use Rattle.order.specs.declared.Order.TheVariants.{Less, Equal, Greater}
+use Rattle.std.specs.declared.cmp.Ordering.{Ordering}
+use Rattle.std.specs.declared.cmp.Ordering.TheVariants.{Less, Equal, Greater}
 use Rattle.ty.specs.Types.{ArgType, Primitive, Object, Array, Unknown, compare, categories, is_known, is_primitive, is_array}
 use Rattle.ty.specs.Order.{compare-same, compare-equal}
 use Rattle.view.specs.View.{supertype}
@@ -17,13 +17,13 @@ use Rattle.lattice.specs.Lattice.{World, same_type, unknown_accepts, in_either, 
 
 pub join-same : (w : World) (t u : ArgType) → t ≡ u → join w t u ≡ t
 unfolding join same_type
-join-same w t u e = ap (λ (o : Order). cond (is_equal o) t (join_apart w t u)) (ap (compare t) (sym e) ∙ compare-same t)
+join-same w t u e = ap (λ (o : Ordering). cond (is_equal o) t (join_apart w t u)) (ap (compare t) (sym e) ∙ compare-same t)
 
 apart : (t u : ArgType) → (t ≡ u → ⊥) → same_type t u ≡ false
 unfolding same_type
 apart t u n = go (compare t u) refl
   where
-    go : (o : Order) → compare t u ≡ o → is_equal o ≡ false
+    go : (o : Ordering) → compare t u ≡ o → is_equal o ≡ false
     go Less e = refl
     go Equal e = absurd (n (compare-equal t u e))
     go Greater e = refl

@@ -2,8 +2,8 @@
 use Rattle.std.specs.Prelude.{Bool, true, false, cond, not, ◌&&◌, ◌||◌, List, [], ◌∷◌, ℕ, zero, suc, ◌<◌, ◌≡◌, eqb}
 use Rattle.std.proofs.Math.Option.{Option, some, none}
 use Rattle.order.specs.Lists.{elem}
-use Rattle.order.specs.declared.Order.{Order}
-use Rattle.order.specs.declared.Order.TheVariants.{Less, Equal, Greater}
+use Rattle.std.specs.declared.cmp.Ordering.{Ordering}
+use Rattle.std.specs.declared.cmp.Ordering.TheVariants.{Less, Equal, Greater}
 use Rattle.ty.specs.Types.{ArgType, Primitive, Object, Array, Unknown, compare, categories, is_primitive, is_reference, is_wide, concrete_hint, Boolean, Byte, Short, Char, Int, Long, Float, Double, ObjectCategory, ArrayCategory}
 use Rattle.order.specs.Compare.{is_equal}
 use Rattle.ty.specs.Answers.{unknown_type}
@@ -213,7 +213,7 @@ abbrev pub lesser : ArgType → Option ArgType → Option ArgType
 lesser t none = some t
 lesser t (some u) = by (compare t u)
   where
-    by : Order → Option ArgType
+    by : Ordering → Option ArgType
     by Less = some t
     by Equal = some t
     by Greater = some u

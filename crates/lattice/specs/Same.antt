@@ -3,8 +3,8 @@ use Rattle.std.specs.Prelude.{◌≡◌, refl, Bool, true, false, ℕ, eqb}
 use Rattle.std.proofs.Common.{sym, ap, ◌∙◌, true≢false, eqb-true}
 use Rattle.std.proofs.lemmas.Bool.{eqb-false}
 use Rattle.order.specs.Compare.{is_equal}
-use Rattle.order.specs.declared.Order.{Order}
-use Rattle.order.specs.declared.Order.TheVariants.{Less, Equal, Greater}
+use Rattle.std.specs.declared.cmp.Ordering.{Ordering}
+use Rattle.std.specs.declared.cmp.Ordering.TheVariants.{Less, Equal, Greater}
 use Rattle.ty.specs.Types.{ArgType, compare}
 use Rattle.ty.specs.Words.{type_of, word_of, legal_word}
 use Rattle.ty.specs.Order.{compare-same, compare-equal}
@@ -19,7 +19,7 @@ pub same-equal : (t u : ArgType) → same_type t u ≡ true → t ≡ u
 unfolding same_type
 same-equal t u h = compare-equal t u (told (compare t u) h)
   where
-    told : (o : Order) → is_equal o ≡ true → o ≡ Equal
+    told : (o : Ordering) → is_equal o ≡ true → o ≡ Equal
     told Less e = absurd (true≢false (sym e))
     told Equal e = refl
     told Greater e = absurd (true≢false (sym e))

@@ -9,8 +9,8 @@ use lib.ListN.{length, get_or, drop, take-append-drop}
 use lib.Seq.{slice, slice_empty, slice-cons}
 use Rattle.order.specs.Laws.{numbers-same, numbers-by, lists-equal}
 use Rattle.order.specs.Compare.{compare_lists, then, is_equal}
-use Rattle.order.specs.declared.Order.{Order}
-use Rattle.order.specs.declared.Order.TheVariants.{Less, Equal, Greater}
+use Rattle.std.specs.declared.cmp.Ordering.{Ordering}
+use Rattle.std.specs.declared.cmp.Ordering.TheVariants.{Less, Equal, Greater}
 
 -- whether two lists differ
 abbrev pub differ : List ℕ → List ℕ → Bool
@@ -25,7 +25,7 @@ module _ (a b : List ℕ) (i to : ℕ) (h : i < to) (p : to ≤ length a) (q : t
   unfolding compare_lists
   other-first ne =
       rw (slice-cons i to a 0 h p, slice-cons i to b 0 h q)
-      (numbers-by (λ (o : Order). not (is_equal (then o (compare_lists (slice (suc i) to a) (slice (suc i) to b)))) ≡ true) (get_or a i 0) (get_or b i 0)
+      (numbers-by (λ (o : Ordering). not (is_equal (then o (compare_lists (slice (suc i) to a) (slice (suc i) to b)))) ≡ true) (get_or a i 0) (get_or b i 0)
       (λ l. refl) (λ e. absurd (ne e)) (λ g. refl))
 
 pub none-left : (a b : List ℕ) (to : ℕ) → differ (slice to to a) (slice to to b) ≡ false
@@ -34,7 +34,7 @@ none-left a b to = rw (slice_empty to a, slice_empty to b)
 
 -- ---- past a part in which they are the same
 
-equal : (o : Order) → not (is_equal o) ≡ false → o ≡ Equal
+equal : (o : Ordering) → not (is_equal o) ≡ false → o ≡ Equal
 equal Less h = absurd (true≢false h)
 equal Equal h = refl
 equal Greater h = absurd (true≢false h)

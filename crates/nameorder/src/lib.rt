@@ -5,18 +5,18 @@ ghost use Rattle.std.specs.Prelude.{◌≡◌, not, ◌&&◌, ◌+◌, ◌≤◌
 ghost use Rattle.std.proofs.Math.Seq.{slice};
 ghost use Rattle.order.specs.Compare.{compare_numbers, compare_lists, is_less, is_equal};
 
-use order::Order;
+use std::cmp::Ordering;
 
-fn compare_numbers(a: u64, b: u64) -> Order
+fn compare_numbers(a: u64, b: u64) -> Ordering
     ensures { result ≡ compare_numbers a b }
 {
     if a < b {
-        return Order::Less;
+        return Ordering::Less;
     }
     if b < a {
-        return Order::Greater;
+        return Ordering::Greater;
     }
-    Order::Equal
+    Ordering::Equal
 }
 
 fn wide(byte: u8) -> u64
@@ -35,7 +35,7 @@ fn smaller(a: usize, b: usize) -> usize
 }
 
 // How two names stand to each other: byte by byte, a prefix first.
-pub fn compare_names(a: &[u8], b: &[u8]) -> Order
+pub fn compare_names(a: &[u8], b: &[u8]) -> Ordering
     ensures { result ≡ compare_lists a.now b.now }
 {
     let n = smaller(a.len(), b.len());
@@ -90,9 +90,9 @@ fn rest_is_not_above(last: &[u8], name: &[u8], count: u64) -> bool
     }
     let o = compare_names(last, name);
     match o {
-        Order::Less => false,
-        Order::Equal => true,
-        Order::Greater => true,
+        Ordering::Less => false,
+        Ordering::Equal => true,
+        Ordering::Greater => true,
     }
 }
 

@@ -12,7 +12,7 @@ use lib.ListN.{length}
 use borrow.Author.Tests.{ltb-true, ltb-false}
 use Rattle.order.specs.Laws.{less-not-equal, equal-not-greater, lists-same, lists-equal, lists-swap, lists-trans}
 use Rattle.order.specs.Compare.{compare_lists, flip}
-use Rattle.order.specs.declared.Order.TheVariants.{Less, Equal, Greater}
+use Rattle.std.specs.declared.cmp.Ordering.TheVariants.{Less, Equal, Greater}
 use Rattle.names.specs.Names.{name_at, lookup}
 use Rattle.names.specs.Table.{Checked, below}
 use Rattle.names.specs.Lookup.{lookup-none, lookup-is}

@@ -4,8 +4,8 @@ use Rattle.std.proofs.Common.{sym, ap, ◌∙◌, arith}
 use Rattle.std.proofs.Math.Option.{Option, some, none}
 use Rattle.order.specs.Laws.{lists-same, lists-equal}
 use Rattle.order.specs.Compare.{compare_lists, is_equal}
-use Rattle.order.specs.declared.Order.{Order}
-use Rattle.order.specs.declared.Order.TheVariants.{Less, Equal, Greater}
+use Rattle.std.specs.declared.cmp.Ordering.{Ordering}
+use Rattle.std.specs.declared.cmp.Ordering.TheVariants.{Less, Equal, Greater}
 use Rattle.names.specs.declared.LookedUp.{LookedUp}
 use Rattle.names.specs.Names.{name_of, name_at, next, check_names, lookup, found, look_up}
 use Rattle.names.specs.Table.{Checked, number-of-name}
@@ -16,7 +16,7 @@ same-bytes a b e = ap (λ (l : List ℕ). is_equal (compare_lists a l)) (sym e) 
 other-bytes : (a b : List ℕ) → (a ≡ b → ⊥) → is_equal (compare_lists a b) ≡ false
 other-bytes a b ne = go (compare_lists a b) refl
   where
-    go : (o : Order) → compare_lists a b ≡ o → is_equal o ≡ false
+    go : (o : Ordering) → compare_lists a b ≡ o → is_equal o ≡ false
     go Less e = refl
     go Equal e = absurd (ne (lists-equal a b e))
     go Greater e = refl
@@ -62,7 +62,7 @@ lookup-told bytes [] lens key i h = absurd (none-not-some i h)
 lookup-told bytes (at ∷ ats) [] key i h = absurd (none-not-some i h)
 lookup-told bytes (at ∷ ats) (len ∷ lens) key zero h = go (compare_lists (name_of bytes at len) key) refl h
   where
-    go : (o : Order) → compare_lists (name_of bytes at len) key ≡ o → cond (is_equal o) (some 0) (next (lookup bytes ats lens key)) ≡ some 0
+    go : (o : Ordering) → compare_lists (name_of bytes at len) key ≡ o → cond (is_equal o) (some 0) (next (lookup bytes ats lens key)) ≡ some 0
         → (0 < suc (length ats)) × (name_of bytes at len ≡ key)
     go Less e h = absurd (next-not-zero (lookup bytes ats lens key) h)
     go Equal e h = (omega arith, lists-equal (name_of bytes at len) key e)
@@ -70,7 +70,7 @@ lookup-told bytes (at ∷ ats) (len ∷ lens) key zero h = go (compare_lists (na
 lookup-told bytes (at ∷ ats) (len ∷ lens) key (suc i) h =
     let t = lookup-told bytes ats lens key i (go (compare_lists (name_of bytes at len) key) h) in (omega arith, t.1)
   where
-    go : (o : Order) → cond (is_equal o) (some 0) (next (lookup bytes ats lens key)) ≡ some (suc i) → lookup bytes ats lens key ≡ some i
+    go : (o : Ordering) → cond (is_equal o) (some 0) (next (lookup bytes ats lens key)) ≡ some (suc i) → lookup bytes ats lens key ≡ some i
     go Less h = next-suc (lookup bytes ats lens key) i h
     go Equal h = let z : ◌≡◌ {A = ℕ} 0 (suc i) = cc in absurd (omega arith)
     go Greater h = next-suc (lookup bytes ats lens key) i h

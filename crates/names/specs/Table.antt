@@ -6,8 +6,8 @@ use Rattle.std.proofs.lemmas.Bool.{false≢true, lt-leb, not-true, not-false}
 use Rattle.order.specs.Truth.{both}
 use Rattle.order.specs.Laws.{lists-same, lists-swap, lists-trans, numbers-by, equal-numbers}
 use Rattle.order.specs.Compare.{compare_numbers, compare_lists, flip, is_less}
-use Rattle.order.specs.declared.Order.{Order}
-use Rattle.order.specs.declared.Order.TheVariants.{Less, Equal, Greater}
+use Rattle.std.specs.declared.cmp.Ordering.{Ordering}
+use Rattle.std.specs.declared.cmp.Ordering.TheVariants.{Less, Equal, Greater}
 use Rattle.utf8.specs.Utf8.{well_formed}
 use Rattle.checks.specs.Checks.{check, first_refusal, quiet, free, else-zero, first-none}
 use Rattle.names.specs.Names.{place_good, name_of, name_at, name_checks, check_name, check_row, check_rows, check_names}
@@ -58,7 +58,7 @@ module _ (bytes : List ℕ) (at len : ℕ) (last : List ℕ) (count total : ℕ)
   unfolding check_row check_name first_refusal
   row-placed h = rw h
 
-is-less : (o : Order) → is_less o ≡ true → o ≡ Less
+is-less : (o : Ordering) → is_less o ≡ true → o ≡ Less
 is-less Less h = refl
 is-less Equal h = absurd (false≢true h)
 is-less Greater h = absurd (false≢true h)
@@ -292,7 +292,7 @@ module _ (bytes ats lens : List ℕ) (c : Checked bytes ats lens) where
   pub order-of-numbers : (i j : ℕ) → i < length ats → j < length ats
       → compare_lists (name_at bytes ats lens i) (name_at bytes ats lens j) ≡ compare_numbers i j
   order-of-numbers i j h k =
-      numbers-by (λ (o : Order). compare_lists (name_at bytes ats lens i) (name_at bytes ats lens j) ≡ o) i j
+      numbers-by (λ (o : Ordering). compare_lists (name_at bytes ats lens i) (name_at bytes ats lens j) ≡ o) i j
       (λ l. below i j l k)
       (λ e. ap (λ (m : ℕ). compare_lists (name_at bytes ats lens i) (name_at bytes ats lens m)) (sym e) ∙ lists-same (name_at bytes ats lens i))
       (λ l. lists-swap (name_at bytes ats lens j) (name_at bytes ats lens i) ∙ ap flip (below j i l h))

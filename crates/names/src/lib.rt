@@ -6,7 +6,7 @@ ghost use Rattle.order.specs.Compare.{compare_lists};
 ghost use Rattle.names.specs.Names.{place_good, name_of, check_name, check_row, check_names, found, lookup, look_up};
 
 use nameorder::{compare_names, is_not_above};
-use order::Order;
+use std::cmp::Ordering;
 use utf8::is_well_formed;
 
 // Refusals.
@@ -128,7 +128,7 @@ pub fn check_names(names: &[u8], name_at: &[u64], name_len: &[u64]) -> u64
 }
 
 // How the name at a place stands to the key.
-fn compare_at(names: &[u8], at: u64, len: u64, key: &[u8]) -> Order
+fn compare_at(names: &[u8], at: u64, len: u64, key: &[u8]) -> Ordering
     requires { (at ≤ length names.now) × (len ≤ length names.now - at) }
     ensures { result ≡ compare_lists (name_of names.now at len) key.now }
 {
@@ -148,16 +148,16 @@ fn search(names: &[u8], name_at: &[u64], name_len: &[u64], key: &[u8]) -> Looked
         let middle = low + (high - low) / 2;
         let order = compare_at(names, name_at[middle], name_len[middle], key);
         match order {
-            Order::Less => {
+            Ordering::Less => {
                 low = middle + 1;
             }
-            Order::Equal => {
+            Ordering::Equal => {
                 return LookedUp {
                     refusal: 0,
                     class_no: middle as u64,
                 };
             }
-            Order::Greater => {
+            Ordering::Greater => {
                 high = middle;
             }
         }

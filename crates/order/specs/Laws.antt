@@ -2,8 +2,10 @@
 -- transitive.
 use Rattle.std.specs.Prelude.{◌≡◌, refl, Bool, true, false, cond, List, [], ◌∷◌, ◌⊎◌, ℕ, ◌<◌, ltb}
 use Rattle.std.proofs.Common.{sym, ap, ap₂, ◌∙◌, inl, inr, arith, ltb-true, ltb-false, lt-ltb, le-ltb}
-use Rattle.order.specs.declared.Order.{Order}
-use Rattle.order.specs.declared.Order.TheVariants.{Less, Equal, Greater}
+use Rattle.std.specs.declared.cmp.Ordering.{Ordering}
+use Rattle.std.specs.declared.cmp.Ordering.TheVariants.{Less, Equal, Greater}
+use Rattle.std.specs.Ordering.{nat_cmp, MatchOrdering}
+use Rattle.std.specs.Cmp.{ranks}
 use Rattle.order.specs.Compare.{flip, then, compare_numbers, compare_lists, order_number}
 
 -- ---- the three answers
@@ -20,12 +22,12 @@ pub equal-not-greater : Equal ≡ Greater → ⊥
 unfolding order_number
 equal-not-greater e = let z = ap order_number e in omega arith
 
-then-flip : (o p : Order) → then (flip o) (flip p) ≡ flip (then o p)
+then-flip : (o p : Ordering) → then (flip o) (flip p) ≡ flip (then o p)
 then-flip Less p = refl
 then-flip Equal p = refl
 then-flip Greater p = refl
 
-pub then-equal : (o : Order) → then o Equal ≡ o
+pub then-equal : (o : Ordering) → then o Equal ≡ o
 then-equal Less = refl
 then-equal Equal = refl
 then-equal Greater = refl
@@ -44,8 +46,17 @@ pub numbers-same : (a : ℕ) → compare_numbers a a ≡ Equal
 unfolding compare_numbers
 numbers-same a = rw (le-ltb a a (omega arith))
 
+-- what std's `cmp` answers
+pub numbers-cmp : (a b : ℕ) → nat_cmp a b ≡ compare_numbers a b
+numbers-cmp a b = go (nat_cmp a b) (ranks a b)
+  where
+    go : (o : Ordering) → MatchOrdering o (a < b) (a ≡ b) (b < a) → o ≡ compare_numbers a b
+    go Less h = sym (numbers-less a b h)
+    go Equal h = sym (ap (compare_numbers a) (sym h) ∙ numbers-same a)
+    go Greater h = sym (numbers-greater a b h)
+
 -- by cases: what is shown of the three answers where each is right is shown of the answer
-pub numbers-by : (P : Order → Type 0) (a b : ℕ) → (a < b → P Less) → (a ≡ b → P Equal) → (b < a → P Greater) → P (compare_numbers a b)
+pub numbers-by : (P : Ordering → Type 0) (a b : ℕ) → (a < b → P Less) → (a ≡ b → P Equal) → (b < a → P Greater) → P (compare_numbers a b)
 unfolding compare_numbers
 numbers-by P a b less equal greater = go (ltb a b) refl (ltb b a) refl
   where
@@ -57,28 +68,28 @@ numbers-by P a b less equal greater = go (ltb a b) refl (ltb b a) refl
 
 pub less-numbers : (a b : ℕ) → compare_numbers a b ≡ Less → a < b
 less-numbers a b =
-    numbers-by (λ (o : Order). o ≡ Less → a < b) a b
+    numbers-by (λ (o : Ordering). o ≡ Less → a < b) a b
     (λ h e. h)
     (λ h e. absurd (less-not-equal (sym e)))
     (λ h e. absurd (less-not-greater (sym e)))
 
 pub equal-numbers : (a b : ℕ) → compare_numbers a b ≡ Equal → a ≡ b
 equal-numbers a b =
-    numbers-by (λ (o : Order). o ≡ Equal → a ≡ b) a b
+    numbers-by (λ (o : Ordering). o ≡ Equal → a ≡ b) a b
     (λ h e. absurd (less-not-equal e))
     (λ h e. h)
     (λ h e. absurd (equal-not-greater (sym e)))
 
 pub greater-numbers : (a b : ℕ) → compare_numbers a b ≡ Greater → b < a
 greater-numbers a b =
-    numbers-by (λ (o : Order). o ≡ Greater → b < a) a b
+    numbers-by (λ (o : Ordering). o ≡ Greater → b < a) a b
     (λ h e. absurd (less-not-greater e))
     (λ h e. absurd (equal-not-greater e))
     (λ h e. h)
 
 pub numbers-swap : (a b : ℕ) → compare_numbers b a ≡ flip (compare_numbers a b)
 numbers-swap a b =
-    numbers-by (λ (o : Order). compare_numbers b a ≡ flip o) a b
+    numbers-by (λ (o : Ordering). compare_numbers b a ≡ flip o) a b
     (λ h. numbers-greater b a h)
     (λ h. ap (compare_numbers b) h ∙ numbers-same b)
     (λ h. numbers-less b a h)
@@ -91,22 +102,22 @@ numbers-trans a b c p q =
 
 -- ---- one number before the rest
 
-first-less : (a b : ℕ) (o : Order) → a < b → then (compare_numbers a b) o ≡ Less
-first-less a b o h = ap (λ (p : Order). then p o) (numbers-less a b h)
+first-less : (a b : ℕ) (o : Ordering) → a < b → then (compare_numbers a b) o ≡ Less
+first-less a b o h = ap (λ (p : Ordering). then p o) (numbers-less a b h)
 
-first-same : (a b : ℕ) (o : Order) → a ≡ b → then (compare_numbers a b) o ≡ o
-first-same a b o h = ap (λ (p : Order). then p o) (ap (compare_numbers a) (sym h) ∙ numbers-same a)
+first-same : (a b : ℕ) (o : Ordering) → a ≡ b → then (compare_numbers a b) o ≡ o
+first-same a b o h = ap (λ (p : Ordering). then p o) (ap (compare_numbers a) (sym h) ∙ numbers-same a)
 
-less-first : (a b : ℕ) (o : Order) → then (compare_numbers a b) o ≡ Less → (a < b) ⊎ ((a ≡ b) × (o ≡ Less))
+less-first : (a b : ℕ) (o : Ordering) → then (compare_numbers a b) o ≡ Less → (a < b) ⊎ ((a ≡ b) × (o ≡ Less))
 less-first a b o =
-    numbers-by (λ (p : Order). then p o ≡ Less → (a < b) ⊎ ((a ≡ b) × (o ≡ Less))) a b
+    numbers-by (λ (p : Ordering). then p o ≡ Less → (a < b) ⊎ ((a ≡ b) × (o ≡ Less))) a b
     (λ h e. inl h)
     (λ h e. inr (h, e))
     (λ h e. absurd (less-not-greater (sym e)))
 
-equal-first : (a b : ℕ) (o : Order) → then (compare_numbers a b) o ≡ Equal → (a ≡ b) × (o ≡ Equal)
+equal-first : (a b : ℕ) (o : Ordering) → then (compare_numbers a b) o ≡ Equal → (a ≡ b) × (o ≡ Equal)
 equal-first a b o =
-    numbers-by (λ (p : Order). then p o ≡ Equal → (a ≡ b) × (o ≡ Equal)) a b
+    numbers-by (λ (p : Ordering). then p o ≡ Equal → (a ≡ b) × (o ≡ Equal)) a b
     (λ h e. absurd (less-not-equal e))
     (λ h e. (h, e))
     (λ h e. absurd (equal-not-greater (sym e)))

@@ -1,9 +1,7 @@
 -- What stands at an offset, the offset after a byte that is asked for, and whether the bytes end there.
-use Rattle.std.specs.Prelude.{Bool, true, false, List, ℕ, ◌+◌, eqb, ltb, length, get_or}
-use Rattle.parser.specs.declared.Next.{Next}
-use Rattle.parser.specs.declared.Next.TheVariants.{Byte, End}
+use Rattle.std.specs.Prelude.{Bool, true, false, List, ℕ, ◌+◌, eqb, ltb, length, get_or, Option, Some, None}
 
-abbrev pub pick : Bool → Next → Next → Next
+abbrev pub pick : Bool → Option ℕ → Option ℕ → Option ℕ
 pick true a b = a
 pick false a b = b
 
@@ -12,8 +10,8 @@ pick_n true a b = a
 pick_n false a b = b
 
 -- DescriptorParser::peek
-abbrev pub byte_at : List ℕ → ℕ → Next
-byte_at s at = pick (ltb at (length s)) (Byte (get_or s at 0)) End
+abbrev pub byte_at : List ℕ → ℕ → Option ℕ
+byte_at s at = pick (ltb at (length s)) (Some (get_or s at 0)) None
 
 -- DescriptorParser::consume: the offset after the byte b, or the same where another or none stands there
 abbrev pub consume_at : List ℕ → ℕ → ℕ → ℕ

@@ -13,21 +13,15 @@ pub struct DescriptorParser<'a> {
     pub offset: usize,
 }
 
-#[derive(Clone, Copy)]
-pub enum Next {
-    Byte(u8),
-    End,
-}
-
 // ---- the work, on a slice and an offset
 
-fn byte_at(s: &[u8], at: usize) -> Next
+fn byte_at(s: &[u8], at: usize) -> Option<u8>
     ensures { result ≡ byte_at s.now at }
 {
     if at < s.len() {
-        Next::Byte(s[at])
+        Some(s[at])
     } else {
-        Next::End
+        None
     }
 }
 
@@ -78,7 +72,7 @@ pub fn moved<'a>(p: DescriptorParser<'a>, to: usize) -> DescriptorParser<'a>
     }
 }
 
-pub fn peek<'a>(p: DescriptorParser<'a>) -> Next
+pub fn peek<'a>(p: DescriptorParser<'a>) -> Option<u8>
     ensures { result ≡ byte_at p.entry.bytes.now p.entry.offset }
 {
     byte_at(p.bytes, p.offset)

@@ -8,11 +8,11 @@ use mathlib.Core.List.{List, [], ◌∷◌, ◌++◌}
 use Rattle.std.proofs.Math.Dec.{eqb, leb}
 use Rattle.std.proofs.Math.ListN.{length, length-append}
 use borrow.Author.Tests.{lt-ltb, le-ltb, ltb-true, ltb-false, le-leb, leb-true, eqb-true, eqb-false}
-use Rattle.order.specs.declared.Order.{Order}
+use Rattle.std.specs.declared.cmp.Ordering.{Ordering}
 use Rattle.ty.specs.Words.{legal_word, type_of}
 use Rattle.order.specs.Truth.{both}
 use Rattle.checks.specs.Checks.{check, first_refusal}
-use Rattle.order.specs.declared.Order.TheVariants.{Less, Equal, Greater}
+use Rattle.std.specs.declared.cmp.Ordering.TheVariants.{Less, Equal, Greater}
 use Rattle.solving.specs.Ordered.{by_order, insert}
 use Rattle.solving.specs.Solving.{bound, compare_bounds, compare_pairs, Problem}
 use Rattle.problems.specs.Problems.{ProblemRow, counted, variable, bounded, flow, upper_flow, reading, writing, no_problem, with_count, with_row, among, row_checks, row_refusal, problem_row, problem_rows, Columns, variable_rows, bound_rows, pair_rows, problem_in, problem}
@@ -24,12 +24,12 @@ use Rattle.problems.specs.Exact.{InRange, AllInRange, Roomy, NotCount, NoCount, 
 
 -- ---- no row takes an entry away
 
-longer : {A : Type 0} (compare : A → A → Order) (x : A) (l : List A) → length l ≤ length (insert compare x l)
+longer : {A : Type 0} (compare : A → A → Ordering) (x : A) (l : List A) → length l ≤ length (insert compare x l)
 unfolding insert
 longer compare x [] = omega arith
 longer compare x (y ∷ l) = go (compare x y) (longer compare x l)
   where
-    go : (o : Order) → length l ≤ length (insert compare x l) → suc (length l) ≤ length (by_order o (x ∷ y ∷ l) (y ∷ l) (y ∷ insert compare x l))
+    go : (o : Ordering) → length l ≤ length (insert compare x l) → suc (length l) ≤ length (by_order o (x ∷ y ∷ l) (y ∷ l) (y ∷ insert compare x l))
     go Less h = omega arith
     go Equal h = omega arith
     go Greater h = omega arith

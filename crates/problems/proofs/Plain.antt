@@ -7,7 +7,7 @@ use mathlib.Core.List.Memᴰ
 use mathlib.Core.List.{List, [], ◌∷◌, ◌++◌, Memᴰ}
 use Rattle.std.proofs.Math.ListN.{length}
 use Rattle.std.proofs.lemmas.Bool.{eqb-false}
-use Rattle.order.specs.declared.Order.{Order}
+use Rattle.std.specs.declared.cmp.Ordering.{Ordering}
 use Rattle.ty.specs.Words.{type_of}
 use Rattle.lattice.specs.Lattice.{World}
 use Rattle.solving.specs.Ordered.{insert, set_of, Ascending}
@@ -40,7 +40,7 @@ rows-taken names (r ∷ rs) p z = go (eqb (row_refusal names r p) 0) refl z (row
 
 -- ---- the same rows
 
-module _ {A : Type 0} (compare : A → A → Order) (t : Total compare) where
+module _ {A : Type 0} (compare : A → A → Ordering) (t : Total compare) where
   one-more : (x : A) (l m : List A) → SameMembers l m → SameMembers (insert compare x l) (m ++ (x ∷ []))
   one-more x l m s = (
     λ z k. ⊎_elim (λ e. Memᴰ.append_right m (Memᴰ.head e)) (λ n. Memᴰ.append_left (x ∷ []) (s.0 z n)) (insert-only compare x z l k),

@@ -1,12 +1,12 @@
 -- How the room is counted: a new entry past the limit is refused, one that is there never.
 use Rattle.std.specs.Prelude.{◌≡◌, refl, Bool, true, false, cond, not, ◌&&◌, List, ℕ, suc, ◌+◌, ◌≤◌, ltb, leb, length}
 use Rattle.std.proofs.Common.{ap, ◌∙◌, arith, lt-ltb, le-ltb, leb-true, leb-false}
-use Rattle.order.specs.declared.Order.{Order}
+use Rattle.std.specs.declared.cmp.Ordering.{Ordering}
 use Rattle.solving.specs.Ordered.{present, insert, Ascending}
 use Rattle.solving.specs.OrderedLaws.{Total}
 use Rattle.solving.proofs.OrderedLaws.{insert-length, insert-there, present-exactly}
 
-module _ {A : Type 0} (compare : A → A → Order) (t : Total compare) where
+module _ {A : Type 0} (compare : A → A → Ordering) (t : Total compare) where
   -- what stands after an entry
   pub length-after : (x : A) (l : List A) → Ascending compare l → length (insert compare x l) ≡ cond (present compare x l) (length l) (suc (length l))
   length-after x l g = go (present compare x l) refl

@@ -8,7 +8,7 @@ use Rattle.order.specs.Lists.{elem}
 use Rattle.sorted.specs.Sorted.{Above, Sorted, insert_sorted, put, put_answer}
 use Rattle.sorted.specs.Laws.{put-old, put-new}
 use Rattle.sorted.specs.Places.{put-answer}
-use Rattle.order.specs.declared.Order.TheVariants.{Less}
+use Rattle.std.specs.declared.cmp.Ordering.TheVariants.{Less}
 use Rattle.order.specs.Laws.{less-numbers}
 use Rattle.ty.specs.Round.{legal-type-more}
 use Rattle.solving.specs.Ordered.{present, insert, After, Ascending}

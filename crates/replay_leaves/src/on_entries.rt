@@ -3,7 +3,7 @@ ghost use Rattle.std.specs.Prelude.{◌^◌, ◌<◌};
 
 use replaying::answers::Verdict;
 use replaying::{answers, lists, parts};
-use sorted::{Found, Put};
+use sorted::Put;
 
 // The most entries that a case may have room for.
 const ROOM: usize = 64;
@@ -20,8 +20,8 @@ fn copy(entries: &[u64], to: &mut [u64]) {
 fn is_found(entries: &[u64], x: u64, r: &[u64]) -> bool {
     let f = sorted::find(entries, entries.len(), x);
     match f {
-        Found::At(p) => answers::is_same(&[1, p as u64], r),
-        Found::Absent(p) => answers::is_same(&[0, p as u64], r),
+        Ok(p) => answers::is_same(&[1, p as u64], r),
+        Err(p) => answers::is_same(&[0, p as u64], r),
     }
 }
 

@@ -1,10 +1,10 @@
 // The functions on types. A word among the arguments is one over 1,024 names unless their number is given.
 ghost use Rattle.ty.specs.Words.{Legal};
 
-use order::Order;
+use std::cmp::Ordering;
 use replaying::answers::{MISSING, Verdict};
 use replaying::{answers, lists, parts};
-use ty::{Arrayed, Decoded, MaybeType, TypeWord};
+use ty::TypeWord;
 
 // Whether a type comes back from its rank.
 fn returns(t: TypeWord) -> bool
@@ -14,11 +14,11 @@ fn returns(t: TypeWord) -> bool
     back.word == t.word
 }
 
-fn order_number(o: Order) -> u64 {
+fn order_number(o: Ordering) -> u64 {
     match o {
-        Order::Less => 0,
-        Order::Equal => 1,
-        Order::Greater => 2,
+        Ordering::Less => 0,
+        Ordering::Equal => 1,
+        Ordering::Greater => 2,
     }
 }
 
@@ -34,10 +34,10 @@ fn order_of(x: TypeWord, y: TypeWord) -> u64
 
 // The same of two words; 3 also where one is no type.
 fn order_of_words(x: u64, y: u64) -> u64 {
-    let Decoded::Good(s) = ty::decode(x, 1024) else {
+    let Ok(s) = ty::decode(x, 1024) else {
         return 3;
     };
-    let Decoded::Good(t) = ty::decode(y, 1024) else {
+    let Ok(t) = ty::decode(y, 1024) else {
         return 3;
     };
     order_of(s, t)
@@ -98,8 +98,8 @@ pub(crate) fn pairs(a: &[u64], r: &[u64]) -> Verdict {
 fn is_legal(names: u64, w: u64) -> u64 {
     let d = ty::decode(w, names);
     match d {
-        Decoded::Good(_) => 1,
-        Decoded::Refused(_) => 0,
+        Ok(_) => 1,
+        Err(_) => 0,
     }
 }
 
@@ -138,17 +138,17 @@ pub(crate) fn edits(a: &[u64], r: &[u64]) -> Verdict {
     answers::all(&said, r)
 }
 
-fn maybe(t: MaybeType) -> u64 {
+fn maybe(t: Option<TypeWord>) -> u64 {
     match t {
-        MaybeType::Is(x) => x.word,
-        MaybeType::Nothing => MISSING,
+        Some(x) => x.word,
+        None => MISSING,
     }
 }
 
-fn arrayed(t: Arrayed) -> u64 {
+fn arrayed(t: Option<TypeWord>) -> u64 {
     match t {
-        Arrayed::Of(x) => x.word,
-        Arrayed::Deep => MISSING,
+        Some(x) => x.word,
+        None => MISSING,
     }
 }
 
@@ -170,7 +170,7 @@ pub(crate) fn word(a: &[u64], r: &[u64]) -> Verdict {
     if a.len() != 1 {
         return Verdict::Unread;
     }
-    let Decoded::Good(t) = ty::decode(parts::number_at(a, 0), 1024) else {
+    let Ok(t) = ty::decode(parts::number_at(a, 0), 1024) else {
         return Verdict::Unread;
     };
     answers::all(&said_of(t), r)
@@ -181,7 +181,7 @@ pub(crate) fn hint(a: &[u64], r: &[u64]) -> Verdict {
     if a.len() != 2 || 1024 <= x {
         return Verdict::Unread;
     }
-    let Decoded::Good(t) = ty::decode(parts::number_at(a, 1), 1024) else {
+    let Ok(t) = ty::decode(parts::number_at(a, 1), 1024) else {
         return Verdict::Unread;
     };
     answers::one(maybe(t.concrete_hint(x)), r)

@@ -1,9 +1,8 @@
 -- What the contracts cite: a component's state from words, which words are asked for, and the ways as the code has them.
-use Rattle.std.specs.Prelude.{◌≡◌, Bool, false, cond, not, ◌&&◌, List, map, ℕ, eqb, length}
+use Rattle.std.specs.Prelude.{◌≡◌, Bool, false, cond, not, ◌&&◌, List, map, ℕ, eqb, length, Some, None}
 use Rattle.std.proofs.Math.Option.{Option}
 use Rattle.ty.specs.declared.TypeWord.{TypeWord}
-use Rattle.ty.specs.declared.MaybeType.{MaybeType}
-use Rattle.ty.specs.declared.MaybeType.TheVariants.{Is, Nothing}
+use Rattle.ty.specs.Answers.{MaybeType}
 use Rattle.ty.specs.Types.{ArgType}
 use Rattle.ty.specs.Words.{type_of}
 use Rattle.tables.specs.declared.Tables.{Tables}
@@ -43,19 +42,19 @@ Bounds t words = AllLegal t words × Ascend (map type_of words)
 
 -- a candidate, if it passes
 abbrev pub kept_if : Bool → TypeWord → MaybeType
-kept_if passes t = cond passes (Is t) Nothing
+kept_if passes t = cond passes (Some t) None
 
 abbrev pub differs : TypeWord → MaybeType → Bool
-differs hint (Is u) = not (eqb hint.word u.word)
-differs hint Nothing = false
+differs hint (Some u) = not (eqb hint.word u.word)
+differs hint None = false
 
 abbrev pub both_differ : MaybeType → MaybeType → Bool
-both_differ (Is t) found = differs t found
-both_differ Nothing found = false
+both_differ (Some t) found = differs t found
+both_differ None found = false
 
 abbrev pub either_of : MaybeType → MaybeType → MaybeType
-either_of (Is t) second = Is t
-either_of Nothing second = second
+either_of (Some t) second = Some t
+either_of None second = second
 
 -- ---- the ways of `resolve`, each by itself, and from each on
 

@@ -1,6 +1,6 @@
 -- THE ONE HINT OF THE DOMAIN: the hints are a set; there is exactly one if there is some and none differs from it. From the last observed
 -- type to the first, as the code goes.
-use Rattle.std.specs.Prelude.{◌≡◌, refl, Bool, true, false, not, eqb, length, get_or}
+use Rattle.std.specs.Prelude.{◌≡◌, refl, Bool, true, false, not, eqb, length, get_or, Some, None}
 use Rattle.std.proofs.Common.{sym, ◌∙◌, drop_of_length-le, drop-cons, eqb-true, eq-eqb, ne_eqb}
 use Rattle.std.proofs.Math.Path.{ap}
 use mathlib.Core.List.{List, [], ◌∷◌, map}
@@ -8,11 +8,10 @@ use Rattle.std.proofs.Math.Option.{Option, some, none}
 use Prim.Native.Nat.{ℕ, zero, suc, ◌-◌, ◌≤◌, ◌<◌}
 use native.Mathlib.Omega.{arith}
 use Rattle.std.proofs.lemmas.Bool.{eqb-false}
-use Rattle.order.specs.declared.Order.{Order}
-use Rattle.order.specs.declared.Order.TheVariants.{Less, Equal, Greater}
+use Rattle.std.specs.declared.cmp.Ordering.{Ordering}
+use Rattle.std.specs.declared.cmp.Ordering.TheVariants.{Less, Equal, Greater}
 use Rattle.ty.specs.declared.TypeWord.{TypeWord}
-use Rattle.ty.specs.declared.MaybeType.{MaybeType}
-use Rattle.ty.specs.declared.MaybeType.TheVariants.{Is, Nothing}
+use Rattle.ty.specs.Answers.{MaybeType}
 use Rattle.ty.specs.Types.{ArgType, compare, concrete_hint}
 use Rattle.ty.specs.Words.{type_of, word_of}
 use Rattle.ty.specs.Order.{compare-same, compare-equal}
@@ -26,17 +25,17 @@ use Rattle.resolving.specs.Bounds.{differs, both_differ, either_of}
 
 -- ---- two that may be missing, by cases
 
-module _ (hint : TypeWord) (found : MaybeType) (u : TypeWord) (e : found ≡ Is u) where
+module _ (hint : TypeWord) (found : MaybeType) (u : TypeWord) (e : found ≡ Some u) where
   pub differs-not : hint.word ≡ u.word → false ≡ differs hint found
   differs-not q = ap (λ (b : Bool). not b) (sym (eq-eqb hint.word u.word q)) ∙ ap (differs hint) (sym e)
 
   pub differs-yes : (hint.word ≡ u.word → ⊥) → true ≡ differs hint found
   differs-yes q = ap (λ (b : Bool). not b) (sym (ne_eqb hint.word u.word q)) ∙ ap (differs hint) (sym e)
 
-pub both-is : (m f : MaybeType) (u : TypeWord) → m ≡ Is u → differs u f ≡ both_differ m f
+pub both-is : (m f : MaybeType) (u : TypeWord) → m ≡ Some u → differs u f ≡ both_differ m f
 both-is m f u e = ap (λ (x : MaybeType). both_differ x f) (sym e)
 
-pub either-is : (m f : MaybeType) (u : TypeWord) → m ≡ Is u → Is u ≡ either_of m f
+pub either-is : (m f : MaybeType) (u : TypeWord) → m ≡ Some u → Some u ≡ either_of m f
 either-is m f u e = ap (λ (x : MaybeType). either_of x f) (sym e)
 
 -- ---- the hints from a place on
@@ -60,15 +59,15 @@ unfolding insert
 same-in t = rw (compare-same t)
 
 pub either-legal : (m f : MaybeType) → LegalMaybe m → LegalMaybe f → LegalMaybe (either_of m f)
-either-legal (Is t) f h k = h
-either-legal Nothing f h k = k
+either-legal (Some t) f h k = h
+either-legal None f h k = k
 
 -- no other hint
 pub hint-same : (m f : MaybeType) → both_differ m f ≡ false → hint_of (maybe_type m) (list_of (maybe_type f)) ≡ list_of (maybe_type (either_of m f))
 unfolding insert
-hint-same Nothing f e = refl
-hint-same (Is t) Nothing e = refl
-hint-same (Is t) (Is u) e = go (eqb t.word u.word) refl e
+hint-same None f e = refl
+hint-same (Some t) None e = refl
+hint-same (Some t) (Some u) e = go (eqb t.word u.word) refl e
   where
     go : (b : Bool) → eqb t.word u.word ≡ b → not b ≡ false → insert compare (type_of t.word) (type_of u.word ∷ []) ≡ type_of t.word ∷ []
     go true q k = ap (λ (x : ℕ). insert compare (type_of t.word) (type_of x ∷ [])) (sym (eqb-true t.word u.word q)) ∙ same-in (type_of t.word)
@@ -90,7 +89,7 @@ unfolding insert
 insert-one t [] = tt
 insert-one t (u ∷ us) = go (compare t u)
   where
-    go : (o : Order) → One (by_order o (t ∷ u ∷ us) (u ∷ us) (u ∷ insert compare t us))
+    go : (o : Ordering) → One (by_order o (t ∷ u ∷ us) (u ∷ us) (u ∷ insert compare t us))
     go Less = tt
     go Equal = tt
     go Greater = tt
@@ -105,7 +104,7 @@ insert-two t [] h = absurd h
 insert-two t (u ∷ []) h = absurd h
 insert-two t (u ∷ x ∷ xs) h = go (compare t u)
   where
-    go : (o : Order) → Two (by_order o (t ∷ u ∷ x ∷ xs) (u ∷ x ∷ xs) (u ∷ insert compare t (x ∷ xs)))
+    go : (o : Ordering) → Two (by_order o (t ∷ u ∷ x ∷ xs) (u ∷ x ∷ xs) (u ∷ insert compare t (x ∷ xs)))
     go Less = tt
     go Equal = tt
     go Greater = cons-two u (insert compare t (x ∷ xs)) (insert-one t (x ∷ xs))
@@ -114,16 +113,16 @@ insert-other : (t u : ArgType) → (t ≡ u → ⊥) → Two (insert compare t (
 unfolding insert
 insert-other t u n = go (compare t u) refl
   where
-    go : (o : Order) → compare t u ≡ o → Two (by_order o (t ∷ u ∷ []) (u ∷ []) (u ∷ t ∷ []))
+    go : (o : Ordering) → compare t u ≡ o → Two (by_order o (t ∷ u ∷ []) (u ∷ []) (u ∷ t ∷ []))
     go Less e = tt
     go Equal e = absurd (n (compare-equal t u e))
     go Greater e = tt
 
 -- another hint makes two
 pub hint-other : (m f : MaybeType) → LegalMaybe m → LegalMaybe f → both_differ m f ≡ true → Two (hint_of (maybe_type m) (list_of (maybe_type f)))
-hint-other Nothing f h k e = absurd (let z : ◌≡◌ {A = ℕ} 0 1 = cc in omega arith)
-hint-other (Is t) Nothing h k e = absurd (let z : ◌≡◌ {A = ℕ} 0 1 = cc in omega arith)
-hint-other (Is t) (Is u) h k e = go (eqb t.word u.word) refl e
+hint-other None f h k e = absurd (let z : ◌≡◌ {A = ℕ} 0 1 = cc in omega arith)
+hint-other (Some t) None h k e = absurd (let z : ◌≡◌ {A = ℕ} 0 1 = cc in omega arith)
+hint-other (Some t) (Some u) h k e = go (eqb t.word u.word) refl e
   where
     go : (b : Bool) → eqb t.word u.word ≡ b → not b ≡ true → Two (insert compare (type_of t.word) (type_of u.word ∷ []))
     go true q z = absurd (let y : ◌≡◌ {A = ℕ} 0 1 = cc in omega arith)

@@ -1,5 +1,5 @@
 -- What the code goes by: legal words and their types, what is produced, a candidate that passes or not, one way after the other.
-use Rattle.std.specs.Prelude.{◌≡◌, Bool, true, false, cond, ◌&&◌, ℕ, suc, ◌+◌, ◌^◌, ◌≤◌, ◌<◌, drop, get_or}
+use Rattle.std.specs.Prelude.{◌≡◌, Bool, true, false, cond, ◌&&◌, ℕ, suc, ◌+◌, ◌^◌, ◌≤◌, ◌<◌, drop, get_or, Some, None}
 use Rattle.std.proofs.Math.Path.{refl, ap}
 use Rattle.std.proofs.Common.{sym, ◌∙◌, subst, ⊎_elim, arith, add-one, drop_of_length-le, drop-cons}
 use mathlib.Core.List.Memᴰ
@@ -7,8 +7,7 @@ use mathlib.Core.List.{List, [], ◌∷◌, map, Memᴰ}
 use Rattle.std.proofs.Math.Option.{Option, some, none}
 use Rattle.std.proofs.Math.ListN.{length}
 use Rattle.ty.specs.declared.TypeWord.{TypeWord}
-use Rattle.ty.specs.declared.MaybeType.{MaybeType}
-use Rattle.ty.specs.declared.MaybeType.TheVariants.{Is, Nothing}
+use Rattle.ty.specs.Answers.{MaybeType}
 use Rattle.ty.specs.Types.{ArgType, is_concrete}
 use Rattle.ty.specs.Words.{Legal, type_of, word_of, legal_word, legal_type}
 use Rattle.ty.specs.Round.{type-of-word, legal-of-type, legal-of-word, word-of-type, legal-more}
@@ -127,7 +126,7 @@ module _ (pairs marks : List ℕ) (t : Tables) (fits : Fits t) (exact lower : Li
 
 -- ---- by the cases of what may be missing
 
-module _ (m : MaybeType) (u : TypeWord) (e : m ≡ Is u) where
+module _ (m : MaybeType) (u : TypeWord) (e : m ≡ Some u) where
   pub is-legal : LegalMaybe m → Legal u.word
   is-legal h = subst LegalMaybe e h
 
@@ -142,7 +141,7 @@ module _ (m : MaybeType) (u : TypeWord) (e : m ≡ Is u) where
   pass-is b test h q = go b q ∙ ap (λ (x : MaybeType). maybe_word (passing (maybe_type x) test)) (sym e)
     where
       go : (c : Bool) → c ≡ test (type_of u.word) → kept_if c u ≡ maybe_word (cond (test (type_of u.word)) (some (type_of u.word)) none)
-      go true k = ap (λ (y : ℕ). Is (word y)) (sym (word-of-type 1024 u.word (is-legal h))) ∙ ap (λ (c : Bool). maybe_word (cond c (some (type_of u.word)) none)) k
+      go true k = ap (λ (y : ℕ). Some (word y)) (sym (word-of-type 1024 u.word (is-legal h))) ∙ ap (λ (c : Bool). maybe_word (cond c (some (type_of u.word)) none)) k
       go false k = ap (λ (c : Bool). maybe_word (cond c (some (type_of u.word)) none)) k
 
   pub concrete-is : (b : Bool) → b ≡ is_concrete (type_of u.word) → maybe_type (kept_if b u) ≡ only_concrete (maybe_type m)
@@ -157,15 +156,15 @@ module _ (m : MaybeType) (u : TypeWord) (e : m ≡ Is u) where
   kept-legal false h = tt
 
   -- a way that answers
-  pub way-is : (o p : Option ArgType) → m ≡ maybe_word o → Is u ≡ maybe_word (or_else o p)
+  pub way-is : (o p : Option ArgType) → m ≡ maybe_word o → Some u ≡ maybe_word (or_else o p)
   way-is none p h = absurd (let z : ◌≡◌ {A = ℕ} 0 1 = cc in omega arith)
   way-is (some x) p h = sym e ∙ h
 
-module _ (m : MaybeType) (e : m ≡ Nothing) where
+module _ (m : MaybeType) (e : m ≡ None) where
   pub or-none : (o : Option ArgType) → o ≡ or_else (maybe_type m) o
   or-none o = ap (λ (x : MaybeType). or_else (maybe_type x) o) (sym e)
 
-  pub pass-none : (test : ArgType → Bool) → Nothing ≡ maybe_word (passing (maybe_type m) test)
+  pub pass-none : (test : ArgType → Bool) → None ≡ maybe_word (passing (maybe_type m) test)
   pass-none test = ap (λ (x : MaybeType). maybe_word (passing (maybe_type x) test)) (sym e)
 
   -- and one that does not

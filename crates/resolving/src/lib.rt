@@ -18,7 +18,7 @@ use candidates::{
 };
 use joins::join_all;
 use tables::Tables;
-use ty::{MaybeType, TypeWord};
+use ty::TypeWord;
 
 // The join of the exact bounds, of the lower ones if there are none.
 pub fn produced_type(
@@ -27,7 +27,7 @@ pub fn produced_type(
     t: Tables,
     exact: &[u64],
     lower: &[u64],
-) -> MaybeType
+) -> Option<TypeWord>
     requires { Classed pairs.now marks.now t × Bounds t exact.now × Bounds t lower.now }
     ensures { result ≡ maybe_word (produced_type (world_of pairs.now marks.now t) (state_in exact.now lower.now [] [] [])) }
 {
@@ -42,26 +42,26 @@ fn or_upper(
     pairs: &[u64],
     marks: &[u64],
     t: Tables,
-    produced: MaybeType,
+    produced: Option<TypeWord>,
     upper: &[u64],
-) -> MaybeType
+) -> Option<TypeWord>
     requires { Classed pairs.now marks.now t × LegalMaybe produced × AllLegal t upper.now }
     ensures { LegalMaybe result × (maybe_type result ≡ or_else (maybe_type produced) (most_specific_upper (world_of pairs.now marks.now t) (map type_of upper.now))) }
 {
     match produced {
-        MaybeType::Is(u) => MaybeType::Is(u),
-        MaybeType::Nothing => most_specific_upper(pairs, marks, t, upper),
+        Some(u) => Some(u),
+        None => most_specific_upper(pairs, marks, t, upper),
     }
 }
 
 // The element of a type that may be missing.
-fn element_in(array: MaybeType) -> MaybeType
+fn element_in(array: Option<TypeWord>) -> Option<TypeWord>
     requires { LegalMaybe array }
     ensures { result ≡ maybe_word (element_of (maybe_type array)) }
 {
     match array {
-        MaybeType::Is(u) => u.element(),
-        MaybeType::Nothing => MaybeType::Nothing,
+        Some(u) => u.element(),
+        None => None,
     }
 }
 
@@ -70,9 +70,9 @@ pub fn element_of(
     pairs: &[u64],
     marks: &[u64],
     t: Tables,
-    produced: MaybeType,
+    produced: Option<TypeWord>,
     upper: &[u64],
-) -> MaybeType
+) -> Option<TypeWord>
     requires { Classed pairs.now marks.now t × LegalMaybe produced × AllLegal t upper.now }
     ensures { result ≡ maybe_word (element_of (or_else (maybe_type produced) (most_specific_upper (world_of pairs.now marks.now t) (map type_of upper.now)))) }
 {
@@ -88,7 +88,7 @@ pub fn array_element(
     exact: &[u64],
     lower: &[u64],
     upper: &[u64],
-) -> MaybeType
+) -> Option<TypeWord>
     requires { Classed pairs.now marks.now t × Bounds t exact.now × Bounds t lower.now × AllLegal t upper.now }
     ensures { result ≡ maybe_word (array_element (world_of pairs.now marks.now t) (state_in exact.now lower.now upper.now [] [])) }
 {
@@ -97,22 +97,22 @@ pub fn array_element(
 }
 
 // A candidate, if it passes.
-fn kept(ty: TypeWord, passes: bool) -> MaybeType
+fn kept(ty: TypeWord, passes: bool) -> Option<TypeWord>
     ensures { result ≡ kept_if passes ty }
 {
     if passes {
-        return MaybeType::Is(ty);
+        return Some(ty);
     }
-    MaybeType::Nothing
+    None
 }
 
-fn only_concrete(t: MaybeType) -> MaybeType
+fn only_concrete(t: Option<TypeWord>) -> Option<TypeWord>
     requires { LegalMaybe t }
     ensures { LegalMaybe result × (maybe_type result ≡ only_concrete (maybe_type t)) }
 {
     match t {
-        MaybeType::Is(u) => kept(u, u.is_concrete()),
-        MaybeType::Nothing => MaybeType::Nothing,
+        Some(u) => kept(u, u.is_concrete()),
+        None => None,
     }
 }
 
@@ -155,15 +155,15 @@ fn fits_upper(
     pairs: &[u64],
     marks: &[u64],
     t: Tables,
-    candidate: MaybeType,
+    candidate: Option<TypeWord>,
     upper: &[u64],
-) -> MaybeType
+) -> Option<TypeWord>
     requires { Classed pairs.now marks.now t × LegalMaybe candidate × AllLegal t upper.now }
     ensures { result ≡ maybe_word (fitting (world_of pairs.now marks.now t) (maybe_type candidate) (map type_of upper.now)) }
 {
     match candidate {
-        MaybeType::Is(ty) => kept(ty, is_assignable_to_all(pairs, marks, t, ty, upper)),
-        MaybeType::Nothing => MaybeType::Nothing,
+        Some(ty) => kept(ty, is_assignable_to_all(pairs, marks, t, ty, upper)),
+        None => None,
     }
 }
 
@@ -198,13 +198,13 @@ fn upper_candidate(
     lower: &[u64],
     upper: &[u64],
     domain: &[u64],
-) -> MaybeType
+) -> Option<TypeWord>
     requires { Classed pairs.now marks.now t × AllLegal t exact.now × AllLegal t lower.now × AllLegal t upper.now × AllLegal t domain.now }
     ensures { result ≡ maybe_word (by_upper (world_of pairs.now marks.now t) (map type_of exact.now) (map type_of lower.now) (map type_of upper.now) (map type_of domain.now)) }
 {
     match most_specific_upper(pairs, marks, t, upper) {
-        MaybeType::Is(u) => kept(u, upper_passes(pairs, marks, t, exact, lower, domain, u)),
-        MaybeType::Nothing => MaybeType::Nothing,
+        Some(u) => kept(u, upper_passes(pairs, marks, t, exact, lower, domain, u)),
+        None => None,
     }
 }
 
@@ -231,16 +231,16 @@ fn evidence_cast(
     pairs: &[u64],
     marks: &[u64],
     t: Tables,
-    evidence: MaybeType,
+    evidence: Option<TypeWord>,
     upper: &[u64],
     domain: &[u64],
-) -> MaybeType
+) -> Option<TypeWord>
     requires { Classed pairs.now marks.now t × LegalMaybe evidence × AllLegal t upper.now × AllLegal t domain.now }
     ensures { result ≡ maybe_word (by_cast (world_of pairs.now marks.now t) (maybe_type evidence) (map type_of upper.now) (map type_of domain.now)) }
 {
     match evidence {
-        MaybeType::Is(ty) => kept(ty, cast_passes(pairs, marks, t, ty, upper, domain)),
-        MaybeType::Nothing => MaybeType::Nothing,
+        Some(ty) => kept(ty, cast_passes(pairs, marks, t, ty, upper, domain)),
+        None => None,
     }
 }
 
@@ -270,66 +270,66 @@ fn fallback_join(
     upper: &[u64],
     domain: &[u64],
     fallback: &[u64],
-) -> MaybeType
+) -> Option<TypeWord>
     requires { Classed pairs.now marks.now t × AllLegal t upper.now × AllLegal t domain.now × Bounds t fallback.now }
     ensures { result ≡ maybe_word (by_fallback (world_of pairs.now marks.now t) (map type_of upper.now) (map type_of domain.now) (map type_of fallback.now)) }
 {
     let joined = join_all(pairs, marks, t, fallback);
     match only_concrete(joined) {
-        MaybeType::Is(ty) => kept(ty, fallback_passes(pairs, marks, t, ty, upper, domain)),
-        MaybeType::Nothing => MaybeType::Nothing,
+        Some(ty) => kept(ty, fallback_passes(pairs, marks, t, ty, upper, domain)),
+        None => None,
     }
 }
 
 // Whether what was found is another type than the hint.
-fn differs_from(hint: TypeWord, found: MaybeType) -> bool
+fn differs_from(hint: TypeWord, found: Option<TypeWord>) -> bool
     ensures { result ≡ differs hint found }
 {
     match found {
-        MaybeType::Is(u) => {
+        Some(u) => {
             if hint.word == u.word {
                 return false;
             }
             true
         }
-        MaybeType::Nothing => false,
+        None => false,
     }
 }
 
 // Whether both are there and not the same.
-fn both_differ(hint: MaybeType, found: MaybeType) -> bool
+fn both_differ(hint: Option<TypeWord>, found: Option<TypeWord>) -> bool
     ensures { result ≡ both_differ hint found }
 {
     match hint {
-        MaybeType::Is(u) => differs_from(u, found),
-        MaybeType::Nothing => false,
+        Some(u) => differs_from(u, found),
+        None => false,
     }
 }
 
 // The first of two that is there.
-fn either(first: MaybeType, second: MaybeType) -> MaybeType
+fn either(first: Option<TypeWord>, second: Option<TypeWord>) -> Option<TypeWord>
     ensures { result ≡ either_of first second }
 {
     match first {
-        MaybeType::Is(u) => MaybeType::Is(u),
-        MaybeType::Nothing => second,
+        Some(u) => Some(u),
+        None => second,
     }
 }
 
 // The one hint of the domain, from its last type to its first; none where two differ.
-fn one_hint(t: Tables, domain: &[u64]) -> MaybeType
+fn one_hint(t: Tables, domain: &[u64]) -> Option<TypeWord>
     requires { Fits t × AllLegal t domain.now }
     ensures { LegalMaybe result × (maybe_type result ≡ single (hints_of t.object (map type_of domain.now))) }
 {
     let object = t.object;
-    let mut found = MaybeType::Nothing;
+    let mut found = None;
     let mut i = domain.len();
     while 0 < i {
         i -= 1;
         let observed = TypeWord { word: domain[i] };
         let hint = observed.concrete_hint(object);
         if both_differ(hint, found) {
-            return MaybeType::Nothing;
+            return None;
         }
         found = either(hint, found);
     }
@@ -337,7 +337,7 @@ fn one_hint(t: Tables, domain: &[u64]) -> MaybeType
 }
 
 // Way 5: the one hint of the domain, where the upper bounds allow it.
-fn domain_hint(pairs: &[u64], marks: &[u64], t: Tables, upper: &[u64], domain: &[u64]) -> MaybeType
+fn domain_hint(pairs: &[u64], marks: &[u64], t: Tables, upper: &[u64], domain: &[u64]) -> Option<TypeWord>
     requires { Classed pairs.now marks.now t × AllLegal t upper.now × AllLegal t domain.now }
     ensures { result ≡ maybe_word (by_hint (world_of pairs.now marks.now t) (map type_of upper.now) (map type_of domain.now)) }
 {
@@ -353,13 +353,13 @@ fn from_fallback(
     upper: &[u64],
     domain: &[u64],
     fallback: &[u64],
-) -> MaybeType
+) -> Option<TypeWord>
     requires { Classed pairs.now marks.now t × AllLegal t upper.now × AllLegal t domain.now × Bounds t fallback.now }
     ensures { result ≡ maybe_word (from_fallback (world_of pairs.now marks.now t) (map type_of upper.now) (map type_of domain.now) (map type_of fallback.now)) }
 {
     match fallback_join(pairs, marks, t, upper, domain, fallback) {
-        MaybeType::Is(ty) => MaybeType::Is(ty),
-        MaybeType::Nothing => domain_hint(pairs, marks, t, upper, domain),
+        Some(ty) => Some(ty),
+        None => domain_hint(pairs, marks, t, upper, domain),
     }
 }
 
@@ -368,17 +368,17 @@ fn from_cast(
     pairs: &[u64],
     marks: &[u64],
     t: Tables,
-    evidence: MaybeType,
+    evidence: Option<TypeWord>,
     upper: &[u64],
     domain: &[u64],
     fallback: &[u64],
-) -> MaybeType
+) -> Option<TypeWord>
     requires { Classed pairs.now marks.now t × LegalMaybe evidence × AllLegal t upper.now × AllLegal t domain.now × Bounds t fallback.now }
     ensures { result ≡ maybe_word (from_cast (world_of pairs.now marks.now t) (maybe_type evidence) (map type_of upper.now) (map type_of domain.now) (map type_of fallback.now)) }
 {
     match evidence_cast(pairs, marks, t, evidence, upper, domain) {
-        MaybeType::Is(ty) => MaybeType::Is(ty),
-        MaybeType::Nothing => from_fallback(pairs, marks, t, upper, domain, fallback),
+        Some(ty) => Some(ty),
+        None => from_fallback(pairs, marks, t, upper, domain, fallback),
     }
 }
 
@@ -387,19 +387,19 @@ fn from_upper(
     pairs: &[u64],
     marks: &[u64],
     t: Tables,
-    evidence: MaybeType,
+    evidence: Option<TypeWord>,
     exact: &[u64],
     lower: &[u64],
     upper: &[u64],
     domain: &[u64],
     fallback: &[u64],
-) -> MaybeType
+) -> Option<TypeWord>
     requires { Classed pairs.now marks.now t × LegalMaybe evidence × AllLegal t exact.now × AllLegal t lower.now × AllLegal t upper.now × AllLegal t domain.now × Bounds t fallback.now }
     ensures { result ≡ maybe_word (from_upper (world_of pairs.now marks.now t) (maybe_type evidence) (state_in exact.now lower.now upper.now domain.now fallback.now)) }
 {
     match upper_candidate(pairs, marks, t, exact, lower, upper, domain) {
-        MaybeType::Is(ty) => MaybeType::Is(ty),
-        MaybeType::Nothing => from_cast(pairs, marks, t, evidence, upper, domain, fallback),
+        Some(ty) => Some(ty),
+        None => from_cast(pairs, marks, t, evidence, upper, domain, fallback),
     }
 }
 
@@ -413,15 +413,15 @@ pub fn resolve_state(
     upper: &[u64],
     domain: &[u64],
     fallback: &[u64],
-) -> MaybeType
+) -> Option<TypeWord>
     requires { Classed pairs.now marks.now t × Bounds t exact.now × Bounds t lower.now × AllLegal t upper.now × AllLegal t domain.now × Bounds t fallback.now }
     ensures { result ≡ maybe_word (resolve_state (world_of pairs.now marks.now t) (state_in exact.now lower.now upper.now domain.now fallback.now)) }
 {
     let produced = produced_type(pairs, marks, t, exact, lower);
     let evidence = only_concrete(produced);
     match fits_upper(pairs, marks, t, evidence, upper) {
-        MaybeType::Is(ty) => MaybeType::Is(ty),
-        MaybeType::Nothing => from_upper(
+        Some(ty) => Some(ty),
+        None => from_upper(
             pairs, marks, t, evidence, exact, lower, upper, domain, fallback,
         ),
     }

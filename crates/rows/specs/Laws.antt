@@ -9,8 +9,8 @@ use Rattle.order.specs.Truth.{both}
 use Rattle.order.specs.Lists.{elem}
 use Rattle.order.specs.Laws.{lists-same, lists-equal}
 use Rattle.order.specs.Compare.{compare_lists, is_less, is_equal}
-use Rattle.order.specs.declared.Order.{Order}
-use Rattle.order.specs.declared.Order.TheVariants.{Less, Equal, Greater}
+use Rattle.std.specs.declared.cmp.Ordering.{Ordering}
+use Rattle.std.specs.declared.cmp.Ordering.TheVariants.{Less, Equal, Greater}
 use Rattle.utf8.specs.Utf8.{well_formed}
 use Rattle.sorted.specs.Sorted.{Sorted}
 use Rattle.checks.specs.Checks.{check, first_refusal, quiet, free, first-is, first-none}
@@ -38,7 +38,7 @@ pub noted-other : (name wanted : List ℕ) (number known : ℕ) → (name ≡ wa
 unfolding noted
 noted-other name wanted number known n = go (compare_lists name wanted) refl
   where
-    go : (o : Order) → compare_lists name wanted ≡ o → cond (is_equal o) number known ≡ known
+    go : (o : Ordering) → compare_lists name wanted ≡ o → cond (is_equal o) number known ≡ known
     go Less e = refl
     go Equal e = absurd (n (lists-equal name wanted e))
     go Greater e = refl

@@ -1,12 +1,11 @@
 -- WHAT IS SENT IS WHAT THE DEFINITION GIVES, of a type that may be missing and is legal where it is there; and all of it can be sent.
-use Rattle.std.specs.Prelude.{◌≡◌, Bool, cond, [], ◌∷◌, ℕ, ◌^◌, ◌≤◌, ◌<◌}
+use Rattle.std.specs.Prelude.{◌≡◌, Bool, cond, [], ◌∷◌, ℕ, ◌^◌, ◌≤◌, ◌<◌, Some, None}
 use Rattle.std.proofs.Math.Path.{refl, ap}
 use Rattle.std.proofs.Common.{sym, ◌∙◌, subst, arith}
 use Rattle.std.proofs.Math.Bool.{true, false}
 use Rattle.std.proofs.Math.Option.{Option, some, none}
 use Rattle.std.proofs.Math.Dec.{ltb}
 use borrow.Author.Tests.{lt-ltb, le-ltb, ltb-true, ltb-false}
-use Rattle.ty.specs.declared.Arrayed.TheVariants.{Of, Deep as TooDeep}
 use Rattle.ty.specs.declared.TypeWord.{TypeWord}
 use Rattle.ty.specs.Types.{ArgType, Primitive, Object, Array, Unknown, depth, element, is_concrete}
 use Rattle.ty.specs.Words.{Legal, legal_word, type_of, word_of, legal_at_base}
@@ -44,14 +43,14 @@ module _ (w : ℕ) (fits : w < 2 ^ 64) (legal : Legal w) where
   unfolding depth legal_at_base
   array-legal h = legal-both 1024 (Array (type_of w)) (omega arith) base
 
-  one : (x y : TypeWord) → Of x ≡ Of y → x.word ≡ y.word
+  one : (x y : TypeWord) → Some x ≡ Some y → x.word ≡ y.word
   one x y f = ap (λ (t : TypeWord). t.word) (let z : x ≡ y = cc in z)
 
-  apart : (x : TypeWord) → Of x ≡ TooDeep → ⊥
+  apart : (x : TypeWord) → Some x ≡ None → ⊥
   apart x f = let z : ◌≡◌ {A = ℕ} 0 1 = cc in omega arith
 
   -- the array, where there is one
-  pub array-of : (a : TypeWord) → array_word w ≡ Of a → Legal a.word × (sent_of (Array (type_of w)) ≡ Rank (rank (type_of a.word)))
+  pub array-of : (a : TypeWord) → array_word w ≡ Some a → Legal a.word × (sent_of (Array (type_of w)) ≡ Rank (rank (type_of a.word)))
   unfolding depth
   array-of a e = go (ltb (depth (type_of w)) 255) refl
     where
@@ -66,7 +65,7 @@ module _ (w : ℕ) (fits : w < 2 ^ 64) (legal : Legal w) where
       go false f = absurd (apart a (sym e ∙ array-deep 1024 w legal (ltb-false (depth (type_of w)) 255 f)))
 
   -- and where there is none
-  pub array-none : array_word w ≡ TooDeep → sent_of (Array (type_of w)) ≡ Deep
+  pub array-none : array_word w ≡ None → sent_of (Array (type_of w)) ≡ Deep
   unfolding depth
   array-none e = go (ltb (depth (type_of w)) 255) refl
     where

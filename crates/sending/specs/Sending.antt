@@ -1,7 +1,6 @@
 -- What the contracts cite: how a type that may be missing is sent.
-use Rattle.std.specs.Prelude.{cond}
-use Rattle.ty.specs.declared.MaybeType.{MaybeType}
-use Rattle.ty.specs.declared.MaybeType.TheVariants.{Is, Nothing}
+use Rattle.std.specs.Prelude.{cond, Some, None}
+use Rattle.ty.specs.Answers.{MaybeType}
 use Rattle.ty.specs.Types.{Array, is_concrete}
 use Rattle.ty.specs.Words.{Legal, type_of}
 use Rattle.ty.specs.Answers.{element_word}
@@ -10,17 +9,17 @@ use Rattle.inserting.specs.declared.Sent.TheVariants.{Nothing as NoType}
 use Rattle.inserting.specs.Store.{sent_of}
 
 abbrev pub LegalMaybe : MaybeType → Type 0
-LegalMaybe (Is t) = Legal t.word
-LegalMaybe Nothing = Unit {0}
+LegalMaybe (Some t) = Legal t.word
+LegalMaybe None = Unit {0}
 
 abbrev pub sent_maybe : MaybeType → Sent
-sent_maybe (Is t) = sent_of (type_of t.word)
-sent_maybe Nothing = NoType
+sent_maybe (Some t) = sent_of (type_of t.word)
+sent_maybe None = NoType
 
 abbrev pub sent_element : MaybeType → Sent
-sent_element (Is t) = sent_maybe (element_word t.word)
-sent_element Nothing = NoType
+sent_element (Some t) = sent_maybe (element_word t.word)
+sent_element None = NoType
 
 abbrev pub sent_array : MaybeType → Sent
-sent_array (Is t) = cond (is_concrete (type_of t.word)) (sent_of (Array (type_of t.word))) NoType
-sent_array Nothing = NoType
+sent_array (Some t) = cond (is_concrete (type_of t.word)) (sent_of (Array (type_of t.word))) NoType
+sent_array None = NoType

@@ -10,7 +10,7 @@ ghost use Rattle.sending.specs.Sending.{sent_maybe, sent_element, sent_array, Le
 
 use inserting::Sent;
 use keys::rank_of;
-use ty::{Arrayed, MaybeType, TypeWord};
+use ty::TypeWord;
 
 // A type.
 fn send_word(t: TypeWord) -> Sent
@@ -27,46 +27,46 @@ fn send_array_of(t: TypeWord) -> Sent
 {
     let a = t.array();
     match a {
-        Arrayed::Of(w) => Sent::Rank(rank_of(w)),
-        Arrayed::Deep => Sent::Deep,
+        Some(w) => Sent::Rank(rank_of(w)),
+        None => Sent::Deep,
     }
 }
 
 // What is produced, if anything is.
-pub fn send_type(m: MaybeType) -> Sent
+pub fn send_type(m: Option<TypeWord>) -> Sent
     requires { LegalMaybe m }
     ensures { result ≡ sent_maybe m }
 {
     match m {
-        MaybeType::Is(t) => send_word(t),
-        MaybeType::Nothing => Sent::Nothing,
+        Some(t) => send_word(t),
+        None => Sent::Nothing,
     }
 }
 
 // The element of a type, if it has one.
-pub fn send_element(m: MaybeType) -> Sent
+pub fn send_element(m: Option<TypeWord>) -> Sent
     requires { LegalMaybe m }
     ensures { result ≡ sent_element m }
 {
     match m {
-        MaybeType::Is(t) => send_type(t.element()),
-        MaybeType::Nothing => Sent::Nothing,
+        Some(t) => send_type(t.element()),
+        None => Sent::Nothing,
     }
 }
 
 // The array of a type that is concrete.
-pub fn send_array(m: MaybeType) -> Sent
+pub fn send_array(m: Option<TypeWord>) -> Sent
     requires { LegalMaybe m }
     ensures { result ≡ sent_array m }
 {
     match m {
-        MaybeType::Is(t) => {
+        Some(t) => {
             if t.is_concrete() {
                 send_array_of(t)
             } else {
                 Sent::Nothing
             }
         }
-        MaybeType::Nothing => Sent::Nothing,
+        None => Sent::Nothing,
     }
 }

@@ -15,7 +15,7 @@ use Rattle.tables.specs.Table.{view_of, view-good, pairs_room}
 use Rattle.lattice.specs.Lattice.{World, Lawful}
 use Rattle.lattice.specs.World.{present, world_of, with-lawful}
 use Rattle.joins.specs.Joins.{Fits}
-use Rattle.order.specs.declared.Order.{Order}
+use Rattle.std.specs.declared.cmp.Ordering.{Ordering}
 use Rattle.solving.specs.declared.Counts.{Counts}
 use Rattle.solving.specs.Ordered.{set_of, Ascending}
 use Rattle.solving.specs.OrderedLaws.{Total}
@@ -53,7 +53,7 @@ abbrev pub run_of : World → Problem → Finish
 run_of w p = propagate w (links_of p) p.components (table_of p)
 
 -- THE SET OF AN ASCENDING LIST IS THE LIST
-set-same-list : {A : Type 0} (compare : A → A → Order) → Total compare → (l : List A) → Ascending compare l → set_of compare l ≡ l
+set-same-list : {A : Type 0} (compare : A → A → Ordering) → Total compare → (l : List A) → Ascending compare l → set_of compare l ≡ l
 set-same-list compare total l g =
     same-members compare total (set_of compare l) l (set-ascending compare total l) g (λ z m. set-only compare z l m, λ z m. set-has compare total z l m)
 

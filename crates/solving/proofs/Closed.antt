@@ -9,8 +9,8 @@ use mathlib.Core.List.{List, [], ◌∷◌, Memᴰ}
 use Rattle.std.proofs.Math.Logic.{inl, inr, ⊎_elim}
 use Prim.Native.Nat.{ℕ, zero, suc, ◌+◌, ◌≤◌, ◌<◌}
 use Rattle.std.proofs.Math.Decide.{ℕ_discrete}
-use Rattle.order.specs.declared.Order.{Order}
-use Rattle.order.specs.declared.Order.TheVariants.{Less, Equal, Greater}
+use Rattle.std.specs.declared.cmp.Ordering.{Ordering}
+use Rattle.std.specs.declared.cmp.Ordering.TheVariants.{Less, Equal, Greater}
 use Rattle.ty.specs.Types.{ArgType}
 use Rattle.lattice.specs.Lattice.{World}
 use Rattle.view.specs.View.{numbers}
@@ -40,7 +40,7 @@ module _ (c k : ℕ) (b : Bound) (apart : b.component ≡ c → ⊥) where
   types-insert [] = types-past []
   types-insert (x ∷ xs) = go (compare_bounds b x) (types-insert xs)
     where
-      go : (o : Order) → types_of c k (insert compare_bounds b xs) ≡ types_of c k xs
+      go : (o : Ordering) → types_of c k (insert compare_bounds b xs) ≡ types_of c k xs
           → types_of c k (by_order o (b ∷ x ∷ xs) (x ∷ xs) (x ∷ insert compare_bounds b xs)) ≡ types_of c k (x ∷ xs)
       go Less ih = types-past (x ∷ xs)
       go Equal ih = refl

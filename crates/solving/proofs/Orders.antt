@@ -8,8 +8,8 @@ use Rattle.std.proofs.Math.Dec.{eqb}
 use borrow.Author.Tests.{eqb-true}
 use Rattle.order.specs.Laws.{less-not-equal, less-not-greater, equal-not-greater, numbers-same, equal-numbers, numbers-swap, numbers-trans}
 use Rattle.order.specs.Compare.{then, compare_numbers, flip}
-use Rattle.order.specs.declared.Order.{Order}
-use Rattle.order.specs.declared.Order.TheVariants.{Less, Equal, Greater}
+use Rattle.std.specs.declared.cmp.Ordering.{Ordering}
+use Rattle.std.specs.declared.cmp.Ordering.TheVariants.{Less, Equal, Greater}
 use Rattle.ty.specs.Types.{compare}
 use Rattle.ty.specs.Order.{compare-same, compare-equal, compare-swap, compare-trans}
 use Rattle.solving.specs.Ordered.{After, Ascending}
@@ -26,27 +26,27 @@ types-total = record { same = compare-same; equal = compare-equal; swap = compar
 
 -- ---- one part before the other
 
-then-flip : (o p : Order) → then (flip o) (flip p) ≡ flip (then o p)
+then-flip : (o p : Ordering) → then (flip o) (flip p) ≡ flip (then o p)
 then-flip Less p = refl
 then-flip Equal p = refl
 then-flip Greater p = refl
 
-then-equal : (o p : Order) → then o p ≡ Equal → (o ≡ Equal) × (p ≡ Equal)
+then-equal : (o p : Ordering) → then o p ≡ Equal → (o ≡ Equal) × (p ≡ Equal)
 then-equal Less p h = absurd (less-not-equal h)
 then-equal Equal p h = (refl, h)
 then-equal Greater p h = absurd (equal-not-greater (sym h))
 
-then-less : (o p : Order) → then o p ≡ Less → (o ≡ Less) ⊎ ((o ≡ Equal) × (p ≡ Less))
+then-less : (o p : Ordering) → then o p ≡ Less → (o ≡ Less) ⊎ ((o ≡ Equal) × (p ≡ Less))
 then-less Less p h = inl refl
 then-less Equal p h = inr (refl, h)
 then-less Greater p h = absurd (less-not-greater (sym h))
 
-module _ {A B : Type 0} (ca : A → A → Order) (cb : B → B → Order) (ta : Total ca) (tb : Total cb) where
+module _ {A B : Type 0} (ca : A → A → Ordering) (cb : B → B → Ordering) (ta : Total ca) (tb : Total cb) where
   both-trans : (p q r : A × B) → both ca cb p q ≡ Less → both ca cb q r ≡ Less → both ca cb p r ≡ Less
   both-trans p q r h k = go (then-less (ca p.0 q.0) (cb p.1 q.1) h) (then-less (ca q.0 r.0) (cb q.1 r.1) k)
     where
       first : ca p.0 r.0 ≡ Less → both ca cb p r ≡ Less
-      first e = ap (λ (o : Order). then o (cb p.1 r.1)) e
+      first e = ap (λ (o : Ordering). then o (cb p.1 r.1)) e
 
       go : (ca p.0 q.0 ≡ Less) ⊎ ((ca p.0 q.0 ≡ Equal) × (cb p.1 q.1 ≡ Less))
           → (ca q.0 r.0 ≡ Less) ⊎ ((ca q.0 r.0 ≡ Equal) × (cb q.1 r.1 ≡ Less)) → both ca cb p r ≡ Less
@@ -92,7 +92,7 @@ bounds-total = record {
 less-type : (a b : Bound) → a.component ≡ b.component → a.kind ≡ b.kind → compare_bounds a b ≡ Less → compare a.type b.type ≡ Less
 unfolding compare_bounds
 less-type a b e f h =
-    ap₂ (λ (o p : Order). then o (then p (compare a.type b.type)))
+    ap₂ (λ (o p : Ordering). then o (then p (compare a.type b.type)))
     (sym (ap (compare_numbers a.component) (sym e) ∙ numbers-same a.component))
     (sym (ap (compare_numbers a.kind) (sym f) ∙ numbers-same a.kind))
     ∙ h

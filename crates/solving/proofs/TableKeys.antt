@@ -15,8 +15,8 @@ use Rattle.sorted.specs.declared.Put.TheVariants.{Old, New as Added, Full}
 use Rattle.sorted.specs.Sorted.{Above, Sorted, rank, insert_sorted, run_of, put_answer, put_list, grown}
 use Rattle.sorted.specs.Laws.{above-sorted}
 use Rattle.sorted.specs.Places.{place-rank, has-elem, outcome-full, put-length, put-answer, put-list-old, put-list-new}
-use Rattle.order.specs.declared.Order.{Order}
-use Rattle.order.specs.declared.Order.TheVariants.{Less, Equal, Greater}
+use Rattle.std.specs.declared.cmp.Ordering.{Ordering}
+use Rattle.std.specs.declared.cmp.Ordering.TheVariants.{Less, Equal, Greater}
 use Rattle.ty.specs.Types.{depth}
 use Rattle.ty.specs.Round.{legal-type-more}
 use Rattle.keys.specs.Rank.{key, key_type}
@@ -69,7 +69,7 @@ module _ (b : Bound) (k : Keyed b) where
   same-key : (x : Bound) → Keyed x → is_equal (compare_bounds b x) ≡ eqb (key_of x) (key_of b)
   same-key x kx = go (compare_bounds b x) (keys-order b x k kx)
     where
-      go : (o : Order) → compare_numbers (key_of b) (key_of x) ≡ o → is_equal o ≡ eqb (key_of x) (key_of b)
+      go : (o : Ordering) → compare_numbers (key_of b) (key_of x) ≡ o → is_equal o ≡ eqb (key_of x) (key_of b)
       go Less e = let z = less-numbers (key_of b) (key_of x) e in sym (ne_eqb (key_of x) (key_of b) (λ q. omega arith))
       go Equal e = sym (eq-eqb (key_of x) (key_of b) (sym (equal-numbers (key_of b) (key_of x) e)))
       go Greater e = let z = greater-numbers (key_of b) (key_of x) e in sym (ne_eqb (key_of x) (key_of b) (λ q. omega arith))
@@ -86,7 +86,7 @@ module _ (b : Bound) (k : Keyed b) where
   keys-insert [] g h = refl
   keys-insert (x ∷ t) g h = go (compare_bounds b x) (keys-order b x k (g x (Memᴰ.head refl))) h (keys-insert t (λ y m. g y (Memᴰ.tail m)))
     where
-      go : (o : Order) → compare_numbers (key_of b) (key_of x) ≡ o → (is_equal o || present compare_bounds b t) ≡ false
+      go : (o : Ordering) → compare_numbers (key_of b) (key_of x) ≡ o → (is_equal o || present compare_bounds b t) ≡ false
           → (present compare_bounds b t ≡ false → keys_of (insert compare_bounds b t) ≡ insert_sorted (key_of b) (keys_of t))
           → keys_of (by_order o (b ∷ x ∷ t) (x ∷ t) (x ∷ insert compare_bounds b t))
           ≡ cond (ltb (key_of x) (key_of b)) (key_of x ∷ insert_sorted (key_of b) (keys_of t)) (key_of b ∷ key_of x ∷ keys_of t)

@@ -4,7 +4,7 @@ use Rattle.std.specs.Prelude.{Bool, true, false, cond, List, [], ◌∷◌, ◌+
 use Rattle.std.proofs.Math.Option.{Option, some, none}
 use Rattle.order.specs.Compare.{then, compare_numbers}
 use Rattle.order.specs.Lists.{elem}
-use Rattle.order.specs.declared.Order.{Order}
+use Rattle.std.specs.declared.cmp.Ordering.{Ordering}
 use Rattle.ty.specs.Types.{ArgType, Array, depth, element, is_concrete, concrete_hint, compare}
 use Rattle.view.specs.View.{numbers}
 use Rattle.lattice.specs.Lattice.{World, is_assignable, producer_bound_compatible, domain_accepts, join_all, most_specific_upper}
@@ -37,7 +37,7 @@ abbrev pub bound : ℕ → ℕ → ArgType → Bound
 bound c k t = record { component = c; kind = k; type = t }
 
 -- by component, then by kind, then by type
-unfoldable pub compare_bounds : Bound → Bound → Order
+unfoldable pub compare_bounds : Bound → Bound → Ordering
 compare_bounds a b = then (compare_numbers a.component b.component) (then (compare_numbers a.kind b.kind) (compare a.type b.type))
 
 -- a table of bounds is strictly ascending
@@ -112,7 +112,7 @@ produced_array w s = array_of (only_concrete (produced_type w s))
 abbrev pub Pair : Type 0
 Pair = ℕ × ℕ
 
-unfoldable pub compare_pairs : Pair → Pair → Order
+unfoldable pub compare_pairs : Pair → Pair → Ordering
 compare_pairs p q = then (compare_numbers p.0 q.0) (compare_numbers p.1 q.1)
 
 pub record Links : Type 0 where

@@ -13,7 +13,7 @@ use Rattle.stackview.specs.LayerRows.{opens_layer}
 use Rattle.stackview.specs.LayerViews.{lowest_layer, layers_above}
 use Prim.Native.Nat.{suc}
 use mathlib.Core.List.{◌∷◌}
-use Rattle.order.specs.declared.Order.TheVariants.{Less}
+use Rattle.std.specs.declared.cmp.Ordering.TheVariants.{Less}
 use Rattle.order.specs.Compare.{compare_lists}
 use Rattle.rows.specs.Rows.{object_name}
 use Rattle.columns.specs.Given.{Given}

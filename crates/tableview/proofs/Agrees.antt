@@ -19,8 +19,8 @@ use Rattle.sets.specs.Laws.{member-past, member-empty}
 use Rattle.sorted.specs.Sorted.{Above, Sorted, place}
 use Rattle.sorted.specs.Laws.{above-sorted, put-sorted, elem-put, same-members}
 use Rattle.sorted.specs.Parts.{sorted-drop}
-use Rattle.order.specs.declared.Order.{Order}
-use Rattle.order.specs.declared.Order.TheVariants.{Less, Equal, Greater}
+use Rattle.std.specs.declared.cmp.Ordering.{Ordering}
+use Rattle.std.specs.declared.cmp.Ordering.TheVariants.{Less, Equal, Greater}
 use Rattle.names.specs.Names.{name_of, name_at, next}
 use Rattle.names.specs.Table.{number-of-name}
 use Rattle.view.specs.View.{number_of}
@@ -65,7 +65,7 @@ index-placed wanted bytes [] lens e = λ i h. absurd (omega arith)
 index-placed wanted bytes (at ∷ ats) [] e = absurd (omega arith)
 index-placed wanted bytes (at ∷ ats) (len ∷ lens) e = go (compare_lists (name_of bytes at len) wanted) refl (index-placed wanted bytes ats lens (omega arith))
   where
-    go : (o : Order) → compare_lists (name_of bytes at len) wanted ≡ o → StandsAt wanted bytes ats lens (place_of wanted (names_of bytes ats lens))
+    go : (o : Ordering) → compare_lists (name_of bytes at len) wanted ≡ o → StandsAt wanted bytes ats lens (place_of wanted (names_of bytes ats lens))
         → StandsAt wanted bytes (at ∷ ats) (len ∷ lens) (cond (is_equal o) (some 0) (next (place_of wanted (names_of bytes ats lens))))
     go Equal q p = (omega arith, lists-equal (name_of bytes at len) wanted q)
     go Less q p = placed-next wanted bytes at len ats lens (place_of wanted (names_of bytes ats lens)) (λ s. differ (sym q ∙ ap (λ (n : List ℕ). compare_lists n wanted) s ∙ lists-same wanted)) p

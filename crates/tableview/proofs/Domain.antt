@@ -18,8 +18,8 @@ use Rattle.order.specs.Truth.{both, and-both}
 use Rattle.order.specs.Lists.{elem}
 use Rattle.order.specs.Laws.{lists-same, lists-equal, lists-trans}
 use Rattle.order.specs.Compare.{compare_lists, is_equal}
-use Rattle.order.specs.declared.Order.{Order}
-use Rattle.order.specs.declared.Order.TheVariants.{Less, Equal, Greater}
+use Rattle.std.specs.declared.cmp.Ordering.{Ordering}
+use Rattle.std.specs.declared.cmp.Ordering.TheVariants.{Less, Equal, Greater}
 use Rattle.sorted.specs.Sorted.{Sorted, put}
 use Rattle.sorted.specs.Laws.{same-members}
 use Rattle.view.specs.View.{number_of}
@@ -500,7 +500,7 @@ unfolding place_of
 index-name wanted [] i e = absurd (let z : ◌≡◌ {A = ℕ} 0 1 = cc in omega arith)
 index-name wanted (n ∷ ns) i e = go (compare_lists n wanted) refl e (index-name wanted ns)
   where
-    go : (o : Order) → compare_lists n wanted ≡ o → cond (is_equal o) (some 0) (next (place_of wanted ns)) ≡ some i
+    go : (o : Ordering) → compare_lists n wanted ≡ o → cond (is_equal o) (some 0) (next (place_of wanted ns)) ≡ some i
         → ((j : ℕ) → place_of wanted ns ≡ some j → (j < length ns) × (get_or ns j [] ≡ wanted)) → (i < suc (length ns)) × (get_or (n ∷ ns) i [] ≡ wanted)
     go Equal q f ih = let z : 0 ≡ i = cc in subst (λ (k : ℕ). (k < suc (length ns)) × (get_or (n ∷ ns) k [] ≡ wanted)) z (omega arith, lists-equal n wanted q)
     go Less q f ih = let w = index-next wanted ns i f in subst (λ (k : ℕ). (k < suc (length ns)) × (get_or (n ∷ ns) k [] ≡ wanted)) (sym w.2) (let r = ih w.0 w.1 in (omega (arith, r.0), r.1))
@@ -520,7 +520,7 @@ index-has wanted (n ∷ ns) m = go (compare_lists n wanted) refl (Memᴰ.cases_c
     later (inl e) d ih = absurd (d (ap (compare_lists n) e ∙ lists-same n))
     later (inr k) d ih = let w = ih k in (suc w.0, ap next w.1)
 
-    go : (o : Order) → compare_lists n wanted ≡ o → (wanted ≡ n) ⊎ Memᴰ wanted ns → (Memᴰ wanted ns → (i : ℕ) × (place_of wanted ns ≡ some i))
+    go : (o : Ordering) → compare_lists n wanted ≡ o → (wanted ≡ n) ⊎ Memᴰ wanted ns → (Memᴰ wanted ns → (i : ℕ) × (place_of wanted ns ≡ some i))
         → (i : ℕ) × (cond (is_equal o) (some 0) (next (place_of wanted ns)) ≡ some i)
     go Equal q w ih = (0, refl)
     go Less q w ih = later w (λ e. let f : Less ≡ Equal = sym q ∙ e in let z : ◌≡◌ {A = ℕ} 0 1 = cc in omega arith) ih

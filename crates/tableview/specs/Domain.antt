@@ -1,6 +1,6 @@
 -- The domain of a class table in the words of its rows, and that a table of columns is taken exactly if each row lies inside its slice and the
 -- rows are in the domain.
-use Rattle.std.specs.Prelude.{◌≡◌, Bool, cond, ◌⊎◌}
+use Rattle.std.specs.Prelude.{◌≡◌, Bool, cond, ◌⊎◌, ◌<◌, suc, get_or}
 use Rattle.std.proofs.Math.Bool.{true}
 use mathlib.Core.List.Memᴰ
 use mathlib.Core.List.{List, [], ◌∷◌, ◌++◌, Memᴰ}
@@ -12,8 +12,7 @@ use Rattle.rows.specs.Rows.{key, put_all}
 use Rattle.columns.specs.Given.{Given}
 use Rattle.tableview.specs.TableRows.{Record}
 use Rattle.tableview.specs.RowRefusals.{Pair, listed}
-use Rattle.std.specs.Prelude.{◌<◌, suc, get_or}
-use Rattle.order.specs.declared.Order.TheVariants.{Less}
+use Rattle.std.specs.declared.cmp.Ordering.TheVariants.{Less}
 use Rattle.order.specs.Compare.{compare_lists}
 use Rattle.rows.specs.Rows.{object_name}
 use Rattle.tableview.specs.TableRows.{Rows}

@@ -1,5 +1,5 @@
 -- What a turn asks of the tables and of the keys of the bounds, and what it reads off them.
-use Rattle.std.specs.Prelude.{◌≡◌, refl, Bool, true, false, cond, ℕ, ◌+◌, ◌-◌, ◌^◌, ◌≤◌, ◌<◌, length, take, drop, get_or}
+use Rattle.std.specs.Prelude.{◌≡◌, refl, Bool, true, false, cond, ℕ, ◌+◌, ◌-◌, ◌^◌, ◌≤◌, ◌<◌, length, take, drop, get_or, Some, None}
 use Rattle.std.proofs.Math.Path.{sym, ap, subst}
 use Rattle.std.proofs.Common.{ap₂, ◌∙◌, arith, zero-add, length-append, length-take}
 use mathlib.Core.List.{List, [], ◌∷◌, map}
@@ -11,8 +11,7 @@ use Rattle.sorted.specs.Sorted.{Sorted, run_of}
 use Rattle.sorted.specs.Parts.{part, part-sorted, part-length}
 use Rattle.tables.specs.declared.Tables.{Tables}
 use Rattle.prepared.specs.Prepared.{Prepared}
-use Rattle.ty.specs.declared.MaybeType.{MaybeType}
-use Rattle.ty.specs.declared.MaybeType.TheVariants.{Is, Nothing}
+use Rattle.ty.specs.Answers.{MaybeType}
 use Rattle.ty.specs.declared.TypeWord.{TypeWord}
 use Rattle.ty.specs.Types.{ArgType, compare}
 use Rattle.ty.specs.Words.{type_of, legal_word, all_legal}
@@ -149,14 +148,14 @@ module _ (pairs marks : List ℕ) (t : Tables) (keys : List ℕ) (y : Asks pairs
 
 -- what is produced, or else the upper bound
 module _ (o u : Option ArgType) (m : MaybeType) (e : m ≡ maybe_word o) where
-  pub shape-is : (t : TypeWord) → m ≡ Is t → m ≡ maybe_word (or_else o u)
+  pub shape-is : (t : TypeWord) → m ≡ Some t → m ≡ maybe_word (or_else o u)
   shape-is t f = go o e
     where
       go : (x : Option ArgType) → m ≡ maybe_word x → m ≡ maybe_word (or_else x u)
       go none g = absurd (let z : ◌≡◌ {A = ℕ} 0 1 = cc in omega arith)
       go (some x) g = g
 
-  pub shape-none : m ≡ Nothing → maybe_word u ≡ maybe_word (or_else o u)
+  pub shape-none : m ≡ None → maybe_word u ≡ maybe_word (or_else o u)
   shape-none f = go o e
     where
       go : (x : Option ArgType) → m ≡ maybe_word x → maybe_word u ≡ maybe_word (or_else x u)
@@ -165,7 +164,7 @@ module _ (o u : Option ArgType) (m : MaybeType) (e : m ≡ maybe_word o) where
 
 -- a type that is asked for, or nothing
 abbrev pub only_if : Bool → MaybeType → MaybeType
-only_if asked m = cond asked m Nothing
+only_if asked m = cond asked m None
 
 only-legal : (asked : Bool) (m : MaybeType) → LegalMaybe m → LegalMaybe (only_if asked m)
 only-legal true m h = h
@@ -396,7 +395,7 @@ module _ (pairs marks : List ℕ) (t : Tables) (a ring : List ℕ) (s : State) (
       array = all.array;
     }
 
-    sends : (asked : Bool) (send : MaybeType → Sent) (m : MaybeType) → send Nothing ≡ NoType → Sendable (send m) → Sendable (send (only_if asked m))
+    sends : (asked : Bool) (send : MaybeType → Sent) (m : MaybeType) → send None ≡ NoType → Sendable (send m) → Sendable (send (only_if asked m))
     sends true send m n z = z
     sends false send m n z = subst Sendable (sym n) tt
 

@@ -20,7 +20,7 @@ use keys::COMPONENT;
 use rules::pass_rules;
 use sending::{send_array, send_element, send_type};
 use tables::Tables;
-use ty::MaybeType;
+use ty::TypeWord;
 
 // What a component's exact bounds, or else its lower ones, come to.
 fn produced_of(
@@ -30,7 +30,7 @@ fn produced_of(
     keys: &[u64],
     root: u64,
     words: &mut [u64],
-) -> MaybeType
+) -> Option<TypeWord>
     requires { Asks pairs.now marks.now t keys.now × (root < 512) × (length keys.now ≤ length words.old) }
     ensures { result ≡ maybe_word (produced_type (world_of pairs.now marks.now t) (state_in keys.now root)) }
 {
@@ -47,14 +47,14 @@ fn produced_if(
     keys: &[u64],
     root: u64,
     words: &mut [u64],
-) -> MaybeType
+) -> Option<TypeWord>
     requires { Asks pairs.now marks.now t keys.now × (root < 512) × (length keys.now ≤ length words.old) }
     ensures { result ≡ only_if asked (maybe_word (produced_type (world_of pairs.now marks.now t) (state_in keys.now root))) }
 {
     if asked {
         return produced_of(pairs, marks, t, keys, root, words);
     }
-    MaybeType::Nothing
+    None
 }
 
 // Its most specific upper bound.
@@ -65,7 +65,7 @@ fn upper_of(
     keys: &[u64],
     root: u64,
     words: &mut [u64],
-) -> MaybeType
+) -> Option<TypeWord>
     requires { Asks pairs.now marks.now t keys.now × (root < 512) × (length keys.now ≤ length words.old) }
     ensures { result ≡ maybe_word (most_specific_upper (world_of pairs.now marks.now t) (state_in keys.now root).upper) }
 {
@@ -81,14 +81,14 @@ fn shape_of(
     keys: &[u64],
     root: u64,
     words: &mut [u64],
-    produced: MaybeType,
-) -> MaybeType
+    produced: Option<TypeWord>,
+) -> Option<TypeWord>
     requires { Asks pairs.now marks.now t keys.now × (root < 512) × (length keys.now ≤ length words.old) × (produced ≡ maybe_word (produced_type (world_of pairs.now marks.now t) (state_in keys.now root))) }
     ensures { result ≡ maybe_word (or_else (produced_type (world_of pairs.now marks.now t) (state_in keys.now root)) (most_specific_upper (world_of pairs.now marks.now t) (state_in keys.now root).upper)) }
 {
     match produced {
-        MaybeType::Is(_) => produced,
-        MaybeType::Nothing => upper_of(pairs, marks, t, keys, root, words),
+        Some(_) => produced,
+        None => upper_of(pairs, marks, t, keys, root, words),
     }
 }
 
@@ -101,15 +101,15 @@ fn shape_if(
     keys: &[u64],
     root: u64,
     words: &mut [u64],
-    produced: MaybeType,
-) -> MaybeType
+    produced: Option<TypeWord>,
+) -> Option<TypeWord>
     requires { Asks pairs.now marks.now t keys.now × (root < 512) × (length keys.now ≤ length words.old) × (asked ≡ true → produced ≡ maybe_word (produced_type (world_of pairs.now marks.now t) (state_in keys.now root))) }
     ensures { result ≡ only_if asked (maybe_word (or_else (produced_type (world_of pairs.now marks.now t) (state_in keys.now root)) (most_specific_upper (world_of pairs.now marks.now t) (state_in keys.now root).upper))) }
 {
     if asked {
         return shape_of(pairs, marks, t, keys, root, words, produced);
     }
-    MaybeType::Nothing
+    None
 }
 
 // What a turn gathers before its first insertion: what is sent, and how many ranks were copied.

@@ -2,7 +2,7 @@
 use Rattle.std.specs.Prelude.{◌≡◌, refl, true, false, List, [], ◌∷◌, ℕ}
 use Rattle.order.specs.Compare.{compare_numbers, compare_lists}
 use Rattle.order.specs.Lists.{elem}
-use Rattle.order.specs.declared.Order.TheVariants.{Less, Greater}
+use Rattle.std.specs.declared.cmp.Ordering.TheVariants.{Less, Greater}
 use Rattle.ty.specs.Types.{Primitive, Object, Array, Unknown, Void, Boolean, Byte, Short, Char, Int, Long, Float, Double, ObjectCategory, ArrayCategory, arrays, compare}
 use Rattle.ty.specs.Words.{unpack, pack, list_of, good_digits, good_unknown, base_of, type_of, word_of, legal_base, legal_word}
 

@@ -2,7 +2,7 @@
 -- transitive.
 use Rattle.std.specs.Prelude.{◌≡◌, refl, List, [], ◌∷◌, ℕ, zero, suc, get_or}
 use Rattle.std.proofs.Common.{sym, ap, ◌∙◌}
-use Rattle.order.specs.declared.Order.TheVariants.{Less, Equal}
+use Rattle.std.specs.declared.cmp.Ordering.TheVariants.{Less, Equal}
 use Rattle.order.specs.Compare.{flip, compare_numbers, compare_lists}
 use Rattle.order.specs.Laws.{then-equal, lists-same, lists-equal, lists-swap, lists-trans}
 use Rattle.ty.specs.Types.{ArgType, Primitive, Object, Array, Unknown, Void, compare}

@@ -3,8 +3,8 @@
 use Rattle.std.specs.Prelude.{Bool, true, false, cond, not, ◌&&◌, ◌||◌, List, [], ◌∷◌, ℕ, zero, suc, ◌^◌, eqb}
 use Rattle.std.proofs.Math.Option.{Option, some, none}
 use Rattle.std.specs.Int.Bits.{bit_or}
-use Rattle.order.specs.declared.Order.{Order}
-use Rattle.order.specs.declared.Order.TheVariants.{Less, Greater}
+use Rattle.std.specs.declared.cmp.Ordering.{Ordering}
+use Rattle.std.specs.declared.cmp.Ordering.TheVariants.{Less, Greater}
 use Rattle.order.specs.Compare.{compare_numbers, compare_lists}
 
 -- ---- PrimitiveType
@@ -148,7 +148,7 @@ concrete_hint object (Unknown cs) = hint_of_list object cs
 
 -- ---- the derived order: Primitive < Object < Array < Unknown, then what they hold
 
-unfoldable pub compare : ArgType → ArgType → Order
+unfoldable pub compare : ArgType → ArgType → Ordering
 compare (Primitive a) (Primitive b) = compare_numbers a b
 compare (Primitive a) (Object b) = Less
 compare (Primitive a) (Array u) = Less

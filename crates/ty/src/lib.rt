@@ -36,24 +36,10 @@ pub struct TypeWord {
     pub word: u64,
 }
 
-// A word from outside: a type, or refusal 7.
-#[derive(Clone, Copy)]
-pub enum Decoded {
-    Good(TypeWord),
-    Refused(u64),
-}
-
-#[derive(Clone, Copy)]
-pub enum MaybeType {
-    Is(TypeWord),
-    Nothing,
-}
-
-// The array of a type; of one with 255 dimensions there is none.
-#[derive(Clone, Copy)]
-pub enum Arrayed {
-    Of(TypeWord),
-    Deep,
+// A word from outside that is no type: refusal 7.
+#[derive(Clone, Copy, Debug, PartialEq, Eq)]
+pub struct NoType {
+    pub word: u64,
 }
 
 // The digit i of an Unknown's list, i from 0.
@@ -196,14 +182,14 @@ pub fn are_legal(words: &[u64], names: u64) -> bool
     true
 }
 
-// The type of a word over that many names, or refusal 7.
-pub fn decode(word: u64, names: u64) -> Decoded
+// The type of a word over that many names.
+pub fn decode(word: u64, names: u64) -> Result<TypeWord, NoType>
     ensures { result ≡ decode_word names word }
 {
     if is_legal(word, names) {
-        Decoded::Good(TypeWord { word: word })
+        Ok(TypeWord { word: word })
     } else {
-        Decoded::Refused(NO_TYPE)
+        Err(NoType { word })
     }
 }
 
@@ -359,28 +345,29 @@ impl TypeWord {
         tag == 1
     }
 
-    pub fn element(self) -> MaybeType
+    pub fn element(self) -> Option<TypeWord>
         ensures { result ≡ element_word self.word }
     {
         let w = self.word;
         if DIMENSION <= w {
-            return MaybeType::Is(TypeWord {
+            return Some(TypeWord {
                 word: w - DIMENSION,
             });
         }
-        MaybeType::Nothing
+        None
     }
 
-    pub fn array(self) -> Arrayed
+    // The array of this type; of one with 255 dimensions there is none.
+    pub fn array(self) -> Option<TypeWord>
         ensures { result ≡ array_word self.word }
     {
         let w = self.word;
         if w < FULL {
-            return Arrayed::Of(TypeWord {
+            return Some(TypeWord {
                 word: w + DIMENSION,
             });
         }
-        Arrayed::Deep
+        None
     }
 
     // The set of categories, one bit each: of a class Object, of an array Array.
@@ -404,34 +391,34 @@ impl TypeWord {
     }
 
     // The concrete type that this one hints at; `object` is the number of java/lang/Object.
-    pub fn concrete_hint(self, object: u64) -> MaybeType
+    pub fn concrete_hint(self, object: u64) -> Option<TypeWord>
         requires { object < 1024 }
         ensures { result ≡ maybe_word (concrete_hint object (type_of self.word)) }
     {
         if self.is_known() {
             if self.is_concrete() {
-                return MaybeType::Is(self);
+                return Some(self);
             }
-            return MaybeType::Nothing;
+            return None;
         }
         single_hint(self.load(), object)
     }
 }
 
 // The hint of an Unknown's list: of one category alone.
-fn single_hint(load: u64, object: u64) -> MaybeType
+fn single_hint(load: u64, object: u64) -> Option<TypeWord>
     requires { object < 1024 }
     ensures { result ≡ maybe_word (hint_of_list object (list_of load)) }
 {
     if load / LENGTH != 1 {
-        return MaybeType::Nothing;
+        return None;
     }
     let c = digit(load, 0);
     if c == OBJECT {
-        return MaybeType::Is(TypeWord { word: TAG + object });
+        return Some(TypeWord { word: TAG + object });
     }
     if c == ARRAY {
-        return MaybeType::Nothing;
+        return None;
     }
-    MaybeType::Is(TypeWord { word: c })
+    Some(TypeWord { word: c })
 }

@@ -13,15 +13,15 @@ use Rattle.candidates.proofs.with_bound.Goals as goal
 pub with_hint-requires : goal.with_hint-requires
 with_hint-requires c =
     let a = c.args in
-    (c.requires.0, c.requires.2, subst LegalMaybe c.in-Is.is (hint-word a.t.object a.bound.word c.concrete_hint.result c.requires.1 (omega arith) c.requires.3 c.concrete_hint.ensures), c.requires.4)
+    (c.requires.0, c.requires.2, subst LegalMaybe c.in-Some.is (hint-word a.t.object a.bound.word c.concrete_hint.result c.requires.1 (omega arith) c.requires.3 c.concrete_hint.ensures), c.requires.4)
 
-pub returns-in-Is : goal.returns-in-Is
-returns-in-Is c =
+pub returns-in-Some : goal.returns-in-Some
+returns-in-Some c =
     let a = c.args in
     let r = c.with_hint.ensures in
-    (r.0, r.1 ∙ ap (λ (o : Option ArgType). candidate (world_of a.pairs.now a.marks.now a.t) (map type_of a.upper.now) o (maybe_type a.best)) (ap maybe_type (sym c.in-Is.is) ∙ hint-type a.t.object a.bound.word c.concrete_hint.result c.requires.1 (omega arith) c.requires.3 c.concrete_hint.ensures))
+    (r.0, r.1 ∙ ap (λ (o : Option ArgType). candidate (world_of a.pairs.now a.marks.now a.t) (map type_of a.upper.now) o (maybe_type a.best)) (ap maybe_type (sym c.in-Some.is) ∙ hint-type a.t.object a.bound.word c.concrete_hint.result c.requires.1 (omega arith) c.requires.3 c.concrete_hint.ensures))
 
-pub returns-in-Nothing : goal.returns-in-Nothing
-returns-in-Nothing c =
+pub returns-in-None : goal.returns-in-None
+returns-in-None c =
     let a = c.args in
-    (c.requires.4, ap (λ (o : Option ArgType). candidate (world_of a.pairs.now a.marks.now a.t) (map type_of a.upper.now) o (maybe_type a.best)) (ap maybe_type (sym c.in-Nothing.is) ∙ hint-type a.t.object a.bound.word c.concrete_hint.result c.requires.1 (omega arith) c.requires.3 c.concrete_hint.ensures))
+    (c.requires.4, ap (λ (o : Option ArgType). candidate (world_of a.pairs.now a.marks.now a.t) (map type_of a.upper.now) o (maybe_type a.best)) (ap maybe_type (sym c.in-None.is) ∙ hint-type a.t.object a.bound.word c.concrete_hint.result c.requires.1 (omega arith) c.requires.3 c.concrete_hint.ensures))

@@ -6,7 +6,7 @@ use Prim.Native.Nat.{ℕ, ◌+◌, ◌<◌, ◌^◌}
 use native.Mathlib.Omega.{arith}
 use lib.ListN.{get_or}
 use Rattle.ty.specs.Words.{type_of, legal_word}
-use Rattle.ty.specs.declared.MaybeType.TheVariants.{Is}
+use Rattle.std.specs.Prelude.{Some}
 use Rattle.ty.specs.Types.{ArgType}
 use Rattle.ty.specs.Answers.{word, maybe_word}
 use Rattle.ty.specs.Round.{word-of-type}
@@ -59,4 +59,4 @@ returns c =
     let x = l.all.word in
     sym
     (ap maybe_word (l.invariant.2 ∙ ap some (all-end (world_of a.pairs.now a.marks.now a.t) a.words.now (type_of x) l.i (omega arith)))
-    ∙ ap (λ (y : ℕ). Is (word y)) (word-of-type a.t.names x l.invariant.1))
+    ∙ ap (λ (y : ℕ). Some (word y)) (word-of-type a.t.names x l.invariant.1))

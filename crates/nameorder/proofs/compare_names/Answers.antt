@@ -8,7 +8,7 @@ use lib.ListN.{length, get_or, drop, drop_of_length-le}
 use lib.Seq.{drop-cons}
 use Rattle.order.specs.Laws.{numbers-same, numbers-by}
 use Rattle.order.specs.Compare.{compare_numbers, compare_lists, then}
-use Rattle.order.specs.declared.Order.{Order}
+use Rattle.std.specs.declared.cmp.Ordering.{Ordering}
 use Rattle.nameorder.proofs.compare_names.Goals as goal
 
 -- ---- the comparison from i on
@@ -23,13 +23,13 @@ module _ (a b : List ℕ) (i : ℕ) where
   unfolding compare_lists
   other-byte p q ne =
       rw (drop-cons a i 0, drop-cons b i 0)
-      (numbers-by (λ (o : Order). then o (compare_lists (drop (suc i) a) (drop (suc i) b)) ≡ o) (get_or a i 0) (get_or b i 0)
+      (numbers-by (λ (o : Ordering). then o (compare_lists (drop (suc i) a) (drop (suc i) b)) ≡ o) (get_or a i 0) (get_or b i 0)
       (λ h. refl) (λ h. absurd (ne h)) (λ h. refl))
 
   one-ended : i ≡ min (length a) (length b) → compare_lists (drop i a) (drop i b) ≡ compare_numbers (length a) (length b)
   unfolding compare_lists
   one-ended e =
-      numbers-by (λ (o : Order). compare_lists (drop i a) (drop i b) ≡ o) (length a) (length b)
+      numbers-by (λ (o : Ordering). compare_lists (drop i a) (drop i b) ≡ o) (length a) (length b)
       (λ h. rw (drop_of_length-le a {i = i} (omega arith), drop-cons b i 0 (omega arith)))
       (λ h. rw (drop_of_length-le a {i = i} (omega arith), drop_of_length-le b {i = i} (omega arith)))
       (λ h. rw (drop-cons a i 0 (omega arith), drop_of_length-le b {i = i} (omega arith)))

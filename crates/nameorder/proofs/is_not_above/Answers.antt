@@ -8,7 +8,7 @@ use lib.Dec.{ltb}
 use lib.ListN.{length, take, drop, length-drop}
 use lib.Seq.{take_all}
 use Rattle.order.specs.Compare.{compare_lists, is_less}
-use Rattle.order.specs.declared.Order.{Order}
+use Rattle.std.specs.declared.cmp.Ordering.{Ordering}
 use Rattle.nameorder.proofs.is_not_above.Goals as goal
 
 -- what is left from i on
@@ -20,5 +20,5 @@ returns c =
     let p = c.skip_same-i in
     let a = c.args in
     c.rest_is_not_above.ensures
-    ∙ ap (λ (o : Order). ltb 0 a.count && not (is_less o))
+    ∙ ap (λ (o : Ordering). ltb 0 a.count && not (is_less o))
     (ap₂ compare_lists (left a.last.now p.result) (left a.name.now p.result) ∙ sym p.ensures.1)

@@ -7,11 +7,11 @@ use native.Mathlib.Omega.{arith}
 use lib.Dec.{ltb}
 use borrow.Author.Tests.{lt-ltb, le-ltb}
 use Rattle.order.specs.Compare.{compare_lists, is_less}
-use Rattle.order.specs.declared.Order.{Order}
+use Rattle.std.specs.declared.cmp.Ordering.{Ordering}
 use Rattle.nameorder.proofs.rest_is_not_above.Goals as goal
 
 -- after the first name, by the order found
-later : (count : ℕ) (last name : List ℕ) (o r : Order) → (count ≡ 0 → ⊥) → r ≡ compare_lists last name → r ≡ o
+later : (count : ℕ) (last name : List ℕ) (o r : Ordering) → (count ≡ 0 → ⊥) → r ≡ compare_lists last name → r ≡ o
     → not (is_less o) ≡ (ltb 0 count && not (is_less (compare_lists last name)))
 later count last name o r z e t = rw (lt-ltb 0 count (omega arith), ← e, t)
 

@@ -5,9 +5,9 @@ use Rattle.resolving.proofs.differs_from.Goals as goal
 pub returns-then-hint-u : goal.returns-then-hint-u
 returns-then-hint-u c =
     let a = c.args in
-    differs-not a.hint a.found c.in-Is.u c.in-Is.is c.if-hint-u.true
+    differs-not a.hint a.found c.in-Some.u c.in-Some.is c.if-hint-u.true
 
 pub returns-else-hint-u : goal.returns-else-hint-u
 returns-else-hint-u c =
     let a = c.args in
-    differs-yes a.hint a.found c.in-Is.u c.in-Is.is c.if-hint-u.false
+    differs-yes a.hint a.found c.in-Some.u c.in-Some.is c.if-hint-u.false

@@ -3,7 +3,7 @@ use mathlib.Core.Path.{◌∙◌}
 use Rattle.resolving.specs.Laws.{element-is}
 use Rattle.resolving.proofs.element_in.Goals as goal
 
-pub returns-in-Is : goal.returns-in-Is
-returns-in-Is c =
+pub returns-in-Some : goal.returns-in-Some
+returns-in-Some c =
     let a = c.args in
-    c.element.ensures ∙ element-is a.array c.in-Is.u c.in-Is.is c.requires
+    c.element.ensures ∙ element-is a.array c.in-Some.u c.in-Some.is c.requires

@@ -25,25 +25,25 @@ fallback_passes-requires c =
     let a = c.args in
     let p = c.requires in
     let m = c.only_concrete in
-    (p.0, is-legal m.result c.in-Is.ty c.in-Is.is m.ensures.0, p.1, p.2)
+    (p.0, is-legal m.result c.in-Some.ty c.in-Some.is m.ensures.0, p.1, p.2)
 
-pub returns-in-Is : goal.returns-in-Is
+pub returns-in-Some : goal.returns-in-Some
 unfolding by_fallback
-returns-in-Is c =
+returns-in-Some c =
     let a = c.args in
     let fits = c.requires.0.1 in
     let m = c.only_concrete in
     let j = c.join_all-joined in
     c.kept.ensures
-    ∙ pass-is m.result c.in-Is.ty c.in-Is.is c.fallback_passes.result (fallback_passes (world_of a.pairs.now a.marks.now a.t) (map type_of a.upper.now) (map type_of a.domain.now)) m.ensures.0 c.fallback_passes.ensures
+    ∙ pass-is m.result c.in-Some.ty c.in-Some.is c.fallback_passes.result (fallback_passes (world_of a.pairs.now a.marks.now a.t) (map type_of a.upper.now) (map type_of a.domain.now)) m.ensures.0 c.fallback_passes.ensures
     ∙ ap (λ (o : Option ArgType). maybe_word (passing o (fallback_passes (world_of a.pairs.now a.marks.now a.t) (map type_of a.upper.now) (map type_of a.domain.now)))) (m.ensures.1 ∙ ap only_concrete (word-types a.t fits (join_all (world_of a.pairs.now a.marks.now a.t) (map type_of a.fallback.now)) (join-option a.pairs.now a.marks.now a.t fits a.fallback.now c.requires.3.0 (λ i. omega (arith, (c.type_inv.fallback i).fits))) j.result j.ensures))
 
-pub returns-in-Nothing : goal.returns-in-Nothing
+pub returns-in-None : goal.returns-in-None
 unfolding by_fallback
-returns-in-Nothing c =
+returns-in-None c =
     let a = c.args in
     let fits = c.requires.0.1 in
     let m = c.only_concrete in
     let j = c.join_all-joined in
-    pass-none m.result c.in-Nothing.is (fallback_passes (world_of a.pairs.now a.marks.now a.t) (map type_of a.upper.now) (map type_of a.domain.now))
+    pass-none m.result c.in-None.is (fallback_passes (world_of a.pairs.now a.marks.now a.t) (map type_of a.upper.now) (map type_of a.domain.now))
     ∙ ap (λ (o : Option ArgType). maybe_word (passing o (fallback_passes (world_of a.pairs.now a.marks.now a.t) (map type_of a.upper.now) (map type_of a.domain.now)))) (m.ensures.1 ∙ ap only_concrete (word-types a.t fits (join_all (world_of a.pairs.now a.marks.now a.t) (map type_of a.fallback.now)) (join-option a.pairs.now a.marks.now a.t fits a.fallback.now c.requires.3.0 (λ i. omega (arith, (c.type_inv.fallback i).fits))) j.result j.ensures))

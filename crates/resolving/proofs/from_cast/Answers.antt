@@ -8,18 +8,18 @@ use Rattle.resolving.specs.Bounds.{by_cast, from_fallback, from_cast}
 use Rattle.resolving.specs.Laws.{way-is, way-none}
 use Rattle.resolving.proofs.from_cast.Goals as goal
 
-pub returns-in-Is : goal.returns-in-Is
+pub returns-in-Some : goal.returns-in-Some
 unfolding from_cast
-returns-in-Is c =
+returns-in-Some c =
     let a = c.args in
     let m = c.evidence_cast in
     let w = world_of a.pairs.now a.marks.now a.t in
-    way-is m.result c.in-Is.ty c.in-Is.is (by_cast w (maybe_type a.evidence) (map type_of a.upper.now) (map type_of a.domain.now)) (from_fallback w (map type_of a.upper.now) (map type_of a.domain.now) (map type_of a.fallback.now)) m.ensures
+    way-is m.result c.in-Some.ty c.in-Some.is (by_cast w (maybe_type a.evidence) (map type_of a.upper.now) (map type_of a.domain.now)) (from_fallback w (map type_of a.upper.now) (map type_of a.domain.now) (map type_of a.fallback.now)) m.ensures
 
-pub returns-in-Nothing : goal.returns-in-Nothing
+pub returns-in-None : goal.returns-in-None
 unfolding from_cast
-returns-in-Nothing c =
+returns-in-None c =
     let a = c.args in
     let m = c.evidence_cast in
     let w = world_of a.pairs.now a.marks.now a.t in
-    c.from_fallback.ensures ∙ way-none m.result c.in-Nothing.is (by_cast w (maybe_type a.evidence) (map type_of a.upper.now) (map type_of a.domain.now)) (from_fallback w (map type_of a.upper.now) (map type_of a.domain.now) (map type_of a.fallback.now)) m.ensures
+    c.from_fallback.ensures ∙ way-none m.result c.in-None.is (by_cast w (maybe_type a.evidence) (map type_of a.upper.now) (map type_of a.domain.now)) (from_fallback w (map type_of a.upper.now) (map type_of a.domain.now) (map type_of a.fallback.now)) m.ensures

@@ -7,18 +7,18 @@ use Rattle.resolving.specs.Bounds.{by_fallback, by_hint, from_fallback}
 use Rattle.resolving.specs.Laws.{way-is, way-none}
 use Rattle.resolving.proofs.from_fallback.Goals as goal
 
-pub returns-in-Is : goal.returns-in-Is
+pub returns-in-Some : goal.returns-in-Some
 unfolding from_fallback
-returns-in-Is c =
+returns-in-Some c =
     let a = c.args in
     let m = c.fallback_join in
     let w = world_of a.pairs.now a.marks.now a.t in
-    way-is m.result c.in-Is.ty c.in-Is.is (by_fallback w (map type_of a.upper.now) (map type_of a.domain.now) (map type_of a.fallback.now)) (by_hint w (map type_of a.upper.now) (map type_of a.domain.now)) m.ensures
+    way-is m.result c.in-Some.ty c.in-Some.is (by_fallback w (map type_of a.upper.now) (map type_of a.domain.now) (map type_of a.fallback.now)) (by_hint w (map type_of a.upper.now) (map type_of a.domain.now)) m.ensures
 
-pub returns-in-Nothing : goal.returns-in-Nothing
+pub returns-in-None : goal.returns-in-None
 unfolding from_fallback
-returns-in-Nothing c =
+returns-in-None c =
     let a = c.args in
     let m = c.fallback_join in
     let w = world_of a.pairs.now a.marks.now a.t in
-    c.domain_hint.ensures ∙ way-none m.result c.in-Nothing.is (by_fallback w (map type_of a.upper.now) (map type_of a.domain.now) (map type_of a.fallback.now)) (by_hint w (map type_of a.upper.now) (map type_of a.domain.now)) m.ensures
+    c.domain_hint.ensures ∙ way-none m.result c.in-None.is (by_fallback w (map type_of a.upper.now) (map type_of a.domain.now) (map type_of a.fallback.now)) (by_hint w (map type_of a.upper.now) (map type_of a.domain.now)) m.ensures

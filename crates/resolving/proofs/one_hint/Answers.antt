@@ -5,7 +5,7 @@ use mathlib.Core.Option.{Option}
 use Prim.Native.Nat.{ℕ, ◌-◌, ◌^◌, ◌<◌}
 use native.Mathlib.Omega.{arith}
 use lib.ListN.{length, get_or}
-use Rattle.ty.specs.declared.MaybeType.{MaybeType}
+use Rattle.ty.specs.Answers.{MaybeType}
 use Rattle.ty.specs.Types.{ArgType}
 use Rattle.ty.specs.Words.{type_of}
 use Rattle.candidates.specs.Maybe.{LegalMaybe, maybe_type, hint-type, hint-word}

@@ -17,8 +17,8 @@ only_concrete-evidence-requires c =
     let fits = c.requires.0.1 in
     word-legal a.t fits (produced_type (world_of a.pairs.now a.marks.now a.t) (state_in a.exact.now a.lower.now [] [] [])) (produced-option a.pairs.now a.marks.now a.t fits a.exact.now a.lower.now c.requires.1.0 (λ i. omega (arith, (c.type_inv.exact i).fits)) c.requires.2.0 (λ i. omega (arith, (c.type_inv.lower i).fits))) c.produced_type-produced.result c.produced_type-produced.ensures
 
-pub returns-in-Is : goal.returns-in-Is
-returns-in-Is c =
+pub returns-in-Some : goal.returns-in-Some
+returns-in-Some c =
     let a = c.args in
     let w = world_of a.pairs.now a.marks.now a.t in
     let fits = c.requires.0.1 in
@@ -28,10 +28,10 @@ returns-in-Is c =
     let o = maybe_type v.result in
     let all = ways-all w a.exact.now a.lower.now a.upper.now a.domain.now a.fallback.now o
     (v.ensures.1 ∙ ap only_concrete (word-types a.t fits (produced_type (world_of a.pairs.now a.marks.now a.t) (state_in a.exact.now a.lower.now [] [] [])) (produced-option a.pairs.now a.marks.now a.t fits a.exact.now a.lower.now c.requires.1.0 (λ i. omega (arith, (c.type_inv.exact i).fits)) c.requires.2.0 (λ i. omega (arith, (c.type_inv.lower i).fits))) q.result q.ensures ∙ produced-alone w a.exact.now a.lower.now a.upper.now a.domain.now a.fallback.now)) in
-    way-is m.result c.in-Is.ty c.in-Is.is (fitting w o (map type_of a.upper.now)) (from_upper w o (state_in a.exact.now a.lower.now a.upper.now a.domain.now a.fallback.now)) m.ensures ∙ ap maybe_word all
+    way-is m.result c.in-Some.ty c.in-Some.is (fitting w o (map type_of a.upper.now)) (from_upper w o (state_in a.exact.now a.lower.now a.upper.now a.domain.now a.fallback.now)) m.ensures ∙ ap maybe_word all
 
-pub returns-in-Nothing : goal.returns-in-Nothing
-returns-in-Nothing c =
+pub returns-in-None : goal.returns-in-None
+returns-in-None c =
     let a = c.args in
     let w = world_of a.pairs.now a.marks.now a.t in
     let fits = c.requires.0.1 in
@@ -41,4 +41,4 @@ returns-in-Nothing c =
     let o = maybe_type v.result in
     let all = ways-all w a.exact.now a.lower.now a.upper.now a.domain.now a.fallback.now o
     (v.ensures.1 ∙ ap only_concrete (word-types a.t fits (produced_type (world_of a.pairs.now a.marks.now a.t) (state_in a.exact.now a.lower.now [] [] [])) (produced-option a.pairs.now a.marks.now a.t fits a.exact.now a.lower.now c.requires.1.0 (λ i. omega (arith, (c.type_inv.exact i).fits)) c.requires.2.0 (λ i. omega (arith, (c.type_inv.lower i).fits))) q.result q.ensures ∙ produced-alone w a.exact.now a.lower.now a.upper.now a.domain.now a.fallback.now)) in
-    c.from_upper.ensures ∙ way-none m.result c.in-Nothing.is (fitting w o (map type_of a.upper.now)) (from_upper w o (state_in a.exact.now a.lower.now a.upper.now a.domain.now a.fallback.now)) m.ensures ∙ ap maybe_word all
+    c.from_upper.ensures ∙ way-none m.result c.in-None.is (fitting w o (map type_of a.upper.now)) (from_upper w o (state_in a.exact.now a.lower.now a.upper.now a.domain.now a.fallback.now)) m.ensures ∙ ap maybe_word all

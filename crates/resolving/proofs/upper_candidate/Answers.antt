@@ -25,24 +25,24 @@ upper_passes-requires c =
     let p = c.requires in
     let fits = p.0.1 in
     let m = c.most_specific_upper in
-    (p.0, p.1, p.2, p.4, is-legal m.result c.in-Is.u c.in-Is.is (word-legal a.t fits (most_specific_upper (world_of a.pairs.now a.marks.now a.t) (map type_of a.upper.now)) (specific-option a.pairs.now a.marks.now a.t fits a.upper.now p.3 (λ i. omega (arith, (c.type_inv.upper i).fits))) m.result m.ensures))
+    (p.0, p.1, p.2, p.4, is-legal m.result c.in-Some.u c.in-Some.is (word-legal a.t fits (most_specific_upper (world_of a.pairs.now a.marks.now a.t) (map type_of a.upper.now)) (specific-option a.pairs.now a.marks.now a.t fits a.upper.now p.3 (λ i. omega (arith, (c.type_inv.upper i).fits))) m.result m.ensures))
 
-pub returns-in-Is : goal.returns-in-Is
+pub returns-in-Some : goal.returns-in-Some
 unfolding by_upper
-returns-in-Is c =
+returns-in-Some c =
     let a = c.args in
     let fits = c.requires.0.1 in
     let m = c.most_specific_upper in
     let l = (specific-option a.pairs.now a.marks.now a.t fits a.upper.now c.requires.3 (λ i. omega (arith, (c.type_inv.upper i).fits))) in
     c.kept.ensures
-    ∙ pass-is m.result c.in-Is.u c.in-Is.is c.upper_passes.result (upper_passes (world_of a.pairs.now a.marks.now a.t) (map type_of a.exact.now) (map type_of a.lower.now) (map type_of a.domain.now)) (word-legal a.t fits (most_specific_upper (world_of a.pairs.now a.marks.now a.t) (map type_of a.upper.now)) l m.result m.ensures) c.upper_passes.ensures
+    ∙ pass-is m.result c.in-Some.u c.in-Some.is c.upper_passes.result (upper_passes (world_of a.pairs.now a.marks.now a.t) (map type_of a.exact.now) (map type_of a.lower.now) (map type_of a.domain.now)) (word-legal a.t fits (most_specific_upper (world_of a.pairs.now a.marks.now a.t) (map type_of a.upper.now)) l m.result m.ensures) c.upper_passes.ensures
     ∙ ap (λ (o : Option ArgType). maybe_word (passing o (upper_passes (world_of a.pairs.now a.marks.now a.t) (map type_of a.exact.now) (map type_of a.lower.now) (map type_of a.domain.now)))) (word-types a.t fits (most_specific_upper (world_of a.pairs.now a.marks.now a.t) (map type_of a.upper.now)) l m.result m.ensures)
 
-pub returns-in-Nothing : goal.returns-in-Nothing
+pub returns-in-None : goal.returns-in-None
 unfolding by_upper
-returns-in-Nothing c =
+returns-in-None c =
     let a = c.args in
     let fits = c.requires.0.1 in
     let m = c.most_specific_upper in
-    pass-none m.result c.in-Nothing.is (upper_passes (world_of a.pairs.now a.marks.now a.t) (map type_of a.exact.now) (map type_of a.lower.now) (map type_of a.domain.now))
+    pass-none m.result c.in-None.is (upper_passes (world_of a.pairs.now a.marks.now a.t) (map type_of a.exact.now) (map type_of a.lower.now) (map type_of a.domain.now))
     ∙ ap (λ (o : Option ArgType). maybe_word (passing o (upper_passes (world_of a.pairs.now a.marks.now a.t) (map type_of a.exact.now) (map type_of a.lower.now) (map type_of a.domain.now)))) (word-types a.t fits (most_specific_upper (world_of a.pairs.now a.marks.now a.t) (map type_of a.upper.now)) (specific-option a.pairs.now a.marks.now a.t fits a.upper.now c.requires.3 (λ i. omega (arith, (c.type_inv.upper i).fits))) m.result m.ensures)

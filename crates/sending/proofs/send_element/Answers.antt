@@ -6,7 +6,7 @@ use Rattle.sending.specs.Laws.{element-legal}
 use Rattle.sending.proofs.send_element.Goals as goal
 
 pub send_type-requires : goal.send_type-requires
-send_type-requires c = subst LegalMaybe (sym c.element.ensures) (element-legal c.in-Is.t.word (omega arith) (subst LegalMaybe c.in-Is.is c.requires))
+send_type-requires c = subst LegalMaybe (sym c.element.ensures) (element-legal c.in-Some.t.word (omega arith) (subst LegalMaybe c.in-Some.is c.requires))
 
-pub returns-in-Is : goal.returns-in-Is
-returns-in-Is c = c.send_type.ensures ∙ ap sent_maybe c.element.ensures ∙ sym (ap sent_element c.in-Is.is)
+pub returns-in-Some : goal.returns-in-Some
+returns-in-Some c = c.send_type.ensures ∙ ap sent_maybe c.element.ensures ∙ sym (ap sent_element c.in-Some.is)

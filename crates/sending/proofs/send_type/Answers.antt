@@ -4,7 +4,7 @@ use Rattle.sending.specs.Sending.{LegalMaybe, sent_maybe}
 use Rattle.sending.proofs.send_type.Goals as goal
 
 pub send_word-requires : goal.send_word-requires
-send_word-requires c = subst LegalMaybe c.in-Is.is c.requires
+send_word-requires c = subst LegalMaybe c.in-Some.is c.requires
 
-pub returns-in-Is : goal.returns-in-Is
-returns-in-Is c = c.send_word.ensures ∙ sym (ap sent_maybe c.in-Is.is)
+pub returns-in-Some : goal.returns-in-Some
+returns-in-Some c = c.send_word.ensures ∙ sym (ap sent_maybe c.in-Some.is)

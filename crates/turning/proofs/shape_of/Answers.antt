@@ -6,12 +6,12 @@ use Rattle.solving.specs.Solving.{produced_type}
 use Rattle.turning.specs.Turning.{state_in, shape-is, shape-none}
 use Rattle.turning.proofs.shape_of.Goals as goal
 
-pub returns-in-Is : goal.returns-in-Is
-returns-in-Is c =
+pub returns-in-Some : goal.returns-in-Some
+returns-in-Some c =
     let x = c.args in
-    shape-is (produced_type (world_of x.pairs.now x.marks.now x.t) (state_in x.keys.now x.root)) (most_specific_upper (world_of x.pairs.now x.marks.now x.t) (state_in x.keys.now x.root).upper) x.produced c.requires.3 c.in-Is.field-0 c.in-Is.is
+    shape-is (produced_type (world_of x.pairs.now x.marks.now x.t) (state_in x.keys.now x.root)) (most_specific_upper (world_of x.pairs.now x.marks.now x.t) (state_in x.keys.now x.root).upper) x.produced c.requires.3 c.in-Some.field-0 c.in-Some.is
 
-pub returns-in-Nothing : goal.returns-in-Nothing
-returns-in-Nothing c =
+pub returns-in-None : goal.returns-in-None
+returns-in-None c =
     let x = c.args in
-    c.upper_of.ensures ∙ shape-none (produced_type (world_of x.pairs.now x.marks.now x.t) (state_in x.keys.now x.root)) (most_specific_upper (world_of x.pairs.now x.marks.now x.t) (state_in x.keys.now x.root).upper) x.produced c.requires.3 c.in-Nothing.is
+    c.upper_of.ensures ∙ shape-none (produced_type (world_of x.pairs.now x.marks.now x.t) (state_in x.keys.now x.root)) (most_specific_upper (world_of x.pairs.now x.marks.now x.t) (state_in x.keys.now x.root).upper) x.produced c.requires.3 c.in-None.is

@@ -5,6 +5,6 @@ use Rattle.replay_leaves.proofs.on_types.order_of_words.Goals as goal
 
 pub order_of-requires : goal.order_of-requires
 order_of-requires c = (
-  good-type 1024 _ _ (sym c.decode.ensures ∙ c.in-Good.is),
-  good-type 1024 _ _ (sym c.decode-2.ensures ∙ c.in-Good-decode.is),
+  good-type 1024 _ _ (sym c.decode.ensures ∙ c.in-Ok.is),
+  good-type 1024 _ _ (sym c.decode-2.ensures ∙ c.in-Ok-decode.is),
 )

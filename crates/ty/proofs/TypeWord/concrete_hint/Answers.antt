@@ -4,7 +4,7 @@ use Prim.Native.Nat.{ℕ}
 use Rattle.ty.specs.Answers.{word, maybe_word}
 use Rattle.ty.specs.Types.{hint_of_list}
 use Rattle.ty.specs.Words.{list_of, type_of}
-use Rattle.ty.specs.declared.MaybeType.TheVariants.{Is}
+use Rattle.std.specs.Prelude.{Some}
 use Rattle.ty.specs.Steps.{hint-known, hint-vague, hint-unknown, concrete-word}
 use Rattle.ty.proofs.TypeWord.concrete_hint.Goals as goal
 
@@ -13,7 +13,7 @@ returns-then-is_concrete c =
     let a = c.args in
     let t = sym c.is_concrete.ensures ∙ c.if-is_concrete.true in
     sym (ap maybe_word (hint-known a.object (type_of a.self.word) (sym c.is_known.ensures ∙ c.if-is_known.true) t)
-    ∙ ap (λ (w : ℕ). Is (word w)) (concrete-word a.self.word t))
+    ∙ ap (λ (w : ℕ). Some (word w)) (concrete-word a.self.word t))
 
 pub returns-then-is_known : goal.returns-then-is_known
 returns-then-is_known c =
