@@ -12,8 +12,11 @@ pub fn write_columns(keys: &[u64], out_comp: &mut [u64], out_kind: &mut [u64], o
     ensures { Written keys.now out_comp.old out_kind.old out_type.old out_comp.new out_kind.new out_type.new }
 {
     for (i, &key) in keys.iter().enumerate() {
-        out_comp[i] = key_component(key);
-        out_kind[i] = key_kind(key);
-        out_type[i] = key_type(key).word;
+        let component = key_component(key);
+        let kind = key_kind(key);
+        let t = key_type(key);
+        out_comp[i] = component;
+        out_kind[i] = kind;
+        out_type[i] = t.word;
     }
 }

@@ -15,12 +15,12 @@ loop-i-preserved c =
     let l = c.loop-i in
     let k = a.keys.now in (
       omega arith,
-      ap (λ (o : List ℕ). set o l.i c.key_component.result) l.invariant.1
-          ∙ front-more key_component k a.out_comp.now l.i c.key_component.result c.key_component.ensures (omega arith) c.requires.0,
-      ap (λ (o : List ℕ). set o l.i c.key_kind.result) l.invariant.2
-          ∙ front-more key_kind k a.out_kind.now l.i c.key_kind.result c.key_kind.ensures (omega arith) c.requires.1,
-      ap (λ (o : List ℕ). set o l.i c.key_type.result.word) l.invariant.3
-          ∙ front-more word_in k a.out_type.now l.i c.key_type.result.word c.key_type.ensures (omega arith) c.requires.2,
+      ap (λ (o : List ℕ). set o l.i c.key_component-component.result) l.invariant.1
+          ∙ front-more key_component k a.out_comp.now l.i c.key_component-component.result c.key_component-component.ensures (omega arith) c.requires.0,
+      ap (λ (o : List ℕ). set o l.i c.key_kind-kind.result) l.invariant.2
+          ∙ front-more key_kind k a.out_kind.now l.i c.key_kind-kind.result c.key_kind-kind.ensures (omega arith) c.requires.1,
+      ap (λ (o : List ℕ). set o l.i c.key_type-t.result.word) l.invariant.3
+          ∙ front-more word_in k a.out_type.now l.i c.key_type-t.result.word c.key_type-t.ensures (omega arith) c.requires.2,
     )
 
 pub returns : goal.returns
