@@ -39,11 +39,11 @@ pub fn copy_state(keys: &[u64], component: u64, out: &mut [u64]) -> Parts
     let lower = copy_words(keys, component, 3, out, upper);
     let exact = copy_words(keys, component, 4, out, lower);
     Parts {
-        domain: domain,
-        fallback: fallback,
-        upper: upper,
-        lower: lower,
-        exact: exact,
+        domain,
+        fallback,
+        upper,
+        lower,
+        exact,
     }
 }
 
@@ -52,20 +52,15 @@ fn answer_from(pairs: &[u64], marks: &[u64], t: Tables, out: &[u64], p: Parts) -
     requires { Classed pairs.now marks.now t × InOrder p out.now × PartsLegal t p out.now }
     ensures { result ≡ maybe_word (resolve_state (world_of pairs.now marks.now t) (parts_state p out.now)) }
 {
-    let domain = p.domain;
-    let fallback = p.fallback;
-    let upper = p.upper;
-    let lower = p.lower;
-    let exact = p.exact;
     resolve_state(
         pairs,
         marks,
         t,
-        &out[lower..exact],
-        &out[upper..lower],
-        &out[fallback..upper],
-        &out[0..domain],
-        &out[domain..fallback],
+        &out[p.lower..p.exact],
+        &out[p.upper..p.lower],
+        &out[p.fallback..p.upper],
+        &out[..p.domain],
+        &out[p.domain..p.fallback],
     )
 }
 
@@ -82,9 +77,7 @@ pub fn answer(
     ensures { result ≡ maybe_word (resolve_state (world_of pairs.now marks.now t) (state_of (table_in keys.now) component)) }
 {
     let of = sorted::run(keys, keys.len(), COMPONENT, component);
-    let first = of.first;
-    let past = of.past;
-    let p = copy_state(&keys[first..past], component, out);
+    let p = copy_state(&keys[of.first..of.past], component, out);
     answer_from(pairs, marks, t, out, p)
 }
 
@@ -94,7 +87,7 @@ fn word_in(m: Option<TypeWord>) -> u64
 {
     match m {
         Some(t) => t.word,
-        None => 18446744073709551615,
+        None => u64::MAX,
     }
 }
 
@@ -115,8 +108,7 @@ fn word_of(
     if seen != 0 {
         return into[(seen - 1) as usize];
     }
-    let m = answer(pairs, marks, t, keys, component, out);
-    word_in(m)
+    word_in(answer(pairs, marks, t, keys, component, out))
 }
 
 // Each variable's answer. `places` has for each component the place after the last variable of it.
@@ -133,14 +125,11 @@ fn answers_once(
     requires { Classed pairs.now marks.now t × Final t.names keys.now × Below 512 variables.now × (length keys.now ≤ length out.old) × (length variables.now ≤ length into.old) × (places.old ≡ replicate 512 0) }
     ensures { into.new ≡ paste into.old 0 (answer_words (world_of pairs.now marks.now t) (table_in keys.now) variables.now) (length variables.now) }
 {
-    let mut i: usize = 0;
-    while i < variables.len() {
-        let c = variables[i];
+    for (i, &c) in variables.iter().enumerate() {
         let k = c as usize;
         let seen = places[k];
         into[i] = word_of(pairs, marks, t, keys, c, out, into, seen);
-        i += 1;
-        places[k] = i as u64;
+        places[k] = i as u64 + 1;
     }
 }
 

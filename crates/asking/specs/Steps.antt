@@ -1,5 +1,6 @@
 -- The tests link by link, and by bisection.
 use Rattle.std.specs.Prelude.{◌≡◌, refl, Bool, true, false, cond, ◌||◌, List, [], ◌∷◌, map, ℕ, suc, ◌+◌, ◌-◌, ◌/◌, ◌%◌, ◌≤◌, ◌<◌, eqb, ltb, length, take, drop, get_or}
+use Rattle.std.specs.List.{list_any}
 use Rattle.std.proofs.Common.{sym, ap, ◌∙◌, arith, add-one, length-take, length-drop, drop_of_length-le, lt-ltb, le-ltb, ltb-true, ltb-false}
 use Rattle.std.proofs.lemmas.List.{length-map}
 use Rattle.std.proofs.Math.Seq.{drop-cons}
@@ -13,23 +14,15 @@ use Rattle.asking.specs.Asking.{begins, touches}
 
 -- ---- link by link
 
-module _ (root : ℕ) (l : List ℕ) (i : ℕ) where
-  pub begins-next : i < length l → (b : Bool) → eqb (get_or l i 0 / 512) root ≡ b → begins root (map pair_of (drop i l)) ≡ (b || begins root (map pair_of (drop (i + 1) l)))
-  unfolding begins
-  begins-next h b e = rw (add-one i, drop-cons l i 0 h) (ap (λ (c : Bool). c || begins root (map pair_of (drop (suc i) l))) e)
+pub any-begins : (root : ℕ) (l : List ℕ) → list_any (λ x. eqb (x / 512) root) l ≡ begins root (map pair_of l)
+unfolding begins
+any-begins root [] = refl
+any-begins root (x ∷ l) = ap (λ (b : Bool). eqb (x / 512) root || b) (any-begins root l)
 
-  pub begins-end : length l ≤ i → begins root (map pair_of (drop i l)) ≡ false
-  unfolding begins
-  begins-end h = rw (drop_of_length-le l h)
-
-  pub touches-next : i < length l → (b : Bool) → (eqb (get_or l i 0 / 512) root || eqb (get_or l i 0 % 512) root) ≡ b
-      → touches root (map pair_of (drop i l)) ≡ (b || touches root (map pair_of (drop (i + 1) l)))
-  unfolding touches
-  touches-next h b e = rw (add-one i, drop-cons l i 0 h) (ap (λ (c : Bool). c || touches root (map pair_of (drop (suc i) l))) e)
-
-  pub touches-end : length l ≤ i → touches root (map pair_of (drop i l)) ≡ false
-  unfolding touches
-  touches-end h = rw (drop_of_length-le l h)
+pub any-touches : (root : ℕ) (l : List ℕ) → list_any (λ x. eqb (x / 512) root || eqb (x % 512) root) l ≡ touches root (map pair_of l)
+unfolding touches
+any-touches root [] = refl
+any-touches root (x ∷ l) = ap (λ (b : Bool). (eqb (x / 512) root || eqb (x % 512) root) || b) (any-touches root l)
 
 -- ---- by bisection
 
@@ -57,11 +50,3 @@ module _ (root : ℕ) (links : List ℕ) (o : Sorted links) (r : Span) (e : r �
       go : (b : Bool) → ltb r.first r.past ≡ b → b ≡ ltb 0 (length (partners root (map pair_of links)))
       go true h = sym (lt-ltb 0 (length (partners root (map pair_of links))) (let m = many in let k = ltb-true r.first r.past h in omega arith))
       go false h = sym (le-ltb 0 (length (partners root (map pair_of links))) (let m = many in let k = ltb-false r.first r.past h in omega arith))
-
--- ---- one test after the other
-
-pub or-first : (a b : Bool) → a ≡ true → true ≡ (a || b)
-or-first a b e = sym (ap (λ (c : Bool). c || b) e)
-
-pub or-rest : (a b : Bool) → a ≡ false → b ≡ (a || b)
-or-rest a b e = sym (ap (λ (c : Bool). c || b) e)

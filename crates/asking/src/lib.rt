@@ -20,70 +20,41 @@ fn has_target(flows: &[u64], root: u64) -> bool
     ensures { result ≡ begins root (map pair_of flows.now) }
 {
     let of = sorted::run(flows, flows.len(), 512, root);
-    let first = of.first;
-    let past = of.past;
-    first < past
+    of.first < of.past
 }
 
 // Whether a link begins with the root.
 fn is_array(links: &[u64], root: u64) -> bool
     ensures { result ≡ begins root (map pair_of links.now) }
 {
-    let mut i: usize = 0;
-    while i < links.len() {
-        if links[i] / 512 == root {
-            return true;
-        }
-        i += 1;
-    }
-    false
+    links.iter().any(|link| *link / 512 == root)
 }
 
 // Whether a link has the root on a side.
 fn has_side(link: u64, root: u64) -> bool
     ensures { result ≡ (eqb (link / 512) root || eqb (link % 512) root) }
 {
-    if link / 512 == root {
-        return true;
-    }
-    link % 512 == root
+    link / 512 == root || link % 512 == root
 }
 
 // Whether some link does.
 fn is_touched(links: &[u64], root: u64) -> bool
     ensures { result ≡ touches root (map pair_of links.now) }
 {
-    let mut i: usize = 0;
-    while i < links.len() {
-        let side = has_side(links[i], root);
-        if side {
-            return true;
-        }
-        i += 1;
-    }
-    false
+    links.iter().any(|link| has_side(*link, root))
 }
 
 fn asks_produced(flows: &[u64], reads: &[u64], writes: &[u64], root: u64) -> bool
     requires { Sorted flows.now }
     ensures { result ≡ asks_produced flows.now reads.now writes.now root }
 {
-    if has_target(flows, root) {
-        return true;
-    }
-    if is_touched(reads, root) {
-        return true;
-    }
-    is_touched(writes, root)
+    has_target(flows, root) || is_touched(reads, root) || is_touched(writes, root)
 }
 
 fn asks_element(reads: &[u64], writes: &[u64], root: u64) -> bool
     ensures { result ≡ asks_element reads.now writes.now root }
 {
-    if is_array(reads, root) {
-        return true;
-    }
-    is_array(writes, root)
+    is_array(reads, root) || is_array(writes, root)
 }
 
 // Of the turn of a component.
@@ -91,10 +62,8 @@ pub fn asks(flows: &[u64], reads: &[u64], writes: &[u64], root: u64) -> Asked
     requires { Sorted flows.now }
     ensures { result ≡ asked_of flows.now reads.now writes.now root }
 {
-    let produced = asks_produced(flows, reads, writes, root);
-    let element = asks_element(reads, writes, root);
     Asked {
-        produced: produced,
-        element: element,
+        produced: asks_produced(flows, reads, writes, root),
+        element: asks_element(reads, writes, root),
     }
 }

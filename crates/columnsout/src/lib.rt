@@ -11,15 +11,12 @@ pub fn write_columns(keys: &[u64], out_comp: &mut [u64], out_kind: &mut [u64], o
     requires { (length keys.now ≤ length out_comp.old) × (length keys.now ≤ length out_kind.old) × (length keys.now ≤ length out_type.old) }
     ensures { Written keys.now out_comp.old out_kind.old out_type.old out_comp.new out_kind.new out_type.new }
 {
-    let mut i: usize = 0;
-    while i < keys.len() {
-        let k = keys[i];
-        let t = key_type(k);
-        let component = key_component(k);
-        let kind = key_kind(k);
+    for (i, &key) in keys.iter().enumerate() {
+        let component = key_component(key);
+        let kind = key_kind(key);
+        let t = key_type(key);
         out_comp[i] = component;
         out_kind[i] = kind;
         out_type[i] = t.word;
-        i += 1;
     }
 }

@@ -1,5 +1,5 @@
 -- What the contracts of the copies cite.
-use Rattle.std.specs.Prelude.{List, [], ◌∷◌, ◌++◌, map, ℕ, ◌-◌, ◌%◌, ◌^◌, take, drop}
+use Rattle.std.specs.Prelude.{◌≡◌, List, [], ◌∷◌, ◌++◌, map, ℕ, ◌-◌, ◌%◌, ◌^◌, take, drop}
 use Rattle.sorted.specs.declared.Span.{Span}
 use Rattle.sorted.specs.Sorted.{run_of}
 use Rattle.ty.specs.Words.{word_of}
@@ -39,3 +39,7 @@ evidence_in c keys = or_lower (run_in c Exact keys) (run_in c Lower keys)
 -- the keys of what goes to the sources
 abbrev pub uppers_in : ℕ → List ℕ → List ℕ
 uppers_in c keys = run_in c Upper keys ++ run_in c Exact keys
+
+-- what a call gives of a word: f of it
+abbrev pub Computes : (ℕ → Type 0) → (ℕ → ℕ → Type 0) → (ℕ → ℕ) → Type 0
+Computes Pre Post f = (x : ℕ) → Pre x × ((r : ℕ) → Post x r → r ≡ f x)

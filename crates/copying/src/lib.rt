@@ -2,36 +2,33 @@
 // sorted keys of a table into a lent slice.
 #![tactic(auto)]
 
-ghost use Rattle.std.specs.Prelude.{◌≡◌, ◌+◌, ◌≤◌, ◌<◌, length};
+ghost use Rattle.std.specs.Prelude.{◌≡◌, map, ℕ, ◌+◌, ◌≤◌, ◌<◌, length};
 ghost use Rattle.std.proofs.Math.Seq.{paste};
 ghost use Rattle.sorted.specs.Sorted.{Sorted};
-ghost use Rattle.copying.specs.Copies.{run_in, ranks_in, words_in, evidence_in, uppers_in};
+ghost use Rattle.copying.specs.Copies.{Computes, run_in, ranks_in, words_in, evidence_in, uppers_in};
 
 use keys::{KIND, key_type};
 
-// The ranks of some keys, from `at` on.
-fn ranks_at(keys: &[u64], out: &mut [u64], at: usize)
-    requires { at + length keys.now ≤ length out.old }
-    ensures { out.new ≡ paste out.old at (ranks_in keys.now) (length keys.now) }
+// What a component's bounds of one kind give, ascending, from `at` on; hands back the place after the last.
+fn copy_run<F: Fn(u64) -> u64>(
+    keys: &[u64],
+    component: u64,
+    kind: u64,
+    out: &mut [u64],
+    at: usize,
+    of_key: F,
+) -> usize
+    ghost of: { ℕ → ℕ }
+    requires { Sorted keys.now × (component < 512) × (kind < 8) × (at + length (run_in component kind keys.now) ≤ length out.old) × Computes (F.pre of_key) (F.post of_key) of }
+    ensures { (result ≡ at + length (run_in component kind keys.now)) × (out.new ≡ paste out.old at (map of (run_in component kind keys.now)) (length (run_in component kind keys.now))) }
 {
-    let mut i: usize = 0;
-    while i < keys.len() {
-        out[at + i] = keys[i] % KIND;
-        i += 1;
+    let own = sorted::run(keys, keys.len(), KIND, component * 8 + kind);
+    let mut end = at;
+    for &key in &keys[own.first..own.past] {
+        out[end] = of_key(key);
+        end += 1;
     }
-}
-
-// The type words of some keys, from `at` on.
-fn words_at(keys: &[u64], out: &mut [u64], at: usize)
-    requires { at + length keys.now ≤ length out.old }
-    ensures { out.new ≡ paste out.old at (words_in keys.now) (length keys.now) }
-{
-    let mut i: usize = 0;
-    while i < keys.len() {
-        let t = key_type(keys[i]);
-        out[at + i] = t.word;
-        i += 1;
-    }
+    end
 }
 
 // The ranks of a component's bounds of one kind, ascending, from `at` on; hands back the place after the last.
@@ -39,11 +36,7 @@ pub fn copy_ranks(keys: &[u64], component: u64, kind: u64, out: &mut [u64], at: 
     requires { Sorted keys.now × (component < 512) × (kind < 8) × (at + length (run_in component kind keys.now) ≤ length out.old) }
     ensures { (result ≡ at + length (run_in component kind keys.now)) × (out.new ≡ paste out.old at (ranks_in (run_in component kind keys.now)) (length (run_in component kind keys.now))) }
 {
-    let of = sorted::run(keys, keys.len(), KIND, component * 8 + kind);
-    let first = of.first;
-    let past = of.past;
-    ranks_at(&keys[first..past], out, at);
-    at + (past - first)
+    copy_run(keys, component, kind, out, at, |key| key % KIND)
 }
 
 // The same as type words.
@@ -51,11 +44,7 @@ pub fn copy_words(keys: &[u64], component: u64, kind: u64, out: &mut [u64], at: 
     requires { Sorted keys.now × (component < 512) × (kind < 8) × (at + length (run_in component kind keys.now) ≤ length out.old) }
     ensures { (result ≡ at + length (run_in component kind keys.now)) × (out.new ≡ paste out.old at (words_in (run_in component kind keys.now)) (length (run_in component kind keys.now))) }
 {
-    let of = sorted::run(keys, keys.len(), KIND, component * 8 + kind);
-    let first = of.first;
-    let past = of.past;
-    words_at(&keys[first..past], out, at);
-    at + (past - first)
+    copy_run(keys, component, kind, out, at, |key| key_type(key).word)
 }
 
 // The types that say what is produced, as words from the front on: the exact ones, or the lower ones where none is exact.

@@ -2,7 +2,7 @@
 // as sorted keys first * 512 + second. A refusal ends a pass at once.
 #![tactic(auto)]
 
-ghost use Rattle.std.specs.Prelude.{◌≡◌, map, ◌<◌};
+ghost use Rattle.std.specs.Prelude.{◌≡◌, List, map, ◌<◌};
 ghost use Rattle.sorted.specs.Sorted.{Sorted};
 ghost use Rattle.keys.specs.Rank.{unrank};
 ghost use Rattle.solving.specs.Queue.{Below};
@@ -10,111 +10,97 @@ ghost use Rattle.solving.specs.Solving.{partners, to_one, to_each, array_rules};
 ghost use Rattle.solving.specs.Steps.{array_rule};
 ghost use Rattle.solving.specs.LinkKeys.{pair_of};
 ghost use Rattle.inserting.specs.Store.{store, put_all, sent_types, AllRanked, Sendable, Ready};
+ghost use Rattle.ty.specs.Types.{ArgType};
+ghost use Rattle.inserting.specs.Laws.{sent-base};
 ghost use Rattle.passing.specs.Passes.{seconds};
+ghost use Rattle.passing.specs.Steps.{AllBase, ranked-base};
 
 use inserting::{Sent, State, insert_bound, insert_sent};
 
-// What is sent, to the second of each link.
-fn send_each(a: &mut [u64], ring: &mut [u64], s: State, links: &[u64], kind: u64, t: Sent) -> State
-    requires { Ready (store a.old ring.old s) × (kind < 5) × Sendable t }
-    ensures { store a.new ring.new result ≡ put_all (to_each 0 kind (sent_types t) (seconds links.now)) (store a.old ring.old s) }
+// What goes to a component: types, and how they are put among its bounds.
+pub trait Load: Copy {
+    ghost types: { Self → List ArgType };
+
+    ghost fits: { Self → Type 0 };
+
+    fn put(self, a: &mut [u64], ring: &mut [u64], s: State, component: u64, kind: u64) -> State
+        requires { Ready (store a.old ring.old s) × (component < 512) × (kind < 5) × fits self }
+        ensures { store a.new ring.new result ≡ put_all (to_one 0 kind (types self) component) (store a.old ring.old s) };
+
+    // What fits may be given.
+    ghost base: { (x : Self) → fits x → AllBase (types x) };
+}
+
+// The type that is sent, if any.
+impl Load for Sent {
+    ghost types = { sent_types };
+
+    ghost fits = { Sendable };
+
+    ghost base = { sent-base };
+
+    fn put(self, a: &mut [u64], ring: &mut [u64], s: State, component: u64, kind: u64) -> State {
+        insert_sent(a, ring, s, component, kind, self)
+    }
+}
+
+// Types by their ranks.
+impl Load for &[u64] {
+    ghost types = { λ r. map unrank r.now };
+
+    ghost fits = { λ r. AllRanked r.now };
+
+    ghost base = { λ r. ranked-base r.now };
+
+    fn put(self, a: &mut [u64], ring: &mut [u64], s: State, component: u64, kind: u64) -> State {
+        let mut state = s;
+        for &rank in self {
+            state = insert_bound(a, ring, state, component, kind, rank);
+            if state.refusal != 0 {
+                return state;
+            }
+        }
+        state
+    }
+}
+
+// The load, to the second of each link.
+fn send_each<L: Load>(
+    a: &mut [u64],
+    ring: &mut [u64],
+    s: State,
+    links: &[u64],
+    kind: u64,
+    load: L,
+) -> State
+    requires { Ready (store a.old ring.old s) × (kind < 5) × L.fits load }
+    ensures { store a.new ring.new result ≡ put_all (to_each 0 kind (L.types load) (seconds links.now)) (store a.old ring.old s) }
 {
     let mut state = s;
-    let mut i: usize = 0;
-    while i < links.len() {
-        state = insert_sent(a, ring, state, links[i] % 512, kind, t);
+    for &link in links {
+        state = load.put(a, ring, state, link % 512, kind);
         if state.refusal != 0 {
             return state;
         }
-        i += 1;
     }
     state
 }
 
-// What is sent, to each partner of the root.
-pub fn send(
+// The load, to each partner of the root.
+pub fn send<L: Load>(
     a: &mut [u64],
     ring: &mut [u64],
     s: State,
     links: &[u64],
     root: u64,
     kind: u64,
-    t: Sent,
+    load: L,
 ) -> State
-    requires { Ready (store a.old ring.old s) × (kind < 5) × Sendable t × Sorted links.now }
-    ensures { store a.new ring.new result ≡ put_all (to_each 0 kind (sent_types t) (partners root (map pair_of links.now))) (store a.old ring.old s) }
+    requires { Ready (store a.old ring.old s) × (kind < 5) × L.fits load × Sorted links.now }
+    ensures { store a.new ring.new result ≡ put_all (to_each 0 kind (L.types load) (partners root (map pair_of links.now))) (store a.old ring.old s) }
 {
     let of = sorted::run(links, links.len(), 512, root);
-    let first = of.first;
-    let past = of.past;
-    send_each(a, ring, s, &links[first..past], kind, t)
-}
-
-// Types by their ranks, to one component.
-fn send_ranks_to(
-    a: &mut [u64],
-    ring: &mut [u64],
-    s: State,
-    ranks: &[u64],
-    component: u64,
-    kind: u64,
-) -> State
-    requires { Ready (store a.old ring.old s) × (component < 512) × (kind < 5) × AllRanked ranks.now }
-    ensures { store a.new ring.new result ≡ put_all (to_one 0 kind (map unrank ranks.now) component) (store a.old ring.old s) }
-{
-    let mut state = s;
-    let mut i: usize = 0;
-    while i < ranks.len() {
-        state = insert_bound(a, ring, state, component, kind, ranks[i]);
-        if state.refusal != 0 {
-            return state;
-        }
-        i += 1;
-    }
-    state
-}
-
-// The same to the second of each link.
-fn send_ranks_each(
-    a: &mut [u64],
-    ring: &mut [u64],
-    s: State,
-    links: &[u64],
-    kind: u64,
-    ranks: &[u64],
-) -> State
-    requires { Ready (store a.old ring.old s) × (kind < 5) × AllRanked ranks.now }
-    ensures { store a.new ring.new result ≡ put_all (to_each 0 kind (map unrank ranks.now) (seconds links.now)) (store a.old ring.old s) }
-{
-    let mut state = s;
-    let mut i: usize = 0;
-    while i < links.len() {
-        state = send_ranks_to(a, ring, state, ranks, links[i] % 512, kind);
-        if state.refusal != 0 {
-            return state;
-        }
-        i += 1;
-    }
-    state
-}
-
-// The same to each partner of the root.
-pub fn send_ranks(
-    a: &mut [u64],
-    ring: &mut [u64],
-    s: State,
-    links: &[u64],
-    root: u64,
-    kind: u64,
-    ranks: &[u64],
-) -> State
-    requires { Ready (store a.old ring.old s) × (kind < 5) × AllRanked ranks.now × Sorted links.now }
-    ensures { store a.new ring.new result ≡ put_all (to_each 0 kind (map unrank ranks.now) (partners root (map pair_of links.now))) (store a.old ring.old s) }
-{
-    let of = sorted::run(links, links.len(), 512, root);
-    let first = of.first;
-    let past = of.past;
-    send_ranks_each(a, ring, s, &links[first..past], kind, ranks)
+    send_each(a, ring, s, &links[of.first..of.past], kind, load)
 }
 
 // One array constraint: the element to the other side where the root is the array, else the array back where the root is the other side.
@@ -155,13 +141,11 @@ pub fn send_arrays(
     ensures { store a.new ring.new result ≡ put_all (array_rules 0 kind (sent_types element) 0 (sent_types array) root (map pair_of links.now)) (store a.old ring.old s) }
 {
     let mut state = s;
-    let mut i: usize = 0;
-    while i < links.len() {
-        state = send_array(a, ring, state, links[i], root, kind, element, array);
+    for &link in links {
+        state = send_array(a, ring, state, link, root, kind, element, array);
         if state.refusal != 0 {
             return state;
         }
-        i += 1;
     }
     state
 }

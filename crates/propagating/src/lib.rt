@@ -46,21 +46,26 @@ pub fn propagate(
     let mut turns: u64 = 0;
     while 0 < state.queue.len {
         let front = take_front(ring, state);
-        let left = front.state;
         state = turn(
-            pairs, marks, t, a, ring, left, words, fallbacks, uppers, flows, incoming, reads,
-            writes, front.root,
+            pairs,
+            marks,
+            t,
+            a,
+            ring,
+            front.state,
+            words,
+            fallbacks,
+            uppers,
+            flows,
+            incoming,
+            reads,
+            writes,
+            front.root,
         );
         turns += 1;
         if state.refusal != 0 {
-            return Ran {
-                state: state,
-                turns: turns,
-            };
+            return Ran { state, turns };
         }
     }
-    Ran {
-        state: state,
-        turns: turns,
-    }
+    Ran { state, turns }
 }

@@ -1,7 +1,8 @@
 -- What the code goes by: legal words and their types, what is produced, a candidate that passes or not, one way after the other.
-use Rattle.std.specs.Prelude.{◌≡◌, Bool, true, false, cond, ◌&&◌, ℕ, suc, ◌+◌, ◌^◌, ◌≤◌, ◌<◌, drop, get_or, Some, None}
+use Rattle.std.specs.Prelude.{◌≡◌, Bool, true, false, cond, ◌&&◌, ℕ, suc, ◌^◌, ◌<◌, get_or, Some, None}
+use Rattle.std.specs.List.{list_all}
 use Rattle.std.proofs.Math.Path.{refl, ap}
-use Rattle.std.proofs.Common.{sym, ◌∙◌, subst, ⊎_elim, arith, add-one, drop_of_length-le, drop-cons}
+use Rattle.std.proofs.Common.{sym, ◌∙◌, subst, ⊎_elim, arith}
 use mathlib.Core.List.Memᴰ
 use mathlib.Core.List.{List, [], ◌∷◌, map, Memᴰ}
 use Rattle.std.proofs.Math.Option.{Option, some, none}
@@ -19,7 +20,6 @@ use Rattle.lattice.specs.World.{present, world_of, with-lawful}
 use Rattle.lattice.specs.Legality.{join_all-legal, specific-legal}
 use Rattle.joins.specs.Joins.{Fits, AllLegal}
 use Rattle.candidates.specs.Maybe.{LegalMaybe, maybe_type, AllLegal as AllWords}
-use Rattle.candidates.specs.Steps.{types_from}
 use Rattle.solving.specs.Solving.{produced_type, or_else, only_concrete, element_of, array_element, resolve_state}
 use Rattle.solving.specs.Resolve.{passing, all_produce, produces_all, resolve}
 use Rattle.solving.proofs.Resolve.{resolve-ways}
@@ -172,39 +172,18 @@ module _ (m : MaybeType) (e : m ≡ None) where
   way-none none p h = refl
   way-none (some x) p h = absurd (let z : ◌≡◌ {A = ℕ} 0 1 = cc in omega arith)
 
--- ---- every bound of a list, by the place
+-- ---- every bound of a list
 
-module _ (v : World) (ws : List ℕ) (i : ℕ) where
-  types-step : i < length ws → types_from i ws ≡ type_of (get_or ws i 0) ∷ types_from (i + 1) ws
-  types-step h = ap (map type_of) (drop-cons ws i 0 h) ∙ ap (λ (k : ℕ). type_of (get_or ws i 0) ∷ map type_of (drop k ws)) (sym (add-one i))
+module _ (v : World) (t : ArgType) where
+  pub list-produce : (ws : List ℕ) → list_all (λ x. producer_bound_compatible v (type_of x) t) ws ≡ all_produce v (map type_of ws) t
+  unfolding all_produce
+  list-produce [] = refl
+  list-produce (x ∷ ws) = ap (λ (b : Bool). producer_bound_compatible v (type_of x) t && b) (list-produce ws)
 
-  types-end : length ws ≤ i → types_from i ws ≡ []
-  types-end h = ap (map type_of) (drop_of_length-le ws h)
-
-  module _ (t : ArgType) where
-    pub each-later : i < length ws → producer_bound_compatible v (type_of (get_or ws i 0)) t ≡ true → all_produce v (types_from i ws) t ≡ all_produce v (types_from (i + 1) ws) t
-    unfolding all_produce
-    each-later h e = ap (λ (ts : List ArgType). all_produce v ts t) (types-step h) ∙ ap (λ (b : Bool). b && all_produce v (types_from (i + 1) ws) t) e
-
-    pub each-not : i < length ws → producer_bound_compatible v (type_of (get_or ws i 0)) t ≡ false → all_produce v (types_from i ws) t ≡ false
-    unfolding all_produce
-    each-not h e = ap (λ (ts : List ArgType). all_produce v ts t) (types-step h) ∙ ap (λ (b : Bool). b && all_produce v (types_from (i + 1) ws) t) e
-
-    pub each-end : length ws ≤ i → all_produce v (types_from i ws) t ≡ true
-    unfolding all_produce
-    each-end h = ap (λ (ts : List ArgType). all_produce v ts t) (types-end h)
-
-    pub all-later : i < length ws → producer_bound_compatible v t (type_of (get_or ws i 0)) ≡ true → produces_all v t (types_from i ws) ≡ produces_all v t (types_from (i + 1) ws)
-    unfolding produces_all
-    all-later h e = ap (produces_all v t) (types-step h) ∙ ap (λ (b : Bool). b && produces_all v t (types_from (i + 1) ws)) e
-
-    pub all-not : i < length ws → producer_bound_compatible v t (type_of (get_or ws i 0)) ≡ false → produces_all v t (types_from i ws) ≡ false
-    unfolding produces_all
-    all-not h e = ap (produces_all v t) (types-step h) ∙ ap (λ (b : Bool). b && produces_all v t (types_from (i + 1) ws)) e
-
-    pub all-end : length ws ≤ i → produces_all v t (types_from i ws) ≡ true
-    unfolding produces_all
-    all-end h = ap (produces_all v t) (types-end h)
+  pub list-produced : (ws : List ℕ) → list_all (λ x. producer_bound_compatible v t (type_of x)) ws ≡ produces_all v t (map type_of ws)
+  unfolding produces_all
+  list-produced [] = refl
+  list-produced (x ∷ ws) = ap (λ (b : Bool). producer_bound_compatible v t (type_of x) && b) (list-produced ws)
 
 -- ---- two tests in a row
 

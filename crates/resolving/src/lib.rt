@@ -121,16 +121,9 @@ fn all_produce(pairs: &[u64], marks: &[u64], t: Tables, bounds: &[u64], candidat
     requires { Classed pairs.now marks.now t × AllLegal t bounds.now × Legal candidate.word }
     ensures { result ≡ all_produce (world_of pairs.now marks.now t) (map type_of bounds.now) (type_of candidate.word) }
 {
-    let mut i: usize = 0;
-    while i < bounds.len() {
-        let bound = TypeWord { word: bounds[i] };
-        if producer_bound_compatible(pairs, marks, t, bound, candidate) {
-            i += 1;
-        } else {
-            return false;
-        }
-    }
-    true
+    bounds.iter().all(|word| {
+        producer_bound_compatible(pairs, marks, t, TypeWord { word: *word }, candidate)
+    })
 }
 
 // Whether a type can be produced where each upper bound is expected.
@@ -138,16 +131,9 @@ fn produces_all(pairs: &[u64], marks: &[u64], t: Tables, ty: TypeWord, upper: &[
     requires { Classed pairs.now marks.now t × Legal ty.word × AllLegal t upper.now }
     ensures { result ≡ produces_all (world_of pairs.now marks.now t) (type_of ty.word) (map type_of upper.now) }
 {
-    let mut i: usize = 0;
-    while i < upper.len() {
-        let bound = TypeWord { word: upper[i] };
-        if producer_bound_compatible(pairs, marks, t, ty, bound) {
-            i += 1;
-        } else {
-            return false;
-        }
-    }
-    true
+    upper.iter().all(|word| {
+        producer_bound_compatible(pairs, marks, t, ty, TypeWord { word: *word })
+    })
 }
 
 // The candidate where it is assignable to every upper bound: way 1 of what is produced, way 5 of the domain's hint.
@@ -323,9 +309,7 @@ fn one_hint(t: Tables, domain: &[u64]) -> Option<TypeWord>
 {
     let object = t.object;
     let mut found = None;
-    let mut i = domain.len();
-    while 0 < i {
-        i -= 1;
+    for i in (0..domain.len()).rev() {
         let observed = TypeWord { word: domain[i] };
         let hint = observed.concrete_hint(object);
         if both_differ(hint, found) {

@@ -9,7 +9,7 @@ ghost use Rattle.inserting.specs.Store.{store, put_all, AllRanked, Sendable, Rea
 ghost use Rattle.rules.specs.Rules.{bound_rules, constraint_rules, all_rules};
 
 use inserting::{Sent, State};
-use passing::{send, send_arrays, send_ranks};
+use passing::{send, send_arrays};
 
 // Rules 1, 2 and 3.
 fn pass_bounds(
@@ -30,11 +30,11 @@ fn pass_bounds(
     if first.refusal != 0 {
         return first;
     }
-    let second = send_ranks(a, ring, first, flows, root, 1, fallbacks);
+    let second = send(a, ring, first, flows, root, 1, fallbacks);
     if second.refusal != 0 {
         return second;
     }
-    send_ranks(a, ring, second, incoming, root, 2, uppers)
+    send(a, ring, second, incoming, root, 2, uppers)
 }
 
 // Rules 4 to 7.

@@ -18,10 +18,9 @@ fn counts_of(r: Ran) -> Counts
     ensures { result ≡ counts_of r }
 {
     let s = r.state;
-    let refusal = s.refusal;
-    if refusal != 0 {
+    if s.refusal != 0 {
         return Counts {
-            refusal: refusal,
+            refusal: s.refusal,
             bounds: 0,
             turns: 0,
         };

@@ -142,8 +142,7 @@ fn solve_into(
     let c = run_problem(
         pairs, marks, t, components, variables, bounds, flows, uppers, reads, writes, a,
     );
-    let refusal = c.refusal;
-    if refusal != 0 {
+    if c.refusal != 0 {
         return c;
     }
     let n = c.bounds as usize;
@@ -182,10 +181,8 @@ fn given_classes(names: u64, bounds: &[u64]) -> Set
     ensures { MembersBelow names result.words }
 {
     let mut s = Set::empty();
-    let mut i: usize = 0;
-    while i < bounds.len() {
-        s = with_given(names, bounds[i], s);
-        i += 1;
+    for &key in bounds {
+        s = with_given(names, key, s);
     }
     s
 }
@@ -233,10 +230,7 @@ fn is_prepared(len: usize, pairs: usize, given: usize) -> bool
     if len == TABLE {
         return true;
     }
-    if MANY <= given {
-        return true;
-    }
-    false
+    MANY <= given
 }
 
 // The solve with or without rows.

@@ -141,13 +141,10 @@ fn gather(
     let shape = shape_if(k.element, pairs, marks, t, keys, root, words, produced);
     let f = copy_ranks(keys, root, 1, fallbacks, 0);
     let u = copy_uppers(keys, root, uppers);
-    let sent = send_type(produced);
-    let element = send_element(shape);
-    let array = send_array(produced);
     Gathered {
-        produced: sent,
-        element: element,
-        array: array,
+        produced: send_type(produced),
+        element: send_element(shape),
+        array: send_array(produced),
         fallbacks: f,
         uppers: u,
     }
@@ -175,28 +172,19 @@ pub fn turn(
 {
     let to = sorted::run(flows, flows.len(), 512, root);
     let of = sorted::run(a, s.count, COMPONENT, root);
-    let from = to.first;
-    let end = to.past;
-    let first = of.first;
-    let past = of.past;
-    let targets = &flows[from..end];
+    let targets = &flows[to.first..to.past];
     let k = asks(targets, reads, writes, root);
     let g = gather(
         k,
         pairs,
         marks,
         t,
-        &a[first..past],
+        &a[of.first..of.past],
         root,
         words,
         fallbacks,
         uppers,
     );
-    let f = g.fallbacks;
-    let u = g.uppers;
-    let produced = g.produced;
-    let element = g.element;
-    let array = g.array;
     pass_rules(
         a,
         ring,
@@ -206,10 +194,10 @@ pub fn turn(
         reads,
         writes,
         root,
-        produced,
-        &fallbacks[0..f],
-        &uppers[0..u],
-        element,
-        array,
+        g.produced,
+        &fallbacks[0..g.fallbacks],
+        &uppers[0..g.uppers],
+        g.element,
+        g.array,
     )
 }

@@ -8,8 +8,8 @@ use Rattle.answering.specs.Cut.{cut-within, cut-sorted, cut-short, cut-parts, cu
 use Rattle.answering.specs.FromFinal.{final-sorted, parts-order, parts-legal, parts-state}
 use Rattle.answering.proofs.answer.Goals as goal
 
-pub offset_bounds-keys-first : goal.offset_bounds-keys-first
-offset_bounds-keys-first c =
+pub offset_bounds-keys-of : goal.offset_bounds-keys-of
+offset_bounds-keys-of c =
     let x = c.args in
     let p = c.requires in
     omega (arith, cut-within x.component x.keys.now (final-sorted x.t p.0.1 x.keys.now p.1) c.run-of.result c.run-of.ensures)

@@ -19,4 +19,4 @@ returns-then-seen-ne0 c = (c.requires.4 c.if-seen-ne0.true).1
 pub returns : goal.returns
 returns c =
     let x = c.args in
-    c.word_in.ensures ∙ ap number_in c.answer-m.ensures ∙ number-word (resolve_state (world_of x.pairs.now x.marks.now x.t) (state_of (table_in x.keys.now) x.component))
+    c.word_in.ensures ∙ ap number_in c.answer.ensures ∙ number-word (resolve_state (world_of x.pairs.now x.marks.now x.t) (state_of (table_in x.keys.now) x.component))

@@ -1,16 +1,13 @@
 -- `write_columns` meets its contract: after i steps the first i entries stand in each column.
-use mathlib.Core.Path.{◌≡◌, refl, ap, ◌∙◌}
-use mathlib.Core.List.{List}
-use Prim.Native.Nat.{ℕ}
-use native.Mathlib.Omega.{arith}
-use lib.ListN.{length, length-set, set}
+use Rattle.std.specs.Prelude.{◌≡◌, List, ℕ, length, set}
+use Rattle.std.proofs.Common.{refl, ap, ◌∙◌, arith}
 use Rattle.keys.specs.Rank.{key_component, key_kind}
 use Rattle.copying.specs.Copies.{word_in}
 use Rattle.columnsout.specs.Columns.{front, front-more}
 use Rattle.columnsout.proofs.write_columns.Goals as goal
 
 pub loop-i-init : goal.loop-i-init
-loop-i-init c = (omega arith, refl, refl, refl, refl, refl, refl)
+loop-i-init c = (omega arith, refl, refl, refl)
 
 pub loop-i-preserved : goal.loop-i-preserved
 loop-i-preserved c =
@@ -18,14 +15,11 @@ loop-i-preserved c =
     let l = c.loop-i in
     let k = a.keys.now in (
       omega arith,
-      simp length-set l.invariant.1,
-      simp length-set l.invariant.2,
-      simp length-set l.invariant.3,
-      ap (λ (o : List ℕ). set o l.i c.key_component-component.result) l.invariant.4
+      ap (λ (o : List ℕ). set o l.i c.key_component-component.result) l.invariant.1
           ∙ front-more key_component k a.out_comp.now l.i c.key_component-component.result c.key_component-component.ensures (omega arith) c.requires.0,
-      ap (λ (o : List ℕ). set o l.i c.key_kind-kind.result) l.invariant.5
+      ap (λ (o : List ℕ). set o l.i c.key_kind-kind.result) l.invariant.2
           ∙ front-more key_kind k a.out_kind.now l.i c.key_kind-kind.result c.key_kind-kind.ensures (omega arith) c.requires.1,
-      ap (λ (o : List ℕ). set o l.i c.key_type-t.result.word) l.invariant.6
+      ap (λ (o : List ℕ). set o l.i c.key_type-t.result.word) l.invariant.3
           ∙ front-more word_in k a.out_type.now l.i c.key_type-t.result.word c.key_type-t.ensures (omega arith) c.requires.2,
     )
 
@@ -35,7 +29,7 @@ returns c =
     let l = c.loop-i in
     let e : l.i ≡ length a.keys.now = omega arith in
     record {
-      components-are = l.invariant.4 ∙ ap (front key_component a.keys.now a.out_comp.now) e;
-      kinds-are = l.invariant.5 ∙ ap (front key_kind a.keys.now a.out_kind.now) e;
-      types-are = l.invariant.6 ∙ ap (front word_in a.keys.now a.out_type.now) e;
+      components-are = l.invariant.1 ∙ ap (front key_component a.keys.now a.out_comp.now) e;
+      kinds-are = l.invariant.2 ∙ ap (front key_kind a.keys.now a.out_kind.now) e;
+      types-are = l.invariant.3 ∙ ap (front word_in a.keys.now a.out_type.now) e;
     }

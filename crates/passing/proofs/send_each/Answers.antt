@@ -1,51 +1,50 @@
--- `send_each` meets its contract: what is left are the links from i on.
-use mathlib.Core.Path.{refl, sym, ap, ◌∙◌}
-use Prim.Native.Nat.{◌+◌, ◌%◌}
-use native.Mathlib.Omega.{arith}
-use lib.ListN.{drop, get_or}
+-- `send_each` meets its contract: what is left are the links from the index on.
+use Rattle.std.specs.Prelude.{◌+◌, ◌%◌, drop, get_or}
+use Rattle.std.proofs.Common.{refl, sym, ap, ◌∙◌, arith}
 use Rattle.solving.specs.Solving.{to_one, to_each}
-use Rattle.inserting.specs.Store.{store, put_all, sent_types}
-use Rattle.inserting.specs.Laws.{all-stopped, sent-base}
+use Rattle.inserting.specs.Store.{store, put_all}
+use Rattle.inserting.specs.Laws.{all-stopped}
 use Rattle.passing.specs.Passes.{seconds}
 use Rattle.passing.specs.Steps.{one-given, next-ready, each-put, each-done}
 use Rattle.passing.proofs.send_each.Goals as goal
 
-pub loop-i-init : goal.loop-i-init
-loop-i-init c = (omega arith, refl, refl, c.requires.0, refl)
+pub loop-link-init : goal.loop-link-init
+loop-link-init g c = (omega arith, c.requires.0, refl)
 
-pub insert_sent-state-requires : goal.insert_sent-state-requires
-insert_sent-state-requires c =
-    let x = c.args in
+pub put-state-requires : goal.put-state-requires
+put-state-requires g c =
     let p = c.requires in
-    let l = c.loop-i in
-    (l.invariant.3, omega arith, p.1, p.2)
+    (c.loop-link.invariant.1, omega arith, p.1, p.2)
 
 pub returns-then-state-ne0 : goal.returns-then-state-ne0
-returns-then-state-ne0 c =
+returns-then-state-ne0 g c =
     let x = c.args in
-    let l = c.loop-i in
-    let o = c.insert_sent-state in
+    let l = c.loop-link in
+    let o = c.put-state in
+    let ts = g.L.Load.types x.load in
+    let rest = to_each 0 x.kind ts (drop (l.link-index + 1) (seconds x.links.now)) in
     sym
-    (l.invariant.4 ∙ each-put x.kind (sent_types x.t) x.links.now l.i (store l.a l.ring l.state) (omega arith)
-    ∙ ap (put_all (to_each 0 x.kind (sent_types x.t) (drop (l.i + 1) (seconds x.links.now)))) (sym o.ensures)
-    ∙ all-stopped (to_each 0 x.kind (sent_types x.t) (drop (l.i + 1) (seconds x.links.now))) (store o.new.a o.new.ring o.result) c.if-state-ne0.true)
+    (l.invariant.2 ∙ each-put x.kind ts x.links.now l.link-index (store l.a l.ring l.state) (omega arith)
+    ∙ ap (put_all rest) (sym o.ensures)
+    ∙ all-stopped rest (store o.new.a o.new.ring o.result) c.if-state-ne0.true)
 
-pub loop-i-preserved : goal.loop-i-preserved
-loop-i-preserved c =
+pub loop-link-preserved : goal.loop-link-preserved
+loop-link-preserved g c =
     let x = c.args in
-    let l = c.loop-i in
-    let o = c.insert_sent-state in
-    let p = c.requires in (
+    let l = c.loop-link in
+    let o = c.put-state in
+    let p = c.requires in
+    let to = get_or x.links.now l.link-index 0 % 512 in
+    let ts = g.L.Load.types x.load in
+    let before = store l.a l.ring l.state in (
       omega arith,
-      o.auto.a ∙ l.invariant.1,
-      o.auto.ring ∙ l.invariant.2,
-      next-ready (to_one 0 x.kind (sent_types x.t) (get_or x.links.now l.i 0 % 512)) (store l.a l.ring l.state) (store o.new.a o.new.ring o.result) (one-given x.kind (get_or x.links.now l.i 0 % 512) (sent_types x.t) p.1 (omega arith) (sent-base x.t p.2)) l.invariant.3 o.ensures c.if-state-ne0.false,
-      l.invariant.4 ∙ each-put x.kind (sent_types x.t) x.links.now l.i (store l.a l.ring l.state) (omega arith)
-          ∙ ap (put_all (to_each 0 x.kind (sent_types x.t) (drop (l.i + 1) (seconds x.links.now)))) (sym o.ensures),
+      next-ready (to_one 0 x.kind ts to) before (store o.new.a o.new.ring o.result) (one-given x.kind to ts p.1 (omega arith) (g.met.L.Load.base x.load p.2)) l.invariant.1 o.ensures c.if-state-ne0.false,
+      l.invariant.2 ∙ each-put x.kind ts x.links.now l.link-index before (omega arith)
+          ∙ ap (put_all (to_each 0 x.kind ts (drop (l.link-index + 1) (seconds x.links.now)))) (sym o.ensures),
     )
 
 pub returns : goal.returns
-returns c =
+returns g c =
     let x = c.args in
-    let l = c.loop-i in
-    sym (l.invariant.4 ∙ each-done x.kind (sent_types x.t) x.links.now l.i (store l.a l.ring l.state) (omega arith))
+    let l = c.loop-link in
+    sym (l.invariant.2 ∙ each-done x.kind (g.L.Load.types x.load) x.links.now l.link-index (store l.a l.ring l.state) (omega arith))

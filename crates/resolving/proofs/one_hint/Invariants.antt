@@ -9,6 +9,3 @@ use Rattle.resolving.proofs.one_hint.Given as goal
 
 abbrev pub invariant-loop-i : goal.invariant-loop-i
 invariant-loop-i l = (l.i ≤ length l.domain) × LegalMaybe l.found × (hints_of l.object (types_from l.i l.domain) ≡ list_of (maybe_type l.found))
-
-abbrev pub decreases-loop-i : goal.decreases-loop-i
-decreases-loop-i l = l.i

@@ -1,34 +1,26 @@
--- `produces_all` meets its contract: what is left to ask is the question of the words from `i` on.
-use mathlib.Core.Path.{refl, sym, ◌∙◌}
-use native.Mathlib.Omega.{arith}
-use lib.ListN.{get_or}
-use Rattle.ty.specs.Words.{type_of}
+-- `produces_all` meets its contract: each word is asked as the bound that is expected.
+use Rattle.std.specs.Prelude.{get_or}
+use Rattle.std.proofs.Common.{rules, tests, sym, ◌∙◌, subst}
+use Rattle.std.proofs.lemmas.List.{get_or_default}
+use Rattle.std.proofs.lemmas.Iterator.{YieldsList-from_slice}
+use Rattle.std.proofs.lemmas.Iterator.Adapters.{serves_from_places}
+use Rattle.std.proofs.lemmas.Iterator.Search.{all_from_yields_List}
+use Rattle.ty.specs.Words.{Legal, type_of}
+use Rattle.lattice.specs.Lattice.{producer_bound_compatible}
 use Rattle.lattice.specs.World.{world_of}
-use Rattle.resolving.specs.Laws.{legal-word, all-later, all-not, all-end}
+use Rattle.resolving.specs.Laws.{legal-word, list-produced}
 use Rattle.resolving.proofs.produces_all.Goals as goal
 
-pub loop-i-init : goal.loop-i-init
-loop-i-init c = (omega arith, refl)
-
-pub producer_bound_compatible-requires : goal.producer_bound_compatible-requires
-producer_bound_compatible-requires c =
+pub all-requires-clause-callable : goal.all-requires-clause-callable
+all-requires-clause-callable c =
     let a = c.args in
-    (c.requires.0.0, c.requires.1, legal-word a.t c.requires.0.1 (get_or a.upper.now c.loop-i.i 0) (c.requires.2 c.loop-i.i (omega arith)))
-
-pub loop-i-preserved : goal.loop-i-preserved
-loop-i-preserved c =
-    let a = c.args in
-    let l = c.loop-i in
-    (omega arith, l.invariant.1 ∙ all-later (world_of a.pairs.now a.marks.now a.t) a.upper.now l.i (type_of a.ty.word) (omega arith) (sym c.producer_bound_compatible.ensures ∙ c.if-producer_bound_compatible.true))
-
-pub returns-else-producer_bound_compatible : goal.returns-else-producer_bound_compatible
-returns-else-producer_bound_compatible c =
-    let a = c.args in
-    let l = c.loop-i in
-    sym (l.invariant.1 ∙ all-not (world_of a.pairs.now a.marks.now a.t) a.upper.now l.i (type_of a.ty.word) (omega arith) (sym c.producer_bound_compatible.ensures ∙ c.if-producer_bound_compatible.false))
+    let p = c.requires in
+    serves_from_places (YieldsList-from_slice a.upper.now cc) (λ x q k. search (rules, tests)) (λ x k l e.
+    let word : Legal x.now = subst Legal (get_or_default a.upper.now k 0 x.now l ∙ sym e) (legal-word a.t p.0.1 (get_or a.upper.now k 0) (p.2 k l)) in
+    search rules)
 
 pub returns : goal.returns
 returns c =
     let a = c.args in
-    let l = c.loop-i in
-    sym (l.invariant.1 ∙ all-end (world_of a.pairs.now a.marks.now a.t) a.upper.now l.i (type_of a.ty.word) (omega arith))
+    all_from_yields_List (λ x. producer_bound_compatible (world_of a.pairs.now a.marks.now a.t) (type_of a.ty.word) (type_of x)) _ _ c.all.result c.all.ensures.ran (YieldsList-from_slice a.upper.now cc) (λ x b q k. search (rules, tests))
+    ∙ list-produced (world_of a.pairs.now a.marks.now a.t) (type_of a.ty.word) a.upper.now

@@ -17,8 +17,8 @@ returns-then-first-ne0 c =
     let o = c.send-first in
     bounds-first x.flows.now x.incoming.now x.root x.produced x.fallbacks.now x.uppers.now (store x.a.now x.ring.now x.s) (store o.new.a o.new.ring o.result) o.ensures c.if-first-ne0.true
 
-pub send_ranks-second-requires : goal.send_ranks-second-requires
-send_ranks-second-requires c =
+pub send-second-requires : goal.send-second-requires
+send-second-requires c =
     let x = c.args in
     let p = c.requires in
     let o = c.send-first in
@@ -28,24 +28,24 @@ pub returns-then-second-ne0 : goal.returns-then-second-ne0
 returns-then-second-ne0 c =
     let x = c.args in
     let o = c.send-first in
-    let v = c.send_ranks-second in
+    let v = c.send-second in
     bounds-second x.flows.now x.incoming.now x.root x.produced x.fallbacks.now x.uppers.now (store x.a.now x.ring.now x.s) (store o.new.a o.new.ring o.result) o.ensures (store v.new.a v.new.ring v.result) v.ensures c.if-second-ne0.true
 
-pub send_ranks-requires : goal.send_ranks-requires
-send_ranks-requires c =
+pub send-requires : goal.send-requires
+send-requires c =
     let x = c.args in
     let p = c.requires in
     let o = c.send-first in
-    let v = c.send_ranks-second in
+    let v = c.send-second in
     (next-ready (fallback_rule x.flows.now x.root x.fallbacks.now) (store o.new.a o.new.ring o.result) (store v.new.a v.new.ring v.result) (each-given 1 x.root (map unrank x.fallbacks.now) x.flows.now (omega arith) (ranked-base x.fallbacks.now p.4)) (next-ready (target_rule x.flows.now x.root x.produced) (store x.a.now x.ring.now x.s) (store o.new.a o.new.ring o.result) (each-given 3 x.root (sent_types x.produced) x.flows.now (omega arith) (sent-base x.produced p.3)) p.0 o.ensures c.if-first-ne0.false) v.ensures c.if-second-ne0.false, omega arith, search rules, search rules)
 
 pub shape_of-a : goal.shape_of-a
-shape_of-a c = c.send_ranks.auto.a ∙ c.send_ranks-second.auto.a ∙ c.send-first.auto.a
+shape_of-a c = c.send.auto.a ∙ c.send-second.auto.a ∙ c.send-first.auto.a
 
 pub returns : goal.returns
 returns c =
     let x = c.args in
     let o = c.send-first in
-    let v = c.send_ranks-second in
-    let z = c.send_ranks in
+    let v = c.send-second in
+    let z = c.send in
     bounds-third x.flows.now x.incoming.now x.root x.produced x.fallbacks.now x.uppers.now (store x.a.now x.ring.now x.s) (store o.new.a o.new.ring o.result) o.ensures (store v.new.a v.new.ring v.result) v.ensures (store z.new.a z.new.ring z.result) z.ensures

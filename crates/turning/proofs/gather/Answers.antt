@@ -33,22 +33,22 @@ copy_uppers-u-requires c =
     let p = c.requires in
     (asks-sorted x.pairs.now x.marks.now x.t x.keys.now p.0 x.root, p.1, p.4)
 
-pub send_type-sent-requires : goal.send_type-sent-requires
-send_type-sent-requires c =
+pub send_type-requires : goal.send_type-requires
+send_type-requires c =
     let x = c.args in
     let p = c.requires in
     let o = c.produced_if-produced in
     gather-produced x.pairs.now x.marks.now x.t x.keys.now p.0 x.root x.k.produced o.result o.ensures
 
-pub send_element-element-requires : goal.send_element-element-requires
-send_element-element-requires c =
+pub send_element-requires : goal.send_element-requires
+send_element-requires c =
     let x = c.args in
     let p = c.requires in
     let o = c.shape_if-shape in
     gather-shape x.pairs.now x.marks.now x.t x.keys.now p.0 x.root x.k.element o.result o.ensures
 
-pub send_array-array-requires : goal.send_array-array-requires
-send_array-array-requires c =
+pub send_array-requires : goal.send_array-requires
+send_array-requires c =
     let x = c.args in
     let p = c.requires in
     let o = c.produced_if-produced in
@@ -61,8 +61,8 @@ returns c =
     let v = c.shape_if-shape in
     let f = c.copy_ranks-f in
     let u = c.copy_uppers-u in
-    let e = c.send_type-sent.ensures ∙ ap sent_maybe o.ensures in
-    let g = c.send_element-element.ensures ∙ ap sent_element v.ensures in
-    let h = c.send_array-array.ensures ∙ ap sent_array o.ensures in
+    let e = c.send_type.ensures ∙ ap sent_maybe o.ensures in
+    let g = c.send_element.ensures ∙ ap sent_element v.ensures in
+    let h = c.send_array.ensures ∙ ap sent_array o.ensures in
     let n = f.ensures.0 ∙ zero-add (length (run_in x.root 1 x.keys.now)) in
     (λ i. record { produced = e i; element = g i; array = h i; fallbacks = n i; uppers = u.ensures.0 i }, f.ensures.1, u.ensures.1)

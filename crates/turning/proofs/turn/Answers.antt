@@ -8,8 +8,8 @@ use Rattle.asking.specs.Laws.{asked-element}
 use Rattle.turning.specs.Turning.{flows-cut, flows-turnable, flows-turned, turn-cut, turn-asks, turn-short, turn-gathers, turn-ready, turn-produced, turn-element, turn-array, turn-fallbacks, turn-uppers, turn-within, turn-additions}
 use Rattle.turning.proofs.turn.Goals as goal
 
-pub offset_bounds-flows-from : goal.offset_bounds-flows-from
-offset_bounds-flows-from c =
+pub offset_bounds-flows-to : goal.offset_bounds-flows-to
+offset_bounds-flows-to c =
     let x = c.args in
     let p = c.requires in
     let r = c.run-to in
@@ -43,8 +43,8 @@ asks-k-requires c =
     let r = c.run-to in
     (flows-turnable x.pairs.now x.marks.now x.t (store x.a.now x.ring.now x.s) x.words.now x.fallbacks.now x.uppers.now x.flows.now x.incoming.now x.reads.now x.writes.now p.0 x.root r.result r.ensures).flows-sorted
 
-pub offset_bounds-a-first : goal.offset_bounds-a-first
-offset_bounds-a-first c =
+pub offset_bounds-a-of : goal.offset_bounds-a-of
+offset_bounds-a-of c =
     let x = c.args in
     let p = c.requires in
     let r = c.run-to in
