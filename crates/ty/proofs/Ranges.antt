@@ -1,5 +1,5 @@
 -- What a chain over the numbers of a word's digits, or over words, says of the definitions by lists.
-use Rattle.std.proofs.Common.{◌≡◌, ℕ, zero, suc, ◌+◌, ◌-◌, ◌*◌, ◌/◌, ◌%◌, ◌^◌, ◌<◌, ◌≤◌, List, [], ◌∷◌, Bool, true, false, ◌&&◌, ◌||◌, leb, min, refl, sym, ap, ◌∙◌, arith, eqb}
+use Rattle.std.proofs.Common.{◌≡◌, ℕ, zero, suc, ◌+◌, ◌-◌, ◌*◌, ◌/◌, ◌%◌, ◌^◌, ◌≤◌, List, [], ◌∷◌, Bool, true, false, ◌&&◌, ◌||◌, leb, min, refl, sym, ap, ◌∙◌, arith, eqb}
 use borrow.Author.Tests.{leb-true, leb-false}
 use Rattle.std.specs.List.{list_all, list_any, range_with_len}
 use Rattle.order.specs.Lists.{elem}

@@ -1,5 +1,5 @@
 -- `list_mask` meets its contract. The invariant: the set so far, with the digits left, is the whole.
-use Rattle.std.proofs.Common.{◌≡◌, ℕ, ◌+◌, ◌/◌, ◌^◌, bit_or, sym, ap, ◌∙◌, arith}
+use Rattle.std.proofs.Common.{◌+◌, ◌/◌, ◌^◌, bit_or, sym, ap, ◌∙◌, arith}
 use Rattle.ty.specs.Types.{mask_with}
 use Rattle.ty.specs.Steps.{rest_of, rest-all, mask-step, one-shifted}
 use Rattle.ty.proofs.Ranges.{rest-past}

@@ -1,5 +1,5 @@
 -- `Set::difference` meets its contract, word by word.
-use Rattle.std.proofs.Common.{refl, rules, arith, get_or}
+use Rattle.std.proofs.Common.{rules, arith, get_or}
 use Rattle.sets.specs.Sets.{clear, subtract}
 use Rattle.sets.specs.Laws.{clear-zero}
 use Rattle.sets.proofs.Good.{array-length}
