@@ -1,5 +1,5 @@
 -- Laws of an Unknown's digits in a rank: they are in the order of the lists, and the list comes back.
-use Rattle.std.specs.Prelude.{◌≡◌, refl, true, List, [], ◌∷◌, ◌++◌, map, ℕ, zero, suc, ◌+◌, ◌-◌, ◌*◌, ◌^◌, ◌≤◌, ◌<◌, length, replicate}
+use Rattle.std.specs.Prelude.{◌≡◌, refl, true, List, [], ◌∷◌, ◌++◌, map, ℕ, zero, suc, ◌-◌, ◌*◌, ◌^◌, ◌≤◌, ◌<◌, length, replicate}
 use Rattle.std.proofs.Common.{sym, ap, ap₂, ◌∙◌, zero-add, suc-mul, arith, length-append, pow_pos}
 use Rattle.std.proofs.lemmas.List.{length-map, length-replicate}
 use Rattle.order.specs.Laws.{numbers-less, numbers-same, numbers-greater}

@@ -60,16 +60,14 @@ fn members_load(digits: u64) -> u64
     ensures { result ≡ list_load (members_of digits) }
 {
     let mut sum: u64 = 0;
-    let mut i: u64 = 0;
-    while i < 11 {
+    for i in 0..11 {
         let d = digit(digits, i);
         if d == 0 {
             return i * LENGTH + sum;
         }
         sum += (d - 1) << (4 * (10 - i));
-        i += 1;
     }
-    i * LENGTH + sum
+    11 * LENGTH + sum
 }
 
 // The type of a rank.

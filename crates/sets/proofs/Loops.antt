@@ -1,52 +1,40 @@
 -- What the loops over the sixteen words go by: for each loop what is still to do, or what is done, at word k.
 use mathlib.Core.Path.{◌≡◌, refl, sym, ap, ap₂, ◌∙◌, subst}
-use mathlib.Core.Bool.{Bool, true, false, ◌&&◌}
+use mathlib.Core.Bool.{◌&&◌}
 use mathlib.Core.List.{List, [], ◌∷◌}
 use Prim.Native.Nat.{ℕ, zero, suc, ◌+◌, ◌*◌, ◌/◌, ◌%◌, ◌^◌, ◌≤◌, ◌<◌}
 use native.Mathlib.Decide.{ℕ_discrete}
 use native.Mathlib.Numerals.{add-one}
 use native.Mathlib.Omega.{arith}
-use borrow.Author.Tests.{eq-eqb, ne_eqb}
 use lib.Dec.{eqb}
+use lib.Pointwise.{pointwise}
+use denote.Param.Members.{Mut, Called}
+use Rattle.std.specs.Array.{IsFromFnResultFrom}
 use lib.Count.{ones, count_trailing_zeros, trailing_of_zero}
-use lib.ListN.{length, get_or, set, drop, drop_of_length-le, length-set}
-use lib.Seq.{drop-cons, get_or-set_same, get_or-set_other, ext_get_or}
+use lib.ListN.{length, get_or, drop, drop_of_length-le}
+use lib.Seq.{drop-cons, ext_get_or}
 use Rattle.sets.specs.Sets.{bit, Words, at, pairwise, same_words, members, tally, first}
 use Rattle.sets.specs.Bits.{tally-ext, tally-add, ones-tally, first-ext, first-none, first-some, trailing-first, trailing-lt}
 use Rattle.sets.specs.Laws.{length-pairwise, get_d-pairwise, count-tally}
 
--- ---- `union`, `intersection`, `difference`: f of the words below k stands in r, and r's other words are as they were in a
+-- ---- `union`, `intersection`, `difference`: f of the words, word by word
 
-pub record Passed (f : ℕ → ℕ → ℕ) (a b r : List ℕ) (k : ℕ) : Type 0 where
-  pub within : k ≤ 16
-  pub long : length r ≡ 16
-  pub done : (j : ℕ) → j < k → get_or r j 0 ≡ f (get_or a j 0) (get_or b j 0)
-  pub rest : (j : ℕ) → k ≤ j → get_or r j 0 ≡ get_or a j 0
+pub pairwise-all : (f : ℕ → ℕ → ℕ) (a b r : List ℕ) → f 0 0 ≡ 0 → length a ≡ 16 → length b ≡ 16 → length r ≡ 16
+    → ((i : ℕ) → i < 16 → get_or r i 0 ≡ f (get_or a i 0) (get_or b i 0)) → r ≡ pairwise f a b
+pairwise-all f a b r z la lb lr each =
+    ext_get_or 0 r (pairwise f a b) (lr ∙ sym (length-pairwise f a b (la ∙ sym lb) ∙ la))
+    (λ j l. each j (omega arith) ∙ sym (get_d-pairwise f z a b j (la ∙ sym lb)))
 
-module _ (f : ℕ → ℕ → ℕ) (a b : List ℕ) where
-  pub passed-none : length a ≡ 16 → Passed f a b a 0
-  passed-none l = record { within = omega arith; long = l; done = λ j h. absurd (omega arith); rest = λ j h. refl }
-
-  pub passed-more : (r : List ℕ) (k : ℕ) → Passed f a b r k → k < 16 → Passed f a b (set r k (f (get_or r k 0) (get_or b k 0))) (k + 1)
-  passed-more r k p h = record { within = omega arith; long = length-set r k v ∙ p.long; done = below; rest = λ j l. get_or-set_other r k j v 0 (λ e. omega arith) ∙ p.rest j (omega arith) }
-    where
-      v : ℕ
-      v = f (get_or r k 0) (get_or b k 0)
-
-      below : (j : ℕ) → j < k + 1 → get_or (set r k v) j 0 ≡ f (get_or a j 0) (get_or b j 0)
-      below j l =
-          elim (ℕ_discrete j k) [
-            | yes e ↦ ap (λ (x : ℕ). get_or (set r k v) x 0) e
-                ∙ get_or-set_same r k v 0 (let q = p.long in omega arith)
-                ∙ ap (λ (x : ℕ). f x (get_or b k 0)) (p.rest k (omega arith))
-                ∙ ap (λ (x : ℕ). f (get_or a x 0) (get_or b x 0)) (sym e)
-            | no n ↦ get_or-set_other r k j v 0 n ∙ p.done j (omega arith)
-          ]
-
-  pub passed-all : f 0 0 ≡ 0 → length a ≡ 16 → length b ≡ 16 → (r : List ℕ) (k : ℕ) → Passed f a b r k → 16 ≤ k → r ≡ pairwise f a b
-  passed-all z la lb r k p h =
-      ext_get_or 0 r (pairwise f a b) (p.long ∙ sym (length-pairwise f a b (la ∙ sym lb) ∙ la))
-      (λ j l. p.done j (let q = p.long in omega arith) ∙ sym (get_d-pairwise f z a b j (la ∙ sym lb)))
+-- an array that a closure made that changes nothing
+pub made-by : {F : Type 0} (g : Mut F (ℕ × Unit {0}) ℕ) (h : ℕ → ℕ) (f : F) → ((i y : ℕ) (q : F) → Called g f (i, tt) y q → (q ≡ f) × (y ≡ h i))
+    → (ys : List ℕ) (i n : ℕ) → IsFromFnResultFrom g f ys i n → (k : ℕ) → i ≤ k → k < i + n → get_or ys k 0 ≡ h k
+made-by g h f same ys i zero m k a b = absurd (omega arith)
+made-by g h f same ys i (suc n) m k a b =
+    let one = same i m.1 m.0 m.3 in
+    elim (ℕ_discrete k i) [
+      | yes e ↦ ap (λ j. get_or ys j 0) e ∙ m.2.1 0 ∙ one.1 ∙ ap h (sym e)
+      | no d ↦ made-by g h f same ys (i + 1) n (subst (λ q. IsFromFnResultFrom g q ys (i + 1) n) one.0 m.4) k (omega arith) (omega arith)
+    ]
 
 -- ---- `count`: the ones of the words from k on are still to be counted
 
@@ -138,20 +126,12 @@ pub low-pos : (w r : ℕ) → (w ≡ 0 → ⊥) → low_step w r ≡ count_trail
 low-pos zero r h = absurd (h refl)
 low-pos (suc w) r h = refl
 
--- ---- `same`: the words below k are equal, and those from k on are still to be compared
+-- ---- `same`
 
-same-drop : (a b : List ℕ) (k : ℕ) → k < length a → k < length b
-    → same_words (drop k a) (drop k b) ≡ (eqb (get_or a k 0) (get_or b k 0) && same_words (drop (k + 1) a) (drop (k + 1) b))
+-- the equality of two arrays, as `==` states it
+pub pointwise-same : (a b : List ℕ) → pointwise eqb a b ≡ same_words a b
 unfolding same_words
-same-drop a b k h l = rw (add-one, drop-cons a k 0, drop-cons b k 0)
-
-pub same-step : (a b : List ℕ) (k : ℕ) → k < length a → k < length b → get_or a k 0 ≡ get_or b k 0
-    → same_words (drop k a) (drop k b) ≡ same_words (drop (k + 1) a) (drop (k + 1) b)
-same-step a b k h l e = same-drop a b k h l ∙ ap (λ (t : Bool). t && same_words (drop (k + 1) a) (drop (k + 1) b)) (eq-eqb (get_or a k 0) (get_or b k 0) e)
-
-pub same-stop : (a b : List ℕ) (k : ℕ) → k < length a → k < length b → (get_or a k 0 ≡ get_or b k 0 → ⊥) → same_words (drop k a) (drop k b) ≡ false
-same-stop a b k h l n = same-drop a b k h l ∙ ap (λ (t : Bool). t && same_words (drop (k + 1) a) (drop (k + 1) b)) (ne_eqb (get_or a k 0) (get_or b k 0) n)
-
-pub same-end : (a b : List ℕ) (k : ℕ) → length a ≤ k → length b ≤ k → same_words (drop k a) (drop k b) ≡ true
-unfolding same_words
-same-end a b k h l = ap₂ same_words (drop_of_length-le a h) (drop_of_length-le b l)
+pointwise-same [] [] = refl
+pointwise-same [] (y ∷ ys) = refl
+pointwise-same (x ∷ xs) [] = refl
+pointwise-same (x ∷ xs) (y ∷ ys) = ap (λ t. eqb x y && t) (pointwise-same xs ys)

@@ -5,7 +5,9 @@
 ghost use Rattle.std.specs.Prelude.{◌≡◌, length, replicate};
 ghost use Rattle.sets.specs.Sets.{at, member, insert, remove, unite, intersect, subtract, members, first, same_words};
 
-#[derive(Clone, Copy)]
+use std::array;
+
+#[derive(Clone, Copy, PartialEq, Eq)]
 pub struct Set {
     pub words: [u64; 16],
 }
@@ -15,8 +17,7 @@ impl Set {
     pub fn empty() -> Set
         ensures { result.words ≡ replicate 16 0 }
     {
-        let w = [0u64; 16];
-        Set { words: w }
+        Set { words: [0; 16] }
     }
 
     // Whether i is a member.
@@ -57,34 +58,33 @@ impl Set {
     }
 
     // What is in either set.
-    pub fn union(mut self, other: Set) -> Set
+    pub fn union(self, other: Set) -> Set
         ensures { result.words ≡ unite self.words other.words }
     {
-        for k in 0..16 {
-            self.words[k] = self.words[k] | other.words[k];
+        Set {
+            words: array::from_fn(|k| self.words[k] | other.words[k]),
         }
-        self
     }
 
     // What is in both sets.
-    pub fn intersection(mut self, other: Set) -> Set
+    pub fn intersection(self, other: Set) -> Set
         ensures { result.words ≡ intersect self.words other.words }
     {
-        for k in 0..16 {
-            self.words[k] = self.words[k] & other.words[k];
+        Set {
+            words: array::from_fn(|k| self.words[k] & other.words[k]),
         }
-        self
     }
 
     // What is in this set and not in the other.
-    pub fn difference(mut self, other: Set) -> Set
+    pub fn difference(self, other: Set) -> Set
         ensures { result.words ≡ subtract self.words other.words }
     {
-        for k in 0..16 {
-            let w = self.words[k];
-            self.words[k] = w ^ (w & other.words[k]);
+        Set {
+            words: array::from_fn(|k| {
+                let w = self.words[k];
+                w ^ (w & other.words[k])
+            }),
         }
-        self
     }
 
     // The number of members.
@@ -92,9 +92,8 @@ impl Set {
         ensures { result ≡ length (members (at self.words) 0 1024) }
     {
         let mut n: u64 = 0;
-        for k in 0..16 {
-            let w = self.words[k];
-            n += u64::count_ones(w) as u64;
+        for w in self.words {
+            n += u64::from(w.count_ones());
         }
         n
     }
@@ -103,10 +102,9 @@ impl Set {
     pub fn lowest(self) -> u64
         ensures { result ≡ first (at self.words) 1024 }
     {
-        for k in 0..16 {
-            let w = self.words[k];
-            if w != 0 {
-                return (k as u64) * 64 + (u64::trailing_zeros(w) as u64);
+        for (k, w) in self.words.iter().enumerate() {
+            if *w != 0 {
+                return (k as u64) * 64 + u64::from(w.trailing_zeros());
             }
         }
         1024
@@ -116,11 +114,6 @@ impl Set {
     pub fn same(self, other: Set) -> bool
         ensures { result ≡ same_words self.words other.words }
     {
-        for k in 0..16 {
-            if self.words[k] != other.words[k] {
-                return false;
-            }
-        }
-        true
+        self == other
     }
 }

@@ -1,2 +1,3 @@
 -- What is proved of the generated contracts.
 pub mod Unique
+mod Ranges

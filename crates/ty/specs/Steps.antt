@@ -58,19 +58,9 @@ module _ (load n i : ℕ) where
   unfolding elem
   elem-none d h = ap (elem d) (rest-none load n i h)
 
-  pub wide-yes : (d : ℕ) → d ≡ load / 2 ^ (4 * (10 - i)) % 16 → i < 11 → i < n → wide_category d ≡ true
-      → all_wide (rest_of load n i) ≡ all_wide (rest_of load n (i + 1))
+  pub wide-step : i < 11 → i < n → all_wide (rest_of load n i) ≡ (wide_category (load / 2 ^ (4 * (10 - i)) % 16) && all_wide (rest_of load n (i + 1)))
   unfolding all_wide
-  wide-yes d e h k w =
-      ap all_wide (rest-step load n i h k)
-      ∙ ap (λ (x : Bool). x && all_wide (rest_of load n (i + 1))) (ap wide_category (sym e) ∙ w)
-
-  pub wide-no : (d : ℕ) → d ≡ load / 2 ^ (4 * (10 - i)) % 16 → i < 11 → i < n → wide_category d ≡ false
-      → all_wide (rest_of load n i) ≡ false
-  unfolding all_wide
-  wide-no d e h k w =
-      ap all_wide (rest-step load n i h k)
-      ∙ ap (λ (x : Bool). x && all_wide (rest_of load n (i + 1))) (ap wide_category (sym e) ∙ w)
+  wide-step h k = ap all_wide (rest-step load n i h k)
 
   pub wide-none : n ≤ i → all_wide (rest_of load n i) ≡ true
   unfolding all_wide

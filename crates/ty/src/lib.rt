@@ -55,14 +55,7 @@ fn contains(load: u64, from: u64, n: u64, d: u64) -> bool
     requires { (from ≤ n) × (n ≤ 11) }
     ensures { result ≡ elem d (take (n - from) (unpack (11 - from) load)) }
 {
-    let mut i = from;
-    while i < n {
-        if digit(load, i) == d {
-            return true;
-        }
-        i += 1;
-    }
-    false
+    (from..n).any(|i| digit(load, i) == d)
 }
 
 // Whether the digit i is as it must be in a list of n: a category that does not come again, or 0 after the list.
@@ -89,61 +82,31 @@ fn good_unknown(load: u64) -> bool
     if 11 < n {
         return false;
     }
-    let mut i: u64 = 0;
-    while i < 11 {
-        let good = good_digit(load, n, i);
-        if good {
-            i += 1;
-        } else {
-            return false;
-        }
-    }
-    true
+    (0..11).all(|i| good_digit(load, n, i))
 }
 
 fn wide_category(category: u64) -> bool
     ensures { result ≡ wide_category category }
 {
-    if category == LONG {
-        return true;
-    }
-    category == DOUBLE
+    category == LONG || category == DOUBLE
 }
 
 // Whether every category of an Unknown's list is wide; of an empty list, too.
 fn all_wide(load: u64) -> bool
     ensures { result ≡ all_wide (list_of load) }
 {
-    let n = load / LENGTH;
-    let mut i: u64 = 0;
-    while i < 11 {
-        if n <= i {
-            return true;
-        }
-        let wide = wide_category(digit(load, i));
-        if wide {
-            i += 1;
-        } else {
-            return false;
-        }
-    }
-    true
+    let n = (load / LENGTH).min(11);
+    (0..n).all(|i| wide_category(digit(load, i)))
 }
 
 // The set of an Unknown's categories, one bit a category.
 fn list_mask(load: u64) -> u64
     ensures { result ≡ mask_with 0 (list_of load) }
 {
-    let n = load / LENGTH;
+    let n = (load / LENGTH).min(11);
     let mut m: u64 = 0;
-    let mut i: u64 = 0;
-    while i < 11 {
-        if n <= i {
-            return m;
-        }
-        let d = digit(load, i);
-        m = m | (1u64 << d);
-        i += 1;
+    for i in 0..n {
+        m |= 1 << digit(load, i);
     }
     m
 }
@@ -170,16 +133,7 @@ pub fn is_legal(word: u64, names: u64) -> bool
 pub fn are_legal(words: &[u64], names: u64) -> bool
     ensures { result ≡ all_legal names words.now }
 {
-    let mut i: usize = 0;
-    while i < words.len() {
-        let legal = is_legal(words[i], names);
-        if legal {
-            i += 1;
-        } else {
-            return false;
-        }
-    }
-    true
+    words.iter().all(|word| is_legal(*word, names))
 }
 
 // The type of a word over that many names.
@@ -187,7 +141,7 @@ pub fn decode(word: u64, names: u64) -> Result<TypeWord, NoType>
     ensures { result ≡ decode_word names word }
 {
     if is_legal(word, names) {
-        Ok(TypeWord { word: word })
+        Ok(TypeWord { word })
     } else {
         Err(NoType { word })
     }

@@ -6,10 +6,10 @@ use Prim.Native.Nat.{ℕ, zero, suc, ◌+◌, ◌-◌, ◌≤◌, ◌<◌}
 use native.Mathlib.Nat.{suc-sub-suc, sub-zero}
 use native.Mathlib.Numerals.{add-one}
 use native.Mathlib.Omega.{arith}
-use lib.Dec.{eqb}
+use lib.Dec.{eqb, ltb}
 use lib.ListN.{length, get_or, take, drop, length-drop, drop_of_length-le}
-use lib.Seq.{slice, slice-cons, length-slice, drop-drop, take-nil, length-take-le}
-use borrow.Author.Tests.{eq-eqb, ne_eqb, eqb-true, eqb-false, lt-ltb, le-ltb}
+use lib.Seq.{slice, slice-cons, length-slice, drop-cons, drop-drop, take-nil, length-take-le}
+use borrow.Author.Tests.{eq-eqb, ne_eqb, eqb-true, eqb-false}
 use Rattle.utf8.specs.Utf8.{Range, table, matches, within, sequence, valid_prefix, ascii, well_formed}
 use Rattle.utf8.specs.Rows.{matches-le, sequence-row, sequence-le}
 use Rattle.utf8.specs.Laws.{prefix-step, prefix-stop, prefix-le, ascii-whole}
@@ -88,18 +88,14 @@ module _ (s : List ℕ) (i to : ℕ) (fits : to ≤ length s) where
 
 -- ---- bytes below 80 from i on
 
-module _ (s : List ℕ) (i to : ℕ) (fits : to ≤ length s) where
-  pub ascii-low : i < to → get_or s i 0 < 0x80 → ascii (slice i to s) ≡ ascii (slice (i + 1) to s)
-  unfolding ascii
-  ascii-low h b = rw (part-cons i to s h fits, lt-ltb (get_or s i 0) 0x80 b)
+-- the test of the byte k, and of those after it
+pub ascii-step : (bs : List ℕ) (k : ℕ) → k < length bs → ascii (drop k bs) ≡ (ltb (get_or bs k 0) 0x80 && ascii (drop (k + 1) bs))
+unfolding ascii
+ascii-step bs k h = rw (add-one k, drop-cons bs k 0 h) refl
 
-  pub ascii-high : i < to → 0x80 ≤ get_or s i 0 → ascii (slice i to s) ≡ false
-  unfolding ascii
-  ascii-high h b = rw (part-cons i to s h fits, le-ltb (get_or s i 0) 0x80 b)
-
-  pub ascii-end : to ≤ i → ascii (slice i to s) ≡ true
-  unfolding ascii
-  ascii-end h = rw (drop_of_length-le (take to s) {i = i} (omega (arith, length-take-le to s fits)))
+pub ascii-end : (bs : List ℕ) (k : ℕ) → length bs ≤ k → ascii (drop k bs) ≡ true
+unfolding ascii
+ascii-end bs k h = rw (drop_of_length-le bs h) refl
 
 pub ascii-part : (s : List ℕ) (from to : ℕ) → from ≤ to → to ≤ length s → ascii (slice from to s) ≡ true
     → from + valid_prefix (take (to - from) (drop from s)) ≡ to

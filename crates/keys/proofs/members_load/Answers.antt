@@ -6,7 +6,7 @@ use Rattle.keys.proofs.Rest.{rest-all, rest-end, rest-none, rest-more}
 use Rattle.keys.proofs.members_load.Goals as goal
 
 pub loop-i-init : goal.loop-i-init
-loop-i-init c = (omega arith, omega (arith, rest-all c.args.digits))
+loop-i-init c = omega (arith, rest-all c.args.digits)
 
 pub overflow_add-result : goal.overflow_add-result
 overflow_add-result c = omega (arith, members-lt c.args.digits)
@@ -29,14 +29,8 @@ overflow_add-sum c =
 
 pub loop-i-preserved : goal.loop-i-preserved
 loop-i-preserved c =
-    let x = c.args.digits in
-    let l = c.loop-i in (
-      omega arith,
-      omega (
-        arith,
-        rest-more x l.i c.digit-d.result c.loop-i-test.true c.digit-d.ensures c.if-d-eq0.false,
-      ),
-    )
+    let l = c.loop-i in
+    omega (arith, rest-more c.args.digits l.i c.digit-d.result c.loop-i-test.true c.digit-d.ensures c.if-d-eq0.false)
 
 pub overflow_add-result-2 : goal.overflow_add-result-2
 overflow_add-result-2 c = omega (arith, members-lt c.args.digits)

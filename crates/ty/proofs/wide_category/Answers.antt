@@ -7,6 +7,6 @@ pub returns-then-category-eq-LONG : goal.returns-then-category-eq-LONG
 unfolding wide_category
 returns-then-category-eq-LONG c = simp (eq-eqb _ _ c.if-category-eq-LONG.true)
 
-pub returns : goal.returns
+pub returns-else-category-eq-LONG : goal.returns-else-category-eq-LONG
 unfolding wide_category
-returns c = simp (ne_eqb _ _ c.if-category-eq-LONG.false)
+returns-else-category-eq-LONG c = simp (ne_eqb _ _ c.if-category-eq-LONG.false)

@@ -1,14 +1,7 @@
--- `is_ascii` meets its contract: the bytes passed are all below 80 where `plain` says so, and the rest is tested from i on.
-use mathlib.Core.Path.{◌≡◌}
-use mathlib.Core.Bool.{◌&&◌}
-use Prim.Native.Nat.{◌-◌, ◌≤◌}
-use lib.ListN.{length}
-use lib.Seq.{slice}
+-- `is_ascii` meets its contract: the bytes passed are all below 80 where `plain` says so, and the rest is still to be tested.
+use Rattle.std.proofs.Common.{◌≡◌, ◌&&◌, drop}
 use Rattle.utf8.specs.Utf8.{ascii}
 use Rattle.utf8.proofs.is_ascii.Given as goal
 
-abbrev pub invariant-loop-i : goal.invariant-loop-i
-invariant-loop-i l = (l.i ≤ l.to) × (l.to ≤ length l.s) × (ascii (slice l.from l.to l.s) ≡ (l.plain && ascii (slice l.i l.to l.s)))
-
-abbrev pub decreases-loop-i : goal.decreases-loop-i
-decreases-loop-i l = l.to - l.i
+abbrev pub invariant-loop-byte : goal.invariant-loop-byte
+invariant-loop-byte l = ascii l.byte-items ≡ (l.plain && ascii (drop l.byte-index l.byte-items))

@@ -1,21 +1,11 @@
--- `Set::lowest` meets its contract. At word k the words below k are 0; the measure is the number of words left.
-use mathlib.Core.Path.{◌≡◌, ap, ◌∙◌}
-use Prim.Native.Nat.{ℕ, ◌+◌, ◌*◌}
+-- `Set::lowest` meets its contract. At word k the words below k are 0.
+use mathlib.Core.Path.{ap, ◌∙◌}
+use Prim.Native.Nat.{ℕ, ◌+◌}
 use native.Mathlib.Omega.{arith}
-use lib.Count.{trailing_le}
 use lib.ListN.{get_or, drop}
 use Rattle.sets.proofs.Good.{array-length, array-fits}
 use Rattle.sets.proofs.Loops.{low_words, low_step, low-members, low-drop, low-end, low-pos}
 use Rattle.sets.proofs.Set.lowest.Goals as goal
-
-pub loop-k-init : goal.loop-k-init
-loop-k-init c = (omega arith, let e : low_words c.args.self.words ≡ 64 * 0 + low_words c.args.self.words = omega arith in e)
-
-pub overflow_cast-result : goal.overflow_cast-result
-overflow_cast-result c = omega (arith, trailing_le 64 (get_or c.args.self.words c.loop-k.k 0))
-
-pub overflow_add-result : goal.overflow_add-result
-overflow_add-result c = omega (arith, trailing_le 64 (get_or c.args.self.words c.loop-k.k 0))
 
 pub returns-then-w-ne0 : goal.returns-then-w-ne0
 returns-then-w-ne0 c =
@@ -33,7 +23,7 @@ loop-k-preserved c =
     let k = c.loop-k.k in
     let l = array-length 16 ws _ c.well_formed.0.1.1.0 in
     let d = low-drop ws k (omega arith) ∙ ap (λ (w : ℕ). low_step w (low_words (drop (k + 1) ws))) c.if-w-ne0.false in
-    (omega arith, omega arith)
+    omega arith
 
 pub returns : goal.returns
 returns c =
