@@ -37,7 +37,7 @@ pub gather-row-one : (κs : Lfts 3) (a : Dens κs gather-row-kinds.ps) (r₁ r�
     (x₁ x₂ : AtExit (ended_of 3 gather-row-kinds.ps gather-row-kinds.r) κs) → gather-row.Post κs a r₁ x₁ → gather-row.Post κs a r₂ x₂
     → (r₁ ≡ r₂) × (x₁.1.1.1.1.1.0.now ≡ x₂.1.1.1.1.1.0.now) × (x₁.1.1.1.1.1.1.0.now ≡ x₂.1.1.1.1.1.1.0.now)
 gather-row-one κs a r₁ r₂ x₁ x₂ p q = (
-  p.taken-is ∙ sym q.taken-is,
+  p.keys-are ∙ sym q.keys-are,
   p.bits-are ∙ sym q.bits-are,
   p.marks-are ∙ sym q.marks-are,
 )

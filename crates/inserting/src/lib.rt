@@ -29,12 +29,7 @@ pub enum Sent {
 fn refused(s: State, k: u64) -> State
     ensures { result ≡ refused_by k s }
 {
-    let q = s.queue;
-    State {
-        refusal: k,
-        count: s.count,
-        queue: q,
-    }
+    State { refusal: k, ..s }
 }
 
 // Puts a bound into the table and its component into the queue, where it is new; 21 where there is no room.
@@ -54,12 +49,11 @@ pub fn insert_bound(
     match p {
         Put::Old => s,
         Put::New => {
-            let before = s.queue;
-            let q = queue::offer(ring, before, component);
+            let q = queue::offer(ring, s.queue, component);
             State {
-                refusal: s.refusal,
                 count: s.count + 1,
                 queue: q,
+                ..s
             }
         }
         Put::Full => refused(s, 21),

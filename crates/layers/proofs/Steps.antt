@@ -1,12 +1,12 @@
 -- What the loop and the returns of this crate go by, on plain lists.
 use mathlib.Core.Path.{◌≡◌, sym, ap, ap₂, ◌∙◌, subst}
-use mathlib.Core.List.{List, [], ◌∷◌, ◌++◌, append_assoc, append-nil}
-use Prim.Native.Nat.{ℕ, suc, ◌+◌, ◌-◌, ◌≤◌, ◌<◌}
+use mathlib.Core.List.{List, ◌++◌, append_assoc}
+use Prim.Native.Nat.{ℕ, ◌+◌, ◌-◌, ◌≤◌, ◌<◌}
 use native.Mathlib.Omega.{arith}
-use native.Mathlib.Numerals.{add-one}
 use borrow.Author.Tests.{le-leb, lt-leb}
-use lib.ListN.{length, length-take, take, drop, get_or, set, replicate, drop_of_length-le, length-drop, length-append, take-append-drop}
-use lib.Seq.{length-take-le, take-suc, drop-cons, set_at, get_or-drop, take-take, take_all, take-add, drop_at, drop-drop}
+use lib.ListN.{length, length-take, take, drop, replicate, length-drop, length-append, take-append-drop}
+use Rattle.std.specs.List.{copy_within}
+use lib.Seq.{length-take-le, take-take, take-add, drop_at, drop-drop}
 use Rattle.sets.specs.Sets.{insert}
 use Rattle.sorted.specs.declared.Span.{Span}
 use Rattle.sorted.specs.Sorted.{Sorted, run_of}
@@ -28,35 +28,6 @@ use Rattle.layers.specs.Laws.{inside-none, without-run, left-sorted, left-shorte
 
 -- ---- moving down
 
--- of A, j entries from k on have come to the front
-abbrev pub moved : List ℕ → ℕ → ℕ → List ℕ
-moved A k j = take j (drop k A) ++ drop j A
-
-module _ (A : List ℕ) (k : ℕ) where
-  pub moved-length : (j : ℕ) → j + k ≤ length A → length (moved A k j) ≡ length A
-  moved-length j h =
-      let t = length-take-le j (drop k A) (omega (arith, length-drop k A)) in
-      length-append (take j (drop k A)) (drop j A) ∙ (let d = length-drop j A in omega arith)
-
-  moved-get : (j : ℕ) → j + k < length A → get_or (moved A k j) (j + k) 0 ≡ get_or A (j + k) 0
-  moved-get j h =
-      let t = length-take-le j (drop k A) (omega (arith, length-drop k A)) in
-      let here = get_or-drop j (moved A k j) k 0 in
-      let there = get_or-drop j A k 0 in
-      let same : drop j (moved A k j) ≡ drop j A = drop_at (take j (drop k A)) (drop j A) j t in
-      sym here ∙ ap (λ (l : List ℕ). get_or l k 0) same ∙ there
-
-  pub moved-step : (j : ℕ) → j + k < length A → set (moved A k j) j (get_or (moved A k j) (j + k) 0) ≡ moved A k (j + 1)
-  moved-step j h =
-      let t = length-take-le j (drop k A) (omega (arith, length-drop k A)) in
-      let one : take (suc j) (drop k A) ≡ take j (drop k A) ++ (get_or (drop k A) j 0 ∷ []) = take-suc (drop k A) j 0 (omega (arith, length-drop k A)) in
-      let value : get_or (drop k A) j 0 ≡ get_or A (j + k) 0 = get_or-drop k A j 0 ∙ ap (λ (i : ℕ). get_or A i 0) (let e : k + j ≡ j + k = omega arith in e) in
-      ap (λ (v : ℕ). set (moved A k j) j v) (moved-get j h)
-      ∙ ap (λ (l : List ℕ). set (take j (drop k A) ++ l) j (get_or A (j + k) 0)) (drop-cons A j 0 (omega arith))
-      ∙ set_at (take j (drop k A)) (get_or A j 0) (drop (suc j) A) (get_or A (j + k) 0) j t
-      ∙ sym (ap (λ (m : ℕ). moved A k m) (add-one j) ∙ ap (λ (l : List ℕ). l ++ drop (suc j) A) one ∙ append_assoc (take j (drop k A)) (get_or (drop k A) j 0 ∷ []) (drop (suc j) A)
-      ∙ ap (λ (v : ℕ). take j (drop k A) ++ (v ∷ drop (suc j) A)) value)
-
 -- the entries of a front from k on
 pub drop-front : (A : List ℕ) (k n : ℕ) → k ≤ n → n ≤ length A → take (n - k) (drop k A) ≡ drop k (take n A)
 drop-front A k n h m =
@@ -66,33 +37,6 @@ drop-front A k n h m =
 -- ---- a run taken out of the front
 
 module _ (A : List ℕ) (n first past : ℕ) (h : first ≤ past) (m : past ≤ n) (w : n ≤ length A) where
-  -- what the loan of the part from `first` on leaves
-  pub closed-up : (ys : List ℕ)
-      → ys ≡ drop (past - first) (take (n - first) (take (length A - first) (drop first A))) ++ drop (n - first - (past - first)) (take (length A - first) (drop first A))
-      → take first A ++ (ys ++ drop (length A - first) (drop first A)) ≡ filled (take first (take n A) ++ drop past (take n A)) A
-  closed-up ys e =
-      let t = length-drop first A in
-      let whole : take (length A - first) (drop first A) ≡ drop first A = take_all (length A - first) (drop first A) (omega arith) in
-      let none : drop (length A - first) (drop first A) ≡ [] = drop_of_length-le (drop first A) {i = length A - first} (omega arith) in
-      let up : drop (past - first) (take (n - first) (drop first A)) ≡ drop past (take n A) =
-      ap (drop (past - first)) (drop-front A first n (omega arith) w) ∙ drop-drop (past - first) first (take n A) ∙ ap (λ (i : ℕ). drop i (take n A)) (let q : first + (past - first) ≡ past = omega arith in q) in
-      let rest : drop (n - first - (past - first)) (drop first A) ≡ drop (n - (past - first)) A =
-      drop-drop (n - first - (past - first)) first A ∙ ap (λ (i : ℕ). drop i A) (let q : first + (n - first - (past - first)) ≡ n - (past - first) = omega arith in q) in
-      ap₂ (λ (u v : List ℕ). take first A ++ (u ++ v)) (e ∙ ap (λ (S : List ℕ). drop (past - first) (take (n - first) S) ++ drop (n - first - (past - first)) S) whole) none
-      ∙ ap (λ (l : List ℕ). take first A ++ l) (append-nil _)
-      ∙ ap₂ (λ (u v : List ℕ). take first A ++ (u ++ v)) up rest
-      ∙ ap (λ (l : List ℕ). l ++ (drop past (take n A) ++ drop (n - (past - first)) A)) (sym (take-take first n A (omega arith)))
-      ∙ sym (append_assoc (take first (take n A)) (drop past (take n A)) (drop (n - (past - first)) A))
-      ∙ ap (λ (i : ℕ). (take first (take n A) ++ drop past (take n A)) ++ drop i A) (sym short)
-    where
-      short : length (take first (take n A) ++ drop past (take n A)) ≡ n - (past - first)
-      short =
-          let a = length-append (take first (take n A)) (drop past (take n A)) in
-          let b = length-take first (take n A) in
-          let d = length-drop past (take n A) in
-          let f = length-take-le n A w in
-          omega arith
-
   pub closed-length : length (take first (take n A) ++ drop past (take n A)) ≡ n - (past - first)
   closed-length =
       let a = length-append (take first (take n A)) (drop past (take n A)) in
@@ -100,6 +44,13 @@ module _ (A : List ℕ) (n first past : ℕ) (h : first ≤ past) (m : past ≤ 
       let d = length-drop past (take n A) in
       let f = length-take-le n A w in
       omega arith
+
+  -- what stands behind the run, copied to where it began
+  pub closed-up : copy_within A past n first ≡ filled (take first (take n A) ++ drop past (take n A)) A
+  closed-up =
+      let end : first + (n - past) ≡ length (take first (take n A) ++ drop past (take n A)) = let c = closed-length in omega arith in
+      ap₂ (λ (u v : List ℕ). (u ++ v) ++ drop (first + (n - past)) A) (sym (take-take first n A (omega arith))) (drop-front A past n m w)
+      ∙ ap (λ (i : ℕ). (take first (take n A) ++ drop past (take n A)) ++ drop i A) end
 
 module _ (A : List ℕ) (n c : ℕ) (w : n ≤ length A) (g : Sorted (take n A)) (r : Span) (e : r ≡ run_of names_room c (take n A)) where
   pub run-in : (r.first ≤ r.past) × (r.past ≤ n)
@@ -250,7 +201,7 @@ module _ (pairs marks : List ℕ) (n : StackTables) (g : Holds pairs marks n) wh
     -- a row of a plain table, in the front of the pairs
     pub lowest-filled : (flags class : ℕ) (parents part' marks' : List ℕ) (o : Outcome)
         → Fills (record_ran (state_of (take 4096 pairs) marks n.tables) flags class parents) (take 4096 pairs) part' marks' o
-        → FillsStack (stack_ran (stack_of pairs marks n) flags class parents) pairs (part' ++ drop 4096 pairs) marks' (record { refusal = o.refusal; stack = record { tables = o.tables; layer = n.layer; under = 0 } })
+        → FillsStack (stack_ran (stack_of pairs marks n) flags class parents) pairs (part' ++ drop 4096 pairs) marks' (record { refusal = o.refusal; stack = record { tables = o.tables; layer = n.layer; under = n.under } })
     lowest-filled flags class parents part' marks' o f =
         let s : Stack = stack_of pairs marks n in
         let front : State = state_of (take 4096 pairs) marks n.tables in
@@ -269,7 +220,7 @@ module _ (pairs marks : List ℕ) (n : StackTables) (g : Holds pairs marks n) wh
             stack = record {
               tables = (ap (λ (x : Outcome). x.tables) f.outcome-is ∙ ap (λ (x : Ran). x.state.tables) ran ∙ ap (λ (x : Stack). x.top.shown.tables) (sym row)) i;
               layer = record { own = record { words = (ap (λ (x : Stack). x.top.own) (sym row)) i }; keys = kept i };
-              under = (ap (λ (x : Stack). x.under) (sym row)) i;
+              under = (z ∙ ap (λ (x : Stack). x.under) (sym row)) i;
             };
           };
           pairs-are =

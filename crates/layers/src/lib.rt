@@ -46,28 +46,14 @@ pub struct StackOutcome {
     pub stack: StackTables,
 }
 
-// Moves the entries from k up to n to the front.
-fn move_down(s: &mut [u64], k: usize, n: usize)
-    requires { (k ≤ n) × (n ≤ length s.old) }
-    ensures { s.new ≡ drop k (take n s.old) ++ drop (n - k) s.old }
-{
-    let mut i = k;
-    while i < n {
-        s[i - k] = s[i];
-        i += 1;
-    }
-}
-
 // Takes the keys of a class away, and tells how many are left.
 fn take_away(pairs: &mut [u64], n: usize, class: u64) -> usize
     requires { (class < names_room) × (n ≤ length pairs.old) × Sorted (take n pairs.old) }
     ensures { (result ≡ length (keys_without class (take n pairs.old))) × (pairs.new ≡ filled (keys_without class (take n pairs.old)) pairs.old) }
 {
     let run = sorted::run(pairs, n, NAMES, class);
-    let first = run.first;
-    let k = run.past - first;
-    move_down(&mut pairs[first..], k, n - first);
-    n - k
+    pairs.copy_within(run.past..n, run.first);
+    n - (run.past - run.first)
 }
 
 // Takes the keys away that lie below a record of a class.
@@ -143,29 +129,21 @@ pub fn add_layer_record(
     let refusal = check_record(flags, class, parents, pairs, t, layer);
     if refusal != 0 {
         return LayerOutcome {
-            refusal: refusal,
+            refusal,
             tables: t,
-            layer: layer,
+            layer,
         };
     }
     let left = uncover(pairs, t.pairs, class, layer.own);
     let n = put_pairs(pairs, left, class, parents);
     put_marks(marks, flags, class);
-    let with = Tables {
-        names: t.names,
-        bytes: t.bytes,
-        object: t.object,
-        cloneable: t.cloneable,
-        serializable: t.serializable,
-        pairs: n,
-    };
     let grown = Layer {
         own: layer.own.with(class),
         keys: layer.keys + (n - left),
     };
     LayerOutcome {
         refusal: 0,
-        tables: with,
+        tables: Tables { pairs: n, ..t },
         layer: grown,
     }
 }
@@ -183,16 +161,12 @@ fn add_to_lowest(
     ensures { FillsStack (stack_ran (stack_of pairs.old marks.old s) flags class parents.now) pairs.old pairs.new marks.new result }
 {
     let o = add_record(flags, class, parents, &mut pairs[0..PAIRS], marks, s.tables);
-    let with = o.tables;
-    let layer = s.layer;
-    let stack = StackTables {
-        tables: with,
-        layer: layer,
-        under: 0,
-    };
     StackOutcome {
         refusal: o.refusal,
-        stack: stack,
+        stack: StackTables {
+            tables: o.tables,
+            ..s
+        },
     }
 }
 
@@ -209,16 +183,13 @@ fn add_to_layer(
     ensures { FillsStack (stack_ran (stack_of pairs.old marks.old s) flags class parents.now) pairs.old pairs.new marks.new result }
 {
     let o = add_layer_record(flags, class, parents, pairs, marks, s.tables, s.layer);
-    let with = o.tables;
-    let layer = o.layer;
-    let stack = StackTables {
-        tables: with,
-        layer: layer,
-        under: s.under,
-    };
     StackOutcome {
         refusal: o.refusal,
-        stack: stack,
+        stack: StackTables {
+            tables: o.tables,
+            layer: o.layer,
+            ..s
+        },
     }
 }
 
@@ -250,18 +221,16 @@ pub fn open_layer(s: StackTables) -> StackOutcome
             stack: s,
         };
     }
-    let t = s.tables;
     let layer = Layer {
         own: Set::empty(),
         keys: 0,
     };
-    let stack = StackTables {
-        tables: t,
-        layer: layer,
-        under: s.under + 1,
-    };
     StackOutcome {
         refusal: 0,
-        stack: stack,
+        stack: StackTables {
+            layer,
+            under: s.under + 1,
+            ..s
+        },
     }
 }

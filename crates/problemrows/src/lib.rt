@@ -61,10 +61,7 @@ pub fn add_variable(components: u64, variables: &mut [u64], n: usize, component:
 {
     let refusal = check_variable(components, n, component);
     if refusal != 0 {
-        return Added {
-            refusal: refusal,
-            count: n,
-        };
+        return Added { refusal, count: n };
     }
     variables[n] = component;
     Added {
@@ -127,7 +124,7 @@ fn put_bound(bounds: &mut [u64], n: usize, component: u64, kind: u64, word: u64)
     requires { (component < 512) × (kind < 8) × Legal word × (n ≤ 4096) × (4096 ≤ length bounds.old) × Sorted (take n bounds.old) }
     ensures { Adds (entry_row 4096 (key component kind (type_of word)) (take n bounds.old)) bounds.old bounds.new result }
 {
-    let x = key_of(component, kind, TypeWord { word: word });
+    let x = key_of(component, kind, TypeWord { word });
     put_entry(bounds, n, BOUNDS, x)
 }
 

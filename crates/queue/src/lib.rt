@@ -29,16 +29,14 @@ pub fn fill(ring: &mut [u64], n: u64) -> Queue
     ensures { (result ≡ line 0 n (first_set n)) × (ring.new ≡ numbers 0 n ++ drop n ring.old) }
 {
     let mut queued = Set::empty();
-    let mut i: u64 = 0;
-    while i < n {
+    for i in 0..n {
         ring[i as usize] = i;
         queued = queued.with(i);
-        i += 1;
     }
     Queue {
         head: 0,
         len: n,
-        queued: queued,
+        queued,
     }
 }
 
@@ -47,17 +45,15 @@ pub fn offer(ring: &mut [u64], q: Queue, c: u64) -> Queue
     requires { (length ring.old ≡ 512) × (q.head < 512) × (member q.queued.words c ≡ false → q.len < 512) }
     ensures { (result ≡ offered q c) × (ring.new ≡ ring_offered ring.old q c) }
 {
-    let queued = q.queued;
-    if queued.has(c) {
+    if q.queued.has(c) {
         return q;
     }
     let at = ((q.head + q.len) % 512) as usize;
     ring[at] = c;
-    let more = queued.with(c);
     Queue {
-        head: q.head,
         len: q.len + 1,
-        queued: more,
+        queued: q.queued.with(c),
+        ..q
     }
 }
 
@@ -66,15 +62,14 @@ pub fn pop(ring: &[u64], q: Queue) -> Popped
     requires { (length ring.now ≡ 512) × (q.head < 512) × (0 < q.len) }
     ensures { result ≡ popped ring.now q }
 {
-    let c = ring[q.head as usize];
-    let queued = q.queued;
-    let fewer = queued.without(c);
+    let front = ring[q.head as usize];
+    let queued = q.queued.without(front);
     Popped {
-        front: c,
+        front,
         rest: Queue {
             head: (q.head + 1) % 512,
             len: q.len - 1,
-            queued: fewer,
+            queued,
         },
     }
 }

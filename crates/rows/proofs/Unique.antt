@@ -17,6 +17,8 @@ use Rattle.rows.proofs.check_numbers.Reads as check-numbers
 use Rattle.rows.proofs.check_numbers.Kinds as check-numbers-kinds
 use Rattle.rows.proofs.fresh.Reads as fresh
 use Rattle.rows.proofs.fresh.Kinds as fresh-kinds
+use Rattle.rows.proofs.put_key.Reads as put-key
+use Rattle.rows.proofs.put_key.Kinds as put-key-kinds
 use Rattle.rows.proofs.put_pairs.Reads as put-pairs
 use Rattle.rows.proofs.put_pairs.Kinds as put-pairs-kinds
 
@@ -51,7 +53,12 @@ pub fresh-one : (κs : Lfts 2) (a : Dens κs fresh-kinds.ps) (r₁ r₂ : (res_t
     (x₁ x₂ : AtExit (ended_of 2 fresh-kinds.ps fresh-kinds.r) κs) → fresh.Post κs a r₁ x₁ → fresh.Post κs a r₂ x₂ → r₁ ≡ r₂
 fresh-one κs a r₁ r₂ x₁ x₂ p q = λ i. record { words = (p ∙ sym q) i }
 
--- the first is lent
+-- the first is lent, as in the next
+pub put-key-one : (κs : Lfts 1) (a : Dens κs put-key-kinds.ps) (r₁ r₂ : (res_t put-key-kinds.r κs).Denot)
+    (x₁ x₂ : AtExit (ended_of 1 put-key-kinds.ps put-key-kinds.r) κs) → put-key.Post κs a r₁ x₁ → put-key.Post κs a r₂ x₂
+    → (r₁ ≡ r₂) × (x₁.0.now ≡ x₂.0.now)
+put-key-one κs a r₁ r₂ x₁ x₂ p q = (p.0 ∙ sym q.0, p.1 ∙ sym q.1)
+
 pub put-pairs-one : (κs : Lfts 2) (a : Dens κs put-pairs-kinds.ps) (r₁ r₂ : (res_t put-pairs-kinds.r κs).Denot)
     (x₁ x₂ : AtExit (ended_of 2 put-pairs-kinds.ps put-pairs-kinds.r) κs) → put-pairs.Post κs a r₁ x₁ → put-pairs.Post κs a r₂ x₂
     → (r₁ ≡ r₂) × (x₁.0.now ≡ x₂.0.now)

@@ -1,9 +1,9 @@
 -- THE LOOP OF A RUN, STEP BY STEP: it starts as `propagate` does, a pop and a turn are one turn of the definition, a refusal stops both, an empty
 -- queue ends both, and something falls at each turn. Over a lawful world and links among the components.
-use Rattle.std.specs.Prelude.{◌≡◌, refl, List, [], ◌∷◌, ◌++◌, map, ℕ, suc, ◌+◌, ◌-◌, ◌≤◌, ◌<◌, length, take, drop, get_or, set}
-use Rattle.std.proofs.Common.{sym, ap, ap₂, ◌∙◌, subst, arith, add-one, length-append, length-drop, drop-cons, take-suc, length-take-le}
-use Rattle.std.proofs.lemmas.List.{length-map, set_at}
-use Rattle.std.proofs.Math.Seq.{append_snoc, take-append_seam}
+use Rattle.std.specs.Prelude.{◌≡◌, refl, List, [], ◌∷◌, ◌++◌, map, ℕ, suc, ◌+◌, ◌-◌, ◌≤◌, ◌<◌, length, drop}
+use Rattle.std.proofs.Common.{sym, ap, ap₂, ◌∙◌, subst, arith, add-one, length-append, length-drop}
+use Rattle.std.proofs.lemmas.List.{length-map}
+use Rattle.std.proofs.Math.Seq.{take-append_seam}
 use Rattle.view.specs.View.{numbers}
 use Rattle.lattice.specs.Lattice.{World, Lawful}
 use Rattle.queue.specs.Ring.{Shows}
@@ -22,16 +22,6 @@ use Rattle.rules.specs.Turn.{turn-shown}
 use Rattle.running.specs.Running.{started, without, taken, table_in, Sound, Running, Fronted, Leaves}
 
 -- ---- the given bounds
-
--- one key more
-pub load-more : (given a : List ℕ) (i : ℕ) → i < length given → length given ≤ length a → set (take i given ++ drop i a) i (get_or given i 0) ≡ take (i + 1) given ++ drop (i + 1) a
-load-more given a i h k =
-    let v = get_or given i 0 in
-    ap (λ (r : List ℕ). set (take i given ++ r) i v) (drop-cons a i 0 (omega arith))
-    ∙ set_at (take i given) (get_or a i 0) (drop (suc i) a) v i (length-take-le i given (omega arith))
-    ∙ sym (append_snoc (take i given) v (drop (suc i) a))
-    ∙ ap (λ (x : List ℕ). x ++ drop (suc i) a) (sym (take-suc given i 0 h))
-    ∙ ap (λ (n : ℕ). take n given ++ drop n a) (sym (add-one i))
 
 -- what was loaded is held
 pub load-holds : (given a : List ℕ) (t : Table) → given ≡ keys_of t → length a ≡ room → length t ≤ room → Holds (given ++ drop (length given) a) (length given) t

@@ -20,11 +20,7 @@ pub fn load(given: &[u64], a: &mut [u64])
     requires { length given.now ≤ length a.old }
     ensures { a.new ≡ given.now ++ drop (length given.now) a.old }
 {
-    let mut i: usize = 0;
-    while i < given.len() {
-        a[i] = given[i];
-        i += 1;
-    }
+    a[..given.len()].copy_from_slice(given);
 }
 
 // A solve of so many bounds: all components wait, ascending.
@@ -32,11 +28,10 @@ pub fn start(ring: &mut [u64], count: usize, components: u64) -> State
     requires { (length ring.old ≡ 512) × (components ≤ 512) }
     ensures { (result ≡ started count components) × (ring.new ≡ numbers 0 components ++ drop components ring.old) }
 {
-    let q = fill(ring, components);
     State {
         refusal: 0,
-        count: count,
-        queue: q,
+        count,
+        queue: fill(ring, components),
     }
 }
 
@@ -45,16 +40,9 @@ pub fn take_front(ring: &[u64], s: State) -> Taken
     requires { (length ring.now ≡ 512) × (s.queue.head < 512) × (0 < s.queue.len) }
     ensures { result ≡ taken ring.now s }
 {
-    let q = s.queue;
-    let p = pop(ring, q);
-    let rest = p.rest;
-    let left = State {
-        refusal: s.refusal,
-        count: s.count,
-        queue: rest,
-    };
+    let p = pop(ring, s.queue);
     Taken {
         root: p.front,
-        state: left,
+        state: State { queue: p.rest, ..s },
     }
 }

@@ -27,5 +27,5 @@ pub returns : goal.returns
 returns c =
     let a = c.args in
     let m = sym c.has.ensures ∙ c.if-has.false in
-    let w = c.with-more.ensures in
+    let w = c.with.ensures in
     ((λ k. record { head = a.q.head; len = a.q.len + 1; queued = record { words = w k } }) ∙ sym (offered-new a.q a.c m), sym (ring-new a.q a.c a.ring.now m))
