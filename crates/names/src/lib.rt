@@ -111,8 +111,7 @@ pub fn check_names(names: &[u8], name_at: &[u64], name_len: &[u64]) -> u64
     let mut last: u64 = 0;
     let mut span: u64 = 0;
     let mut total: u64 = 0;
-    let mut i: usize = 0;
-    while i < name_at.len() {
+    for i in 0..name_at.len() {
         let at = name_at[i];
         let len = name_len[i];
         let refusal = check_row(names, last, span, at, len, i as u64, total);
@@ -122,7 +121,6 @@ pub fn check_names(names: &[u8], name_at: &[u64], name_len: &[u64]) -> u64
         last = at;
         span = len;
         total += len;
-        i += 1;
     }
     0
 }

@@ -41,7 +41,7 @@ returns-then-name_at-name_len c = rw (ne_eqb _ _ c.if-name_at-name_len.true)
 
 pub loop-i-init : goal.loop-i-init
 unfolding check_names
-loop-i-init c = (omega arith, c.if-name_at-name_len.false, omega arith, omega arith, omega arith, rw (eq-eqb _ _ c.if-name_at-name_len.false))
+loop-i-init c = (c.if-name_at-name_len.false, omega arith, omega arith, omega arith, rw (eq-eqb _ _ c.if-name_at-name_len.false))
 
 pub returns-then-refusal-ne0 : goal.returns-then-refusal-ne0
 returns-then-refusal-ne0 c =
@@ -49,7 +49,7 @@ returns-then-refusal-ne0 c =
     let l = c.loop-i in
     let s = a.names.now in
     let r = c.check_row-refusal in
-    sym (l.invariant.5 ∙ row-refused s a.name_at.now a.name_len.now (name_of s l.last l.span) l.i l.total r.result (omega arith) (omega arith) r.ensures c.if-refusal-ne0.true)
+    sym (l.invariant.4 ∙ row-refused s a.name_at.now a.name_len.now (name_of s l.last l.span) l.i l.total r.result (omega arith) (omega arith) r.ensures c.if-refusal-ne0.true)
 
 pub overflow_add-total : goal.overflow_add-total
 overflow_add-total c = let g = row-checked _ _ _ _ _ _ (sym c.check_row-refusal.ensures ∙ c.if-refusal-ne0.false) in omega arith
@@ -61,12 +61,11 @@ loop-i-preserved c =
     let s = a.names.now in
     let r = c.check_row-refusal in
     let g = row-checked _ _ _ _ _ _ (sym c.check_row-refusal.ensures ∙ c.if-refusal-ne0.false) in (
-      omega arith,
-      l.invariant.1,
+      l.invariant.0,
       g.inside.starts,
       g.inside.ends,
       g.short,
-      l.invariant.5 ∙ row-passed s a.name_at.now a.name_len.now (name_of s l.last l.span) l.i l.total r.result (omega arith) (omega arith) r.ensures c.if-refusal-ne0.false,
+      l.invariant.4 ∙ row-passed s a.name_at.now a.name_len.now (name_of s l.last l.span) l.i l.total r.result (omega arith) (omega arith) r.ensures c.if-refusal-ne0.false,
     )
 
 pub returns : goal.returns
@@ -74,4 +73,4 @@ returns c =
     let a = c.args in
     let l = c.loop-i in
     let s = a.names.now in
-    sym (l.invariant.5 ∙ rows-end s a.name_at.now a.name_len.now (name_of s l.last l.span) l.i l.total (omega arith))
+    sym (l.invariant.4 ∙ rows-end s a.name_at.now a.name_len.now (name_of s l.last l.span) l.i l.total (omega arith))
