@@ -48,10 +48,8 @@ fn types_length(name_len: &[u64], words: &[u64]) -> u64
     ensures { (result ≡ words_size name_len.now words.now) × (result ≤ 130560) }
 {
     let mut n: u64 = 0;
-    let mut i: usize = 0;
-    while i < words.len() {
-        n += type_length(name_len, words[i]);
-        i += 1;
+    for word in words {
+        n += type_length(name_len, *word);
     }
     n
 }
@@ -80,22 +78,14 @@ fn put_brackets(out: &mut [u8], at: usize, dims: usize)
     requires { at + dims ≤ length out.old }
     ensures { out.new ≡ sets out.old at (replicate dims (byte "[")) }
 {
-    let mut i: usize = 0;
-    while i < dims {
-        out[at + i] = b'[';
-        i += 1;
-    }
+    out[at..at + dims].fill(b'[');
 }
 
 fn put_bytes(bytes: &[u8], from: usize, n: usize, out: &mut [u8], at: usize)
     requires { (from + n ≤ length bytes.now) × (at + n ≤ length out.old) }
     ensures { out.new ≡ sets out.old at (take n (drop from bytes.now)) }
 {
-    let mut i: usize = 0;
-    while i < n {
-        out[at + i] = bytes[from + i];
-        i += 1;
-    }
+    out[at..at + n].copy_from_slice(&bytes[from..from + n]);
 }
 
 // A class by its name; what comes back here and below is the offset after it.
@@ -169,10 +159,8 @@ fn put_types(
     ensures { Put (print_words names.now name_at.now name_len.now words.now) out.old out.new at result }
 {
     let mut next = at;
-    let mut i: usize = 0;
-    while i < words.len() {
-        next = put_type(names, name_at, name_len, words[i], out, next);
-        i += 1;
+    for word in words {
+        next = put_type(names, name_at, name_len, *word, out, next);
     }
     next
 }
