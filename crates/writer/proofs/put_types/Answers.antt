@@ -11,9 +11,6 @@ use Rattle.writer.specs.Store.{put-before, put-length}
 use Rattle.writer.specs.Steps.{legal-front, words-next, words-none}
 use Rattle.writer.proofs.put_types.Goals as goal
 
-pub loop-word-init : goal.loop-word-init
-loop-word-init c = (refl, c.requires.1, refl, refl)
-
 pub put_type-next-requires : goal.put_type-next-requires
 put_type-next-requires c =
     let a = c.args in
@@ -38,9 +35,6 @@ loop-word-preserved c =
       omega arith,
       l.invariant.3 ∙ ap (λ (xs : List ℕ). sets l.out l.next xs) w ∙ put-before put rest,
     )
-
-pub shape_of-out : goal.shape_of-out
-shape_of-out c = c.loop-word.invariant.0
 
 pub returns : goal.returns
 returns c =

@@ -5,9 +5,6 @@ use lib.ListN.{length}
 use Rattle.writer.specs.Steps.{size-next, size-none, legal-front}
 use Rattle.writer.proofs.types_length.Goals as goal
 
-pub loop-word-init : goal.loop-word-init
-loop-word-init c = (search rules, search rules, c.requires.1)
-
 pub type_length-n-requires : goal.type_length-n-requires
 type_length-n-requires c =
     let a = c.args in
