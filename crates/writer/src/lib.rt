@@ -6,27 +6,16 @@ ghost use Rattle.std.proofs.lemmas.List.Edits.{sets};
 ghost use Rattle.text.specs.Text.{byte};
 ghost use Rattle.ty.specs.Words.{legal_base, legal_word, all_legal};
 ghost use Rattle.names.specs.Table.{Checked};
-ghost use Rattle.writer.specs.Print.{letter_byte, print_word, print_words, print_method_words, Wrote, checked_type_refusal, type_refusal, MethodWrote, CheckedMethodWrote};
+ghost use Rattle.writer.specs.Print.{letter_byte, print_word, print_words, print_method_words, written, Wrote, checked_type_refusal, type_refusal, MethodWrote, CheckedMethodWrote};
 ghost use Rattle.writer.specs.Store.{Put};
 ghost use Rattle.writer.specs.Steps.{Short, class_bytes, print_base, word_size, words_size, method_size};
 
 use names::check_names;
-use ty::{DIMENSION, NO_TYPE, TAG, are_legal, is_legal};
-
-// Refusals.
-const ROOM: u64 = 8;
-
-const SHORT: u64 = 22;
+use refusals::Refusal;
+use ty::{DIMENSION, TAG, are_legal, is_legal};
 
 // How many parameters a method has at most.
 const PARAMETERS: usize = 255;
-
-// How much was written; or a refusal, and nothing was.
-#[derive(Clone, Copy)]
-pub struct Written {
-    pub refusal: u64,
-    pub length: u64,
-}
 
 // ---- lengths
 
@@ -185,36 +174,25 @@ fn put_method(
 
 // ---- the writers, over names that were checked
 
-fn refused(code: u64) -> Written
-    ensures { result ≡ record { refusal = code; «length» = 0 } }
-{
-    Written {
-        refusal: code,
-        length: 0,
-    }
-}
-
+// How much was written; where a refusal comes back, nothing was.
 fn write_checked_type(
     names: &[u8],
     name_at: &[u64],
     name_len: &[u64],
     word: u64,
     out: &mut [u8],
-) -> Written
+) -> Result<u64, Refusal>
     requires { Checked names.now name_at.now name_len.now }
-    ensures { Wrote (checked_type_refusal names.now name_at.now name_len.now word (length out.old)) (print_word names.now name_at.now name_len.now word) out.old out.new result }
+    ensures { Wrote (checked_type_refusal names.now name_at.now name_len.now word (length out.old)) (print_word names.now name_at.now name_len.now word) out.old out.new (written result) }
 {
     if !is_legal(word, name_at.len() as u64) {
-        return refused(NO_TYPE);
+        return Err(Refusal::NoType);
     }
     if (out.len() as u64) < type_length(name_len, word) {
-        return refused(SHORT);
+        return Err(Refusal::Short);
     }
     let end = put_type(names, name_at, name_len, word, out, 0);
-    Written {
-        refusal: 0,
-        length: end as u64,
-    }
+    Ok(end as u64)
 }
 
 fn write_checked_method(
@@ -224,28 +202,25 @@ fn write_checked_method(
     params: &[u64],
     res: u64,
     out: &mut [u8],
-) -> Written
+) -> Result<u64, Refusal>
     requires { Checked names.now name_at.now name_len.now }
-    ensures { CheckedMethodWrote names.now name_at.now name_len.now params.now res out.old out.new result }
+    ensures { CheckedMethodWrote names.now name_at.now name_len.now params.now res out.old out.new (written result) }
 {
     if PARAMETERS < params.len() {
-        return refused(ROOM);
+        return Err(Refusal::Room);
     }
     let n = name_at.len() as u64;
     if !are_legal(params, n) {
-        return refused(NO_TYPE);
+        return Err(Refusal::NoType);
     }
     if !is_legal(res, n) {
-        return refused(NO_TYPE);
+        return Err(Refusal::NoType);
     }
     if (out.len() as u64) < method_length(name_len, params, res) {
-        return refused(SHORT);
+        return Err(Refusal::Short);
     }
     let end = put_method(names, name_at, name_len, params, res, out);
-    Written {
-        refusal: 0,
-        length: end as u64,
-    }
+    Ok(end as u64)
 }
 
 // ---- the writers
@@ -257,13 +232,10 @@ pub fn write_type(
     name_len: &[u64],
     word: u64,
     out: &mut [u8],
-) -> Written
-    ensures { Wrote (type_refusal names.now name_at.now name_len.now word (length out.old)) (print_word names.now name_at.now name_len.now word) out.old out.new result }
+) -> Result<u64, Refusal>
+    ensures { Wrote (type_refusal names.now name_at.now name_len.now word (length out.old)) (print_word names.now name_at.now name_len.now word) out.old out.new (written result) }
 {
-    let refusal = check_names(names, name_at, name_len);
-    if refusal != 0 {
-        return refused(refusal);
-    }
+    check_names(names, name_at, name_len)?;
     write_checked_type(names, name_at, name_len, word, out)
 }
 
@@ -275,12 +247,9 @@ pub fn write_method(
     params: &[u64],
     res: u64,
     out: &mut [u8],
-) -> Written
-    ensures { MethodWrote names.now name_at.now name_len.now params.now res out.old out.new result }
+) -> Result<u64, Refusal>
+    ensures { MethodWrote names.now name_at.now name_len.now params.now res out.old out.new (written result) }
 {
-    let refusal = check_names(names, name_at, name_len);
-    if refusal != 0 {
-        return refused(refusal);
-    }
+    check_names(names, name_at, name_len)?;
     write_checked_method(names, name_at, name_len, params, res, out)
 }
