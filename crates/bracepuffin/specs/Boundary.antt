@@ -1,9 +1,8 @@
 -- What the functions of the boundary answer: the fields of each result, from the definitions below.
 use Rattle.std.specs.Prelude.{◌≡◌, cond, List, ℕ, length}
 use Rattle.ty.specs.Words.{type_of, word_of}
-use Rattle.names.specs.declared.LookedUp.{LookedUp}
-use Rattle.writer.specs.declared.Written.{Written}
-use Rattle.writer.specs.Print.{print_word, print_method_words, type_refusal, method_refusal, answer, output}
+use Rattle.names.specs.Names.{LookedUp}
+use Rattle.writer.specs.Print.{Written, print_word, print_method_words, type_refusal, method_refusal, answer, output}
 use Rattle.descriptor.specs.declared.Base.{Base}
 use Rattle.descriptor.specs.declared.Base.TheVariants.{Simple, Class}
 use Rattle.descriptor.specs.declared.Read.{Read}

@@ -5,19 +5,21 @@
 ghost use Rattle.std.specs.Prelude.{◌≡◌, true, false, length};
 ghost use Rattle.descriptor.specs.Read.{read_whole, read_strict};
 ghost use Rattle.methods.specs.Answers.{method_of, params_after};
-ghost use Rattle.names.specs.Names.{look_up};
+ghost use Rattle.names.specs.Names.{look_up, looked};
+ghost use Rattle.writer.specs.Print.{written};
 ghost use Rattle.columns.specs.Given.{given_by};
 ghost use Rattle.questions.specs.Questions.{work_after};
 ghost use Rattle.bracepuffin.specs.Boundary.{type_found, type_answer, method_result, bp_method, found_answer, written_answer, WroteType, WroteMethod, relation_answer, number_answer, set_answer, check_answer, check_told, relation_told, distance_told, ancestors_told, supertype_told, cast_told, join_told, assignable_told, solved_answer, bp_solved, SolveLeaves};
 
 use descriptor::{Base, Read, read_whole};
 use methods::{MethodRead, read_method, read_strict};
-use names::{LookedUp, look_up};
+use names::look_up;
 use questions::{Ancestors, Answer, Question, ancestors_of, ask};
+use refusals::Refusal;
 use solvedoor::solve_slices;
 use solving::Counts;
 use tablecheck::{TableCheck, check_table};
-use writer::{Written, write_method, write_type};
+use writer::{write_method, write_type};
 
 #[repr(C)]
 #[derive(Clone, Copy)]
@@ -120,7 +122,7 @@ fn type_found(dims: u64, base: Base) -> BpType
             refusal: 0,
             offset: 0,
             byte: 0,
-            dims: dims,
+            dims,
             tag: 0,
             category: k,
             name_at: 0,
@@ -130,7 +132,7 @@ fn type_found(dims: u64, base: Base) -> BpType
             refusal: 0,
             offset: 0,
             byte: 0,
-            dims: dims,
+            dims,
             tag: 1,
             category: 0,
             name_at: at as u64,
@@ -151,7 +153,7 @@ fn type_answer(r: Read) -> BpType
         Read::Refused { code, at, byte } => BpType {
             refusal: code,
             offset: at as u64,
-            byte: byte,
+            byte,
             dims: 0,
             tag: 0,
             category: 0,
@@ -223,12 +225,15 @@ pub extern "C" fn bp_read_method_strict(d: &[u8], params: &mut [u64]) -> BpMetho
 
 // ---- descriptors, written
 
-fn written_answer(w: Written) -> BpWritten
-    ensures { result ≡ written_answer w }
+fn written_answer(w: Result<u64, Refusal>) -> BpWritten
+    ensures { result ≡ written_answer (written w) }
 {
-    BpWritten {
-        refusal: w.refusal,
-        length: w.length,
+    match w {
+        Ok(length) => BpWritten { refusal: 0, length },
+        Err(refusal) => BpWritten {
+            refusal: u64::from(refusal),
+            length: 0,
+        },
     }
 }
 
@@ -261,12 +266,18 @@ pub extern "C" fn bp_write_method(
 
 // ---- names
 
-fn found_answer(f: LookedUp) -> BpFound
-    ensures { result ≡ found_answer f }
+fn found_answer(f: Result<u64, Refusal>) -> BpFound
+    ensures { result ≡ found_answer (looked f) }
 {
-    BpFound {
-        refusal: f.refusal,
-        class_no: f.class_no,
+    match f {
+        Ok(class_no) => BpFound {
+            refusal: 0,
+            class_no,
+        },
+        Err(refusal) => BpFound {
+            refusal: u64::from(refusal),
+            class_no: 0,
+        },
     }
 }
 

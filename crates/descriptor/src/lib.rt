@@ -1,7 +1,7 @@
 // Type descriptors of ty.rs, read from bytes.
 #![tactic(auto)]
 
-ghost use Rattle.std.specs.Prelude.{◌≡◌, true, ◌+◌, ◌≤◌, ◌<◌, ltb, length, drop};
+ghost use Rattle.std.specs.Prelude.{◌≡◌, ◌==◌, true, ◌+◌, ◌≤◌, ◌<◌, ltb, length, drop, position};
 ghost use Rattle.text.specs.Text.{byte};
 ghost use Rattle.descriptor.specs.declared.Read.TheVariants.{Refused};
 ghost use Rattle.descriptor.specs.Read.{letter_of, index_of, read_name, read_type, finish, read_whole};
@@ -51,25 +51,16 @@ struct Core {
     pub at: usize,
 }
 
-fn wide(b: u8) -> u64
-    ensures { result ≡ b }
-{
-    b as u64
-}
-
 fn refuse(code: u64, at: usize, byte: u64) -> Read
     ensures { result ≡ Refused code at byte }
 {
-    Read::Refused {
-        code: code,
-        at: at,
-        byte: byte,
-    }
+    Read::Refused { code, at, byte }
 }
 
 // ---- a type
 
 // The category of a letter, 9 for a class, 10 for an array, 11 for none.
+#[tactic(auto, unfolding(crate::specs::Read::letter_of))]
 fn letter(b: u8) -> u64
     ensures { result ≡ letter_of b }
 {
@@ -95,12 +86,10 @@ fn ends_in_block(s: &[u8], i: usize) -> bool
     ensures { result ≡ ltb (index_of (byte ";") (drop i s.now)) 8 }
 {
     let mut found = false;
-    let mut k = 0;
-    while k < 8 {
+    for k in 0..8 {
         if s[i + k] == b';' {
             found = true;
         }
-        k += 1;
     }
     found
 }
@@ -121,19 +110,22 @@ fn skip_blocks(s: &[u8], from: usize) -> usize
     i
 }
 
+fn position_of_end(s: &[u8]) -> Option<usize>
+    ensures { result ≡ position (λ b. b == byte ";") s.now }
+{
+    s.iter().position(|b| *b == b';')
+}
+
 // Where the first ';' stands at or after `from`; the length where there is none.
 fn find_end(s: &[u8], from: usize) -> usize
     requires { from ≤ length s.now }
     ensures { result ≡ from + index_of (byte ";") (drop from s.now) }
 {
-    let mut i = skip_blocks(s, from);
-    while i < s.len() {
-        if s[i] == b';' {
-            return i;
-        }
-        i += 1;
+    let start = skip_blocks(s, from);
+    match position_of_end(&s[start..]) {
+        Some(k) => start + k,
+        None => s.len(),
     }
-    i
 }
 
 // The class whose 'L' stands at `at`.
@@ -151,7 +143,7 @@ fn name_core(s: &[u8], at: usize, dims: u64) -> Core
     } else if end == from {
         Core {
             what: EMPTY_OBJECT,
-            at: at,
+            at,
         }
     } else {
         let valid = utf8::valid_up_to(&s[0..], from, end);
@@ -183,7 +175,7 @@ fn flat_core(k: u64, at: usize, void: bool, dims: u64) -> Core
         } else {
             Core {
                 what: VOID_NOT_ALLOWED,
-                at: at,
+                at,
             }
         }
     } else if k < CLASS {
@@ -194,7 +186,7 @@ fn flat_core(k: u64, at: usize, void: bool, dims: u64) -> Core
     } else {
         Core {
             what: UNEXPECTED_BYTE,
-            at: at,
+            at,
         }
     }
 }
@@ -208,7 +200,7 @@ fn read_core(s: &[u8], at: usize, void: bool, dims: u64) -> Core
     if s.len() <= at {
         Core {
             what: UNEXPECTED_END,
-            at: at,
+            at,
         }
     } else {
         let k = letter(s[at]);
@@ -216,10 +208,7 @@ fn read_core(s: &[u8], at: usize, void: bool, dims: u64) -> Core
             name_core(&s[0..], at, dims)
         } else if k == 10 {
             if 255 <= dims {
-                Core {
-                    what: TOO_DEEP,
-                    at: at,
-                }
+                Core { what: TOO_DEEP, at }
             } else {
                 read_core(&s[0..], at + 1, false, dims + 1)
             }
@@ -237,7 +226,7 @@ fn read_of(s: &[u8], at: usize, c: Core) -> Read
     let what = c.what;
     let next = c.at;
     if what == UNEXPECTED_BYTE {
-        refuse(UNEXPECTED_BYTE, next, wide(s[next]))
+        refuse(UNEXPECTED_BYTE, next, u64::from(s[next]))
     } else if what < FOUND {
         refuse(what, next, 0)
     } else {
@@ -247,14 +236,14 @@ fn read_of(s: &[u8], at: usize, c: Core) -> Read
             Read::Found {
                 dims: found,
                 base: Base::Simple(k),
-                next: next,
+                next,
             }
         } else {
             let from = at + found as usize + 1;
             Read::Found {
                 dims: found,
                 base: Base::Class(from, next - from - 1),
-                next: next,
+                next,
             }
         }
     }

@@ -41,6 +41,7 @@ pub struct MethodRead {
 // ---- strict reading
 
 // Whether no strict name goes on with b, after a part that has or has not begun.
+#[tactic(auto, unfolding(crate::specs::Strict::stops_at))]
 fn stops(begun: bool, b: u8) -> bool
     ensures { result ≡ stops_at begun b }
 {
@@ -52,20 +53,16 @@ fn stops(begun: bool, b: u8) -> bool
     }
 }
 
-// Whether the name s[from..to] is made of parts that are not empty, with a slash between them, and has no dot and no bracket.
-fn is_strict(s: &[u8], from: usize, to: usize) -> bool
-    requires { (from ≤ to) × (to ≤ length s.now) }
-    ensures { result ≡ strict_name (take (to - from) (drop from s.now)) }
+// Whether the name is made of parts that are not empty, with a slash between them, and has no dot and no bracket.
+fn is_strict(name: &[u8]) -> bool
+    ensures { result ≡ strict_name name.now }
 {
     let mut begun = false;
-    let mut i = from;
-    while i < to {
-        let b = s[i];
-        if stops(begun, b) {
+    for b in name {
+        if stops(begun, *b) {
             return false;
         }
-        begun = b != b'/';
-        i += 1;
+        begun = *b != b'/';
     }
     begun
 }
@@ -89,7 +86,7 @@ fn judged(s: &[u8], t: Read) -> Read
         Read::Found { base, .. } => match base {
             Base::Simple(k) => t,
             Base::Class(at, n) => {
-                if is_strict(s, at, at + n) {
+                if is_strict(&s[at..at + n]) {
                     return t;
                 }
                 not_strict(at - 1)
@@ -115,7 +112,7 @@ fn refused(code: u64, at: usize, byte: u64) -> MethodRead
     MethodRead {
         refusal: code,
         offset: at,
-        byte: byte,
+        byte,
         count: 0,
         return_at: 0,
         dims: 0,
@@ -134,8 +131,8 @@ fn answer(count: usize, at: usize, t: Read) -> MethodRead
             byte: 0,
             count: count as u64,
             return_at: at,
-            dims: dims,
-            base: base,
+            dims,
+            base,
         },
         Read::Refused { code, at, byte } => refused(code, at, byte),
     }

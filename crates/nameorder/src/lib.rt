@@ -1,7 +1,7 @@
 // How names stand to each other, byte by byte.
 #![tactic(auto)]
 
-ghost use Rattle.std.specs.Prelude.{◌≡◌, not, ◌&&◌, ◌+◌, ◌≤◌, min, ltb, length, drop};
+ghost use Rattle.std.specs.Prelude.{◌≡◌, not, ◌&&◌, ◌+◌, ◌≤◌, ltb, length, drop};
 ghost use Rattle.std.proofs.Math.Seq.{slice};
 ghost use Rattle.order.specs.Compare.{compare_numbers, compare_lists, is_less, is_equal};
 
@@ -19,32 +19,14 @@ fn compare_numbers(a: u64, b: u64) -> Ordering
     Ordering::Equal
 }
 
-fn wide(byte: u8) -> u64
-    ensures { result ≡ byte }
-{
-    byte as u64
-}
-
-fn smaller(a: usize, b: usize) -> usize
-    ensures { result ≡ min a b }
-{
-    if a < b {
-        return a;
-    }
-    b
-}
-
 // How two names stand to each other: byte by byte, a prefix first.
 pub fn compare_names(a: &[u8], b: &[u8]) -> Ordering
     ensures { result ≡ compare_lists a.now b.now }
 {
-    let n = smaller(a.len(), b.len());
-    let mut i: usize = 0;
-    while i < n {
+    for i in 0..a.len().min(b.len()) {
         if a[i] != b[i] {
-            return compare_numbers(wide(a[i]), wide(b[i]));
+            return compare_numbers(u64::from(a[i]), u64::from(b[i]));
         }
-        i += 1;
     }
     compare_numbers(a.len() as u64, b.len() as u64)
 }
@@ -55,12 +37,10 @@ fn differ_in_block(a: &[u8], b: &[u8], i: usize) -> bool
     ensures { result ≡ not (is_equal (compare_lists (slice i (i + 8) a.now) (slice i (i + 8) b.now))) }
 {
     let mut differ = false;
-    let mut k = 0;
-    while k < 8 {
+    for k in 0..8 {
         if a[i + k] != b[i + k] {
             differ = true;
         }
-        k += 1;
     }
     differ
 }
@@ -100,6 +80,6 @@ fn rest_is_not_above(last: &[u8], name: &[u8], count: u64) -> bool
 pub fn is_not_above(last: &[u8], name: &[u8], count: u64) -> bool
     ensures { result ≡ (ltb 0 count && not (is_less (compare_lists last.now name.now))) }
 {
-    let i = skip_same(last, name, smaller(last.len(), name.len()));
+    let i = skip_same(last, name, last.len().min(name.len()));
     rest_is_not_above(&last[i..], &name[i..], count)
 }

@@ -6,8 +6,7 @@ use Rattle.order.specs.Laws.{lists-same, lists-equal}
 use Rattle.order.specs.Compare.{compare_lists, is_equal}
 use Rattle.std.specs.declared.cmp.Ordering.{Ordering}
 use Rattle.std.specs.declared.cmp.Ordering.TheVariants.{Less, Equal, Greater}
-use Rattle.names.specs.declared.LookedUp.{LookedUp}
-use Rattle.names.specs.Names.{name_of, name_at, next, check_names, lookup, found, look_up}
+use Rattle.names.specs.Names.{LookedUp, name_of, name_at, next, check_names, lookup, found, look_up}
 use Rattle.names.specs.Table.{Checked, number-of-name}
 
 same-bytes : (a b : List ℕ) → a ≡ b → is_equal (compare_lists a b) ≡ true

@@ -1,10 +1,12 @@
 -- Names as places in a slice of bytes: name i stands at the i-th of one column and is as long as the i-th of another says.
 -- What a place must be, the order of names, their checks, and the number of a name.
-use Rattle.std.specs.Prelude.{Bool, cond, not, ◌&&◌, ◌||◌, List, [], ◌∷◌, ℕ, zero, suc, ◌+◌, ◌-◌, eqb, leb, ltb, length, get_or, take, drop}
+use Rattle.std.specs.Prelude.{Bool, cond, not, ◌&&◌, ◌||◌, List, [], ◌∷◌, ℕ, zero, suc, ◌+◌, ◌-◌, eqb, leb, ltb, length, get_or, take, drop, Result, Ok, Err, ◌≡◌}
+use Rattle.std.proofs.Common.{sym, ap}
 use Rattle.std.proofs.Math.Option.{Option, some, none}
 use Rattle.order.specs.Compare.{is_less, is_equal, compare_lists}
 use Rattle.utf8.specs.Utf8.{well_formed}
-use Rattle.names.specs.declared.LookedUp.{LookedUp}
+use Rattle.refusals.specs.declared.Refusal.{Refusal}
+use Rattle.refusals.specs.Numbers.{number, number-some, number-injective}
 use Rattle.checks.specs.Checks.{Check, check, first_refusal, or_else}
 
 -- ---- places
@@ -65,6 +67,22 @@ lookup bytes [] lens key = none
 lookup bytes (at ∷ ats) [] key = none
 lookup bytes (at ∷ ats) (len ∷ lens) key =
     cond (is_equal (compare_lists (name_of bytes at len) key)) (some 0) (next (lookup bytes ats lens key))
+
+-- the class number of a name, or a refusal and 0
+pub record LookedUp : Type 0 where
+  pub refusal : ℕ
+  pub class_no : ℕ
+
+-- what comes back of a lookup, so written
+abbrev pub looked : Result ℕ Refusal → LookedUp
+looked (Ok i) = record { refusal = 0; class_no = i }
+looked (Err r) = record { refusal = number r; class_no = 0 }
+
+pub looked-injective : (x y : Result ℕ Refusal) → looked x ≡ looked y → x ≡ y
+looked-injective (Ok i) (Ok j) e = ap (λ (l : LookedUp). Ok l.class_no) e
+looked-injective (Ok i) (Err s) e = absurd (number-some s (sym (ap (λ (l : LookedUp). l.refusal) e)))
+looked-injective (Err r) (Ok j) e = absurd (number-some r (ap (λ (l : LookedUp). l.refusal) e))
+looked-injective (Err r) (Err s) e = ap Err (number-injective r s (ap (λ (l : LookedUp). l.refusal) e))
 
 -- ABSENT, or the number
 abbrev pub found : Option ℕ → LookedUp

@@ -13,6 +13,7 @@ use denote.Triple.Entry.{Args, Res}
 use denote.Triple.Clauses.{AtExit}
 use Prim.Native.Nat.{ℕ}
 use mathlib.Core.List.{List}
+use Rattle.refusals.specs.Numbers.{code-injective}
 use Rattle.parser.specs.declared.DescriptorParser.{DescriptorParser}
 use Rattle.parser.specs.contracts.new as new
 use Rattle.parser.specs.contracts.moved as moved
@@ -53,7 +54,7 @@ module _ {M : Type 1} {𝓤 : Ura M} (𝓛 : Logic 𝓤) (mem : Memory → SProp
 
   pub finish-one : (a : Args finish.signature κs) (r₁ r₂ : Res finish.signature κs) (x₁ x₂ : AtExit finish.ended κs)
       → ent 𝓤 (conj 𝓤 ((finish.clauses 𝓛 mem run κs a).ensures tt r₁ x₁) ((finish.clauses 𝓛 mem run κs a).ensures tt r₂ x₂)) (fact 𝓤 (r₁ ≡ r₂))
-  finish-one a r₁ r₂ x₁ x₂ = both 𝓤 _ _ r₁ r₂ (λ p q. p ∙ sym q)
+  finish-one a r₁ r₂ x₁ x₂ = both 𝓤 _ _ r₁ r₂ (λ p q. code-injective r₁ r₂ (p ∙ sym q))
 
   pub first-type-one : (a : Args first-type.signature κs) (r₁ r₂ : Res first-type.signature κs) (x₁ x₂ : AtExit first-type.ended κs)
       → ent 𝓤 (conj 𝓤 ((first-type.clauses 𝓛 mem run κs a).ensures tt r₁ x₁) ((first-type.clauses 𝓛 mem run κs a).ensures tt r₂ x₂)) (fact 𝓤 (r₁ ≡ r₂))

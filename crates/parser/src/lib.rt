@@ -3,9 +3,11 @@
 
 ghost use Rattle.std.specs.Prelude.{◌≡◌, true, drop};
 ghost use Rattle.descriptor.specs.Read.{read_type};
+ghost use Rattle.refusals.specs.Numbers.{code};
 ghost use Rattle.parser.specs.Offsets.{byte_at, consume_at, finish_at};
 
 use descriptor::Read;
+use refusals::Refusal;
 
 #[derive(Clone, Copy)]
 pub struct DescriptorParser<'a> {
@@ -44,14 +46,15 @@ fn type_at(s: &[u8], at: usize, void: bool) -> Read
     descriptor::read_type(s, at, void)
 }
 
-// Refusal 15 where bytes are left.
-fn finish_at(s: &[u8], at: usize) -> u64
-    ensures { result ≡ finish_at s.now at }
+// Whether no bytes are left.
+fn finish_at(s: &[u8], at: usize) -> Result<(), Refusal>
+    ensures { code result ≡ finish_at s.now at }
 {
     if at == s.len() {
-        return 0;
+        Ok(())
+    } else {
+        Err(Refusal::TrailingInput)
     }
-    15
 }
 
 // ---- the parser
@@ -66,10 +69,7 @@ pub fn new<'a>(bytes: &'a [u8]) -> DescriptorParser<'a>
 pub fn moved<'a>(p: DescriptorParser<'a>, to: usize) -> DescriptorParser<'a>
     ensures { (result.bytes ≡ p.entry.bytes) × (result.offset ≡ to) }
 {
-    DescriptorParser {
-        bytes: p.bytes,
-        offset: to,
-    }
+    DescriptorParser { offset: to, ..p }
 }
 
 pub fn peek<'a>(p: DescriptorParser<'a>) -> Option<u8>
@@ -90,8 +90,8 @@ pub fn ty<'a>(p: DescriptorParser<'a>, void: bool) -> Read
     type_at(p.bytes, p.offset, void)
 }
 
-pub fn finish<'a>(p: DescriptorParser<'a>) -> u64
-    ensures { result ≡ finish_at p.entry.bytes.now p.entry.offset }
+pub fn finish<'a>(p: DescriptorParser<'a>) -> Result<(), Refusal>
+    ensures { code result ≡ finish_at p.entry.bytes.now p.entry.offset }
 {
     finish_at(p.bytes, p.offset)
 }

@@ -19,9 +19,8 @@ use Rattle.ty.specs.Round.{legal-primitive, legal-object, legal-unknown, legal-n
 use Rattle.checks.specs.Checks.{Check, check, first_refusal}
 use Rattle.names.specs.Names.{name_at, check_names}
 use Rattle.names.specs.Table.{Checked, checked, accepted, sum, below}
-use Rattle.writer.specs.Print.{print, print_all, print_word, print_words, print_method_words, TypeWrote, MethodWrote, checked_type_refusal, type_refusal, checked_method_refusal, method_refusal, answer, output, Wrote}
+use Rattle.writer.specs.Print.{Written, print, print_all, print_word, print_words, print_method_words, TypeWrote, MethodWrote, checked_type_refusal, type_refusal, checked_method_refusal, method_refusal, answer, output, Wrote}
 use Rattle.writer.specs.Steps.{print_base, class_bytes, print-word, print-class, print-method, legal-inside, type-named, method-named}
-use Rattle.writer.specs.declared.Written.{Written}
 
 -- ---- a part of a table, and words over it
 

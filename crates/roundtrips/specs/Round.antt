@@ -21,12 +21,11 @@ use Rattle.methods.specs.Method.{read_method}
 use Rattle.jvms.specs.Jvms.{dimensions, AnyName, Signature, MethodDescriptor, MethodDescriptor.method}
 use Rattle.jvms.specs.Meaning.{type_read, method_read, Limits, placed}
 use Rattle.jvms.specs.JvmsTheorem.{ordinary-type, ordinary-type-place, ordinary-method}
-use Rattle.writer.specs.Print.{print, print_all, print_method, print_word, print_method_words, types_of, type_refusal, method_refusal, answer, output, Wrote}
+use Rattle.writer.specs.Print.{Written, print, print_all, print_method, print_word, print_method_words, types_of, type_refusal, method_refusal, answer, output, Wrote}
 use Rattle.roundtrips.specs.ToWord.{to_type, read_as, to_word, MethodType, method_type, MethodWords, method_words, to_types, to_method, read_method_as, words_of, to_words}
 use Rattle.roundtrips.specs.Derived.{limits-parts, return-printed, method-printed, legal_types, return-legal, parameters-legal}
 use Rattle.roundtrips.specs.Readable.{readable, all_readable, named, all_named, named-depth, named-length, named-low, return-derived, named-back, parameters-derived, all-back}
 use Rattle.writer.specs.Steps.{type-named, type-fits, method-named, method-fits}
-use Rattle.writer.specs.declared.Written.{Written}
 
 -- ---- the length of a descriptor
 

@@ -1,12 +1,14 @@
 -- ArgType::to_descriptor and Display of MethodDescriptor of ty.rs: the bytes of a type and of a method.
 -- Added to the Rust: a word for a type, refusals, an output that is lent.
-use Rattle.std.specs.Prelude.{◌≡◌, not, ◌&&◌, List, [], ◌∷◌, ◌++◌, ℕ, zero, suc, ltb, length, get_or, drop}
+use Rattle.std.specs.Prelude.{◌≡◌, not, ◌&&◌, List, [], ◌∷◌, ◌++◌, ℕ, zero, suc, ltb, length, get_or, drop, Result, Ok, Err}
+use Rattle.std.proofs.Common.{sym, ap}
 use Rattle.text.specs.Text.{ascii, byte}
 use Rattle.ty.specs.Types.{ArgType, Primitive, Object, Array, Unknown}
 use Rattle.ty.specs.Words.{type_of, legal_word, all_legal}
 use Rattle.checks.specs.Checks.{check, first_refusal, or_else}
 use Rattle.names.specs.Names.{name_at, check_names}
-use Rattle.writer.specs.declared.Written.{Written}
+use Rattle.refusals.specs.declared.Refusal.{Refusal}
+use Rattle.refusals.specs.Numbers.{number, number-some, number-injective}
 
 -- ---- a type
 
@@ -73,6 +75,22 @@ method_refusal bytes ats lens params result room =
     or_else (check_names bytes ats lens) (checked_method_refusal bytes ats lens params result room)
 
 -- ---- what comes back, and the output; where something is refused, its number alone and the output as it came
+
+-- how much was written; or a refusal and 0
+pub record Written : Type 0 where
+  pub refusal : ℕ
+  pub «length» : ℕ
+
+-- what comes back of a writer, so written
+abbrev pub written : Result ℕ Refusal → Written
+written (Ok n) = record { refusal = 0; «length» = n }
+written (Err r) = record { refusal = number r; «length» = 0 }
+
+pub written-injective : (x y : Result ℕ Refusal) → written x ≡ written y → x ≡ y
+written-injective (Ok m) (Ok n) e = ap (λ (w : Written). Ok w.«length») e
+written-injective (Ok m) (Err s) e = absurd (number-some s (sym (ap (λ (w : Written). w.refusal) e)))
+written-injective (Err r) (Ok n) e = absurd (number-some r (ap (λ (w : Written). w.refusal) e))
+written-injective (Err r) (Err s) e = ap Err (number-injective r s (ap (λ (w : Written). w.refusal) e))
 
 -- the refusal, or how many bytes were written
 unfoldable pub answer : ℕ → List ℕ → Written

@@ -16,9 +16,8 @@ use Rattle.ty.specs.Round.{legal-primitive, legal-object}
 use Rattle.checks.specs.Checks.{first_refusal, else-none, else-some}
 use Rattle.names.specs.Names.{name_at, check_names}
 use Rattle.names.specs.Table.{Checked, name-length}
-use Rattle.writer.specs.Print.{letter_byte, print, print_all, print_method, print_word, print_words, print_method_words, checked_type_refusal, type_refusal, checked_method_refusal, method_refusal, answer, output, Wrote}
+use Rattle.writer.specs.Print.{Written, letter_byte, print, print_all, print_method, print_word, print_words, print_method_words, checked_type_refusal, type_refusal, checked_method_refusal, method_refusal, answer, output, Wrote}
 use Rattle.writer.specs.Store.{Put, put-whole}
-use Rattle.writer.specs.declared.Written.{Written}
 
 -- ---- which words are types, word by word
 

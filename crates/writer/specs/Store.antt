@@ -1,9 +1,10 @@
 -- Bytes stored one after the other into a slice, from an offset on: the slice after that is `sets slice offset bytes` of lib.Seq,
 -- which is the slice before the offset, the bytes, and the slice after them (`sets-eq`).
-use Rattle.std.specs.Prelude.{◌≡◌, refl, List, [], ◌∷◌, ◌++◌, ℕ, suc, ◌+◌, ◌≤◌, ◌<◌, length, get_or, set, drop}
-use Rattle.std.proofs.Common.{sym, ap, ◌∙◌, zero-add, add-zero, add-suc, suc-add, add-one, arith, length-append, drop_of_length-le, drop-cons}
+use Rattle.std.specs.Prelude.{◌≡◌, refl, List, [], ◌∷◌, ◌++◌, ℕ, suc, ◌+◌, ◌-◌, ◌≤◌, ◌<◌, length, get_or, set, take, drop}
+use Rattle.std.proofs.Common.{sym, ap, ◌∙◌, zero-add, add-zero, add-suc, suc-add, add-one, arith, append_assoc, length-append, length-drop, drop_of_length-le, drop-cons, drop-drop}
 use Rattle.std.proofs.lemmas.List.Edits.{sets, sets-eq}
-use Rattle.std.proofs.Math.Seq.{length-sets}
+use Rattle.std.proofs.Math.Seq.{length-sets, length-take-le}
+use borrow.Rule.Slice.PartMut.{put_mid}
 
 -- what is promised of a function that stores bytes from `at` on: the output at its end, and the offset after them
 pub record Put (bytes out out' : List ℕ) (at end : ℕ) : Type 0 where
@@ -56,3 +57,16 @@ store-next xs out at i v h e = rw (← e, add-one i, add-suc at i, drop-cons xs 
 
 pub store-none : (xs out : List ℕ) (at i : ℕ) → length xs ≤ i → sets out (at + i) (drop i xs) ≡ out
 store-none xs out at i h = rw (drop_of_length-le xs h)
+
+-- the n bytes from `at` on, lent and given back as others
+pub lent-length : (at n : ℕ) (out : List ℕ) → at + n ≤ length out → length (take (at + n - at) (drop at out)) ≡ n
+lent-length at n out h =
+    let l = length-drop at out in
+    let k = length-take-le (at + n - at) (drop at out) (omega arith) in omega arith
+
+pub lent-back : (at n : ℕ) (out bytes : List ℕ) → length bytes ≡ n → at + n ≤ length out → put_mid at (at + n - at) out bytes ≡ sets out at bytes
+lent-back at n out bytes e h =
+    let k : at + n - at ≡ length bytes = omega arith in
+    rw k (ap (λ (l : List ℕ). take at out ++ (bytes ++ l)) (drop-drop (length bytes) at out)
+    ∙ sym (append_assoc (take at out) bytes (drop (at + length bytes) out)))
+    ∙ sym (sets-eq bytes out at (omega arith))

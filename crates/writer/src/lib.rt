@@ -6,27 +6,16 @@ ghost use Rattle.std.proofs.lemmas.List.Edits.{sets};
 ghost use Rattle.text.specs.Text.{byte};
 ghost use Rattle.ty.specs.Words.{legal_base, legal_word, all_legal};
 ghost use Rattle.names.specs.Table.{Checked};
-ghost use Rattle.writer.specs.Print.{letter_byte, print_word, print_words, print_method_words, Wrote, checked_type_refusal, type_refusal, MethodWrote, CheckedMethodWrote};
+ghost use Rattle.writer.specs.Print.{letter_byte, print_word, print_words, print_method_words, written, Wrote, checked_type_refusal, type_refusal, MethodWrote, CheckedMethodWrote};
 ghost use Rattle.writer.specs.Store.{Put};
 ghost use Rattle.writer.specs.Steps.{Short, class_bytes, print_base, word_size, words_size, method_size};
 
 use names::check_names;
-use ty::{DIMENSION, NO_TYPE, TAG, are_legal, is_legal};
-
-// Refusals.
-const ROOM: u64 = 8;
-
-const SHORT: u64 = 22;
+use refusals::Refusal;
+use ty::{DIMENSION, TAG, are_legal, is_legal};
 
 // How many parameters a method has at most.
 const PARAMETERS: usize = 255;
-
-// How much was written; or a refusal, and nothing was.
-#[derive(Clone, Copy)]
-pub struct Written {
-    pub refusal: u64,
-    pub length: u64,
-}
 
 // ---- lengths
 
@@ -48,10 +37,8 @@ fn types_length(name_len: &[u64], words: &[u64]) -> u64
     ensures { (result ≡ words_size name_len.now words.now) × (result ≤ 130560) }
 {
     let mut n: u64 = 0;
-    let mut i: usize = 0;
-    while i < words.len() {
-        n += type_length(name_len, words[i]);
-        i += 1;
+    for word in words {
+        n += type_length(name_len, *word);
     }
     n
 }
@@ -80,22 +67,14 @@ fn put_brackets(out: &mut [u8], at: usize, dims: usize)
     requires { at + dims ≤ length out.old }
     ensures { out.new ≡ sets out.old at (replicate dims (byte "[")) }
 {
-    let mut i: usize = 0;
-    while i < dims {
-        out[at + i] = b'[';
-        i += 1;
-    }
+    out[at..at + dims].fill(b'[');
 }
 
 fn put_bytes(bytes: &[u8], from: usize, n: usize, out: &mut [u8], at: usize)
     requires { (from + n ≤ length bytes.now) × (at + n ≤ length out.old) }
     ensures { out.new ≡ sets out.old at (take n (drop from bytes.now)) }
 {
-    let mut i: usize = 0;
-    while i < n {
-        out[at + i] = bytes[from + i];
-        i += 1;
-    }
+    out[at..at + n].copy_from_slice(&bytes[from..from + n]);
 }
 
 // A class by its name; what comes back here and below is the offset after it.
@@ -169,10 +148,8 @@ fn put_types(
     ensures { Put (print_words names.now name_at.now name_len.now words.now) out.old out.new at result }
 {
     let mut next = at;
-    let mut i: usize = 0;
-    while i < words.len() {
-        next = put_type(names, name_at, name_len, words[i], out, next);
-        i += 1;
+    for word in words {
+        next = put_type(names, name_at, name_len, *word, out, next);
     }
     next
 }
@@ -197,36 +174,25 @@ fn put_method(
 
 // ---- the writers, over names that were checked
 
-fn refused(code: u64) -> Written
-    ensures { result ≡ record { refusal = code; «length» = 0 } }
-{
-    Written {
-        refusal: code,
-        length: 0,
-    }
-}
-
+// How much was written; where a refusal comes back, nothing was.
 fn write_checked_type(
     names: &[u8],
     name_at: &[u64],
     name_len: &[u64],
     word: u64,
     out: &mut [u8],
-) -> Written
+) -> Result<u64, Refusal>
     requires { Checked names.now name_at.now name_len.now }
-    ensures { Wrote (checked_type_refusal names.now name_at.now name_len.now word (length out.old)) (print_word names.now name_at.now name_len.now word) out.old out.new result }
+    ensures { Wrote (checked_type_refusal names.now name_at.now name_len.now word (length out.old)) (print_word names.now name_at.now name_len.now word) out.old out.new (written result) }
 {
     if !is_legal(word, name_at.len() as u64) {
-        return refused(NO_TYPE);
+        return Err(Refusal::NoType);
     }
     if (out.len() as u64) < type_length(name_len, word) {
-        return refused(SHORT);
+        return Err(Refusal::Short);
     }
     let end = put_type(names, name_at, name_len, word, out, 0);
-    Written {
-        refusal: 0,
-        length: end as u64,
-    }
+    Ok(end as u64)
 }
 
 fn write_checked_method(
@@ -236,28 +202,25 @@ fn write_checked_method(
     params: &[u64],
     res: u64,
     out: &mut [u8],
-) -> Written
+) -> Result<u64, Refusal>
     requires { Checked names.now name_at.now name_len.now }
-    ensures { CheckedMethodWrote names.now name_at.now name_len.now params.now res out.old out.new result }
+    ensures { CheckedMethodWrote names.now name_at.now name_len.now params.now res out.old out.new (written result) }
 {
     if PARAMETERS < params.len() {
-        return refused(ROOM);
+        return Err(Refusal::Room);
     }
     let n = name_at.len() as u64;
     if !are_legal(params, n) {
-        return refused(NO_TYPE);
+        return Err(Refusal::NoType);
     }
     if !is_legal(res, n) {
-        return refused(NO_TYPE);
+        return Err(Refusal::NoType);
     }
     if (out.len() as u64) < method_length(name_len, params, res) {
-        return refused(SHORT);
+        return Err(Refusal::Short);
     }
     let end = put_method(names, name_at, name_len, params, res, out);
-    Written {
-        refusal: 0,
-        length: end as u64,
-    }
+    Ok(end as u64)
 }
 
 // ---- the writers
@@ -269,13 +232,10 @@ pub fn write_type(
     name_len: &[u64],
     word: u64,
     out: &mut [u8],
-) -> Written
-    ensures { Wrote (type_refusal names.now name_at.now name_len.now word (length out.old)) (print_word names.now name_at.now name_len.now word) out.old out.new result }
+) -> Result<u64, Refusal>
+    ensures { Wrote (type_refusal names.now name_at.now name_len.now word (length out.old)) (print_word names.now name_at.now name_len.now word) out.old out.new (written result) }
 {
-    let refusal = check_names(names, name_at, name_len);
-    if refusal != 0 {
-        return refused(refusal);
-    }
+    check_names(names, name_at, name_len)?;
     write_checked_type(names, name_at, name_len, word, out)
 }
 
@@ -287,12 +247,9 @@ pub fn write_method(
     params: &[u64],
     res: u64,
     out: &mut [u8],
-) -> Written
-    ensures { MethodWrote names.now name_at.now name_len.now params.now res out.old out.new result }
+) -> Result<u64, Refusal>
+    ensures { MethodWrote names.now name_at.now name_len.now params.now res out.old out.new (written result) }
 {
-    let refusal = check_names(names, name_at, name_len);
-    if refusal != 0 {
-        return refused(refusal);
-    }
+    check_names(names, name_at, name_len)?;
     write_checked_method(names, name_at, name_len, params, res, out)
 }

@@ -30,25 +30,13 @@ module _ (s : List ℕ) (i k : ℕ) (h : i + k < length s) where
       go true q = q ∙ sym (lt-ltb first (k + 1) (omega (arith, ltb-true first k q)))
       go false q = q ∙ sym (le-ltb first (k + 1) (omega (arith, index-past 59 s i k (ltb-false first k q), index-later 59 s (i + k) h n)))
 
-pub loop-k-init : goal.loop-k-init
-loop-k-init c =
-    let a = c.args in
-    (c.requires, omega arith, sym (le-ltb (index_of 59 (drop a.i a.s.now)) 0 (omega arith)))
-
 pub loop-k-preserved : goal.loop-k-preserved
 loop-k-preserved c =
     let a = c.args in
     let l = c.loop-k in (
       l.invariant.0,
-      omega arith,
       elim c.if-s-i-eq59.branch [
         | then-s-i-eq59 w ↦ w.found-is ∙ here a.s.now a.i l.k (omega arith) w.if-s-i-eq59.true
-        | else-s-i-eq59 w ↦ w.found-is ∙ l.invariant.2 ∙ later a.s.now a.i l.k (omega arith) w.if-s-i-eq59.false
+        | else-s-i-eq59 w ↦ w.found-is ∙ l.invariant.1 ∙ later a.s.now a.i l.k (omega arith) w.if-s-i-eq59.false
       ],
     )
-
-pub returns : goal.returns
-returns c =
-    let a = c.args in
-    let l = c.loop-k in
-    l.invariant.2 ∙ ap (ltb (index_of 59 (drop a.i a.s.now))) (let e : l.k ≡ 8 = omega arith in e)

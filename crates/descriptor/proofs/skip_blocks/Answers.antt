@@ -7,18 +7,9 @@ use Rattle.descriptor.specs.Read.{index_of}
 use Rattle.descriptor.specs.Steps.{index-past}
 use Rattle.descriptor.proofs.skip_blocks.Goals as goal
 
-pub loop-i-init : goal.loop-i-init
-loop-i-init c = (c.requires, refl)
-
-pub returns-then-ends_in_block : goal.returns-then-ends_in_block
-returns-then-ends_in_block c = c.loop-i.invariant
-
 pub loop-i-preserved : goal.loop-i-preserved
 loop-i-preserved c =
     let s = c.args.s.now in
     let l = c.loop-i in
     let past = ltb-false (index_of 59 (drop l.i s)) 8 (sym c.ends_in_block.ensures ∙ c.if-ends_in_block.false) in
     (omega arith, l.invariant.1 ∙ index-past 59 s l.i 8 past)
-
-pub returns : goal.returns
-returns c = c.loop-i.invariant

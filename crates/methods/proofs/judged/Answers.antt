@@ -9,9 +9,6 @@ use Rattle.methods.proofs.judged.Goals as goal
 pub overflow_add-at : goal.overflow_add-at
 overflow_add-at c = let p = class-placed c.args.s.now c.args.t _ _ _ c.in-Found.is _ _ c.in-Class.is (length c.args.s.now) c.requires in omega arith
 
-pub is_strict-requires : goal.is_strict-requires
-is_strict-requires c = let p = class-placed c.args.s.now c.args.t _ _ _ c.in-Found.is _ _ c.in-Class.is (length c.args.s.now) c.requires in (omega arith, p.1)
-
 pub returns-then-is_strict : goal.returns-then-is_strict
 returns-then-is_strict c = strictly-good c.args.s.now c.args.t _ _ _ c.in-Found.is _ _ c.in-Class.is (sym c.is_strict.ensures ∙ c.if-is_strict.true)
 

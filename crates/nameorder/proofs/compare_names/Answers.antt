@@ -34,30 +34,25 @@ module _ (a b : List ℕ) (i : ℕ) where
       (λ h. rw (drop_of_length-le a {i = i} (omega arith), drop_of_length-le b {i = i} (omega arith)))
       (λ h. rw (drop-cons a i 0 (omega arith), drop_of_length-le b {i = i} (omega arith)))
 
-pub loop-i-init : goal.loop-i-init
-loop-i-init c = (omega arith, c.smaller-n.ensures, refl)
-
 pub returns-then-a-i : goal.returns-then-a-i
 returns-then-a-i c =
     let a = c.args in
     let l = c.loop-i in
-    let s = c.smaller-n in
     c.compare_numbers.ensures
-    ∙ ap₂ compare_numbers c.wide.ensures c.wide-then-a-i.ensures
-    ∙ sym (l.invariant.2 ∙ other-byte a.a.now a.b.now l.i (omega arith) (omega arith)
+    ∙ ap₂ compare_numbers c.from.ensures c.from-then-a-i.ensures
+    ∙ sym (l.invariant.1 ∙ other-byte a.a.now a.b.now l.i (omega arith) (omega arith)
     c.if-a-i.true)
 
 pub loop-i-preserved : goal.loop-i-preserved
 loop-i-preserved c =
     let a = c.args in
     let l = c.loop-i in (
-      omega arith,
-      l.invariant.1,
-      l.invariant.2 ∙ same-byte a.a.now a.b.now l.i (omega arith) (omega arith) c.if-a-i.false,
+      l.invariant.0,
+      l.invariant.1 ∙ same-byte a.a.now a.b.now l.i (omega arith) (omega arith) c.if-a-i.false,
     )
 
 pub returns : goal.returns
 returns c =
     let a = c.args in
     let l = c.loop-i in
-    c.compare_numbers-2.ensures ∙ sym (l.invariant.2 ∙ one-ended a.a.now a.b.now l.i (omega arith))
+    c.compare_numbers-2.ensures ∙ sym (l.invariant.1 ∙ one-ended a.a.now a.b.now l.i (omega arith))

@@ -8,12 +8,6 @@ use Rattle.nameorder.proofs.Block.{differ, same-first, other-first, none-left}
 use Rattle.nameorder.proofs.differ_in_block.Goals as goal
 use Rattle.nameorder.proofs.differ_in_block.Goals.{then-a-i, else-a-i}
 
-pub loop-k-init : goal.loop-k-init
-loop-k-init c =
-    let a = c.args in
-    let start : a.i ≡ a.i + 0 = omega arith in
-    (c.requires.0, c.requires.1, omega arith, ap (λ (n : ℕ). differ (slice n (a.i + 8) a.a.now) (slice n (a.i + 8) a.b.now)) start)
-
 pub loop-k-preserved : goal.loop-k-preserved
 loop-k-preserved c =
     let a = c.args in
@@ -24,8 +18,7 @@ loop-k-preserved c =
     let next : i + l.k + 1 ≡ i + (l.k + 1) = omega arith in (
       l.invariant.0,
       l.invariant.1,
-      omega arith,
-      l.invariant.3
+      l.invariant.2
           ∙ elim c.if-a-i.branch [
             | then-a-i w ↦ ap (λ (t : Bool). l.differ || t) (other-first x y (i + l.k) (i + 8) (omega arith) l.invariant.0 l.invariant.1 w.if-a-i.true) ∙ rw w.differ-is (or-true l.differ)
             | else-a-i w ↦ ap₂ ◌||◌ (sym w.differ-is)
@@ -42,7 +35,7 @@ returns c =
     let y = a.b.now in
     let end : a.i + l.k ≡ a.i + 8 = omega arith in
     sym
-    (l.invariant.3
+    (l.invariant.2
     ∙ ap (λ (n : ℕ). l.differ || differ (slice n (a.i + 8) x) (slice n (a.i + 8) y)) end
     ∙ ap (λ (t : Bool). l.differ || t) (none-left x y (a.i + 8))
     ∙ or-false l.differ)

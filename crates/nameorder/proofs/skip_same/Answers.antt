@@ -5,12 +5,6 @@ use native.Mathlib.Omega.{arith}
 use Rattle.nameorder.proofs.Block.{past}
 use Rattle.nameorder.proofs.skip_same.Goals as goal
 
-pub loop-i-init : goal.loop-i-init
-loop-i-init c = let p = c.requires in (p.0, p.1, omega arith, refl)
-
-pub returns-then-differ_in_block : goal.returns-then-differ_in_block
-returns-then-differ_in_block c = let l = c.loop-i in (l.invariant.2, l.invariant.3)
-
 pub loop-i-preserved : goal.loop-i-preserved
 loop-i-preserved c =
     let a = c.args in
@@ -20,6 +14,3 @@ loop-i-preserved c =
       omega arith,
       l.invariant.3 ∙ past a.a.now a.b.now l.i (l.i + 8) (omega arith) (sym c.differ_in_block.ensures ∙ c.if-differ_in_block.false),
     )
-
-pub returns : goal.returns
-returns c = let l = c.loop-i in (l.invariant.2, l.invariant.3)

@@ -10,6 +10,8 @@ use borrow.Author.Tests.{eq-eqb, ne_eqb}
 use Rattle.checks.specs.Checks.{or_else, else-none, else-some}
 use Rattle.names.specs.Names.{name_of, check_row, check_rows, check_names}
 use Rattle.names.specs.Table.{row-checked}
+use Rattle.std.proofs.Common.{ap, rules}
+use Rattle.refusals.specs.Numbers.{code, code-taken, code-refused}
 use Rattle.names.proofs.check_names.Goals as goal
 
 -- ---- the rows from i on
@@ -41,32 +43,36 @@ returns-then-name_at-name_len c = rw (ne_eqb _ _ c.if-name_at-name_len.true)
 
 pub loop-i-init : goal.loop-i-init
 unfolding check_names
-loop-i-init c = (omega arith, c.if-name_at-name_len.false, omega arith, omega arith, omega arith, rw (eq-eqb _ _ c.if-name_at-name_len.false))
+loop-i-init c = (c.if-name_at-name_len.false, omega arith, omega arith, omega arith, rw (eq-eqb _ _ c.if-name_at-name_len.false))
 
-pub returns-then-refusal-ne0 : goal.returns-then-refusal-ne0
-returns-then-refusal-ne0 c =
+pub returns-in_err-check_row : goal.returns-in_err-check_row
+returns-in_err-check_row c =
     let a = c.args in
     let l = c.loop-i in
     let s = a.names.now in
-    let r = c.check_row-refusal in
-    sym (l.invariant.5 ∙ row-refused s a.name_at.now a.name_len.now (name_of s l.last l.span) l.i l.total r.result (omega arith) (omega arith) r.ensures c.if-refusal-ne0.true)
+    let r = c.check_row in
+    let f : r.result ≡ c.from_residual.result = search rules in
+    sym (l.invariant.4
+    ∙ row-refused s a.name_at.now a.name_len.now (name_of s l.last l.span) l.i l.total (code r.result) (omega arith) (omega arith) r.ensures (code-refused r.result _ c.in_err-check_row.was)
+    ∙ ap code f)
 
 pub overflow_add-total : goal.overflow_add-total
-overflow_add-total c = let g = row-checked _ _ _ _ _ _ (sym c.check_row-refusal.ensures ∙ c.if-refusal-ne0.false) in omega arith
+overflow_add-total c =
+    let g = row-checked _ _ _ _ _ _ (sym c.check_row.ensures ∙ code-taken c.check_row.result _ c.in_ok-check_row.was) in omega arith
 
 pub loop-i-preserved : goal.loop-i-preserved
 loop-i-preserved c =
     let a = c.args in
     let l = c.loop-i in
     let s = a.names.now in
-    let r = c.check_row-refusal in
-    let g = row-checked _ _ _ _ _ _ (sym c.check_row-refusal.ensures ∙ c.if-refusal-ne0.false) in (
-      omega arith,
-      l.invariant.1,
+    let r = c.check_row in
+    let z = code-taken r.result _ c.in_ok-check_row.was in
+    let g = row-checked _ _ _ _ _ _ (sym r.ensures ∙ z) in (
+      l.invariant.0,
       g.inside.starts,
       g.inside.ends,
       g.short,
-      l.invariant.5 ∙ row-passed s a.name_at.now a.name_len.now (name_of s l.last l.span) l.i l.total r.result (omega arith) (omega arith) r.ensures c.if-refusal-ne0.false,
+      l.invariant.4 ∙ row-passed s a.name_at.now a.name_len.now (name_of s l.last l.span) l.i l.total (code r.result) (omega arith) (omega arith) r.ensures z,
     )
 
 pub returns : goal.returns
@@ -74,4 +80,4 @@ returns c =
     let a = c.args in
     let l = c.loop-i in
     let s = a.names.now in
-    sym (l.invariant.5 ∙ rows-end s a.name_at.now a.name_len.now (name_of s l.last l.span) l.i l.total (omega arith))
+    sym (l.invariant.4 ∙ rows-end s a.name_at.now a.name_len.now (name_of s l.last l.span) l.i l.total (omega arith))

@@ -6,8 +6,5 @@ use Rattle.names.specs.Names.{name_of, check_rows, check_names}
 use Rattle.names.proofs.check_names.Given as goal
 
 abbrev pub invariant-loop-i : goal.invariant-loop-i
-invariant-loop-i l = (l.i ≤ length l.name_at) × (length l.name_at ≡ length l.name_len) × (l.last ≤ length l.names) × (l.span ≤ length l.names - l.last) × (l.total ≤ 24576)
+invariant-loop-i l = (length l.name_at ≡ length l.name_len) × (l.last ≤ length l.names) × (l.span ≤ length l.names - l.last) × (l.total ≤ 24576)
     × (check_names l.names l.name_at l.name_len ≡ check_rows l.names (drop l.i l.name_at) (drop l.i l.name_len) (name_of l.names l.last l.span) l.i l.total)
-
-abbrev pub decreases-loop-i : goal.decreases-loop-i
-decreases-loop-i l = length l.name_at - l.i

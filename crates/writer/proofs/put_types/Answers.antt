@@ -11,42 +11,35 @@ use Rattle.writer.specs.Store.{put-before, put-length}
 use Rattle.writer.specs.Steps.{legal-front, words-next, words-none}
 use Rattle.writer.proofs.put_types.Goals as goal
 
-pub loop-i-init : goal.loop-i-init
-loop-i-init c = (search rules, refl, c.requires.1, refl, refl)
-
 pub put_type-next-requires : goal.put_type-next-requires
 put_type-next-requires c =
     let a = c.args in
     let p = c.requires in
-    let l = c.loop-i in
-    let e = ap length (words-next a.names.now a.name_at.now a.name_len.now a.words.now l.i (omega arith)) in
-    let n = length-append (print_word a.names.now a.name_at.now a.name_len.now (get_or a.words.now l.i 0)) (print_words a.names.now a.name_at.now a.name_len.now (drop (l.i + 1) a.words.now)) in
-    (p.0, (legal-front (length a.name_at.now) a.words.now l.i (omega arith) l.invariant.2).0, omega arith)
+    let l = c.loop-word in
+    let e = ap length (words-next a.names.now a.name_at.now a.name_len.now a.words.now l.word-index (omega arith)) in
+    let n = length-append (print_word a.names.now a.name_at.now a.name_len.now (get_or a.words.now l.word-index 0)) (print_words a.names.now a.name_at.now a.name_len.now (drop (l.word-index + 1) a.words.now)) in
+    (p.0, (legal-front (length a.name_at.now) a.words.now l.word-index (omega arith) l.invariant.1).0, omega arith)
 
-pub loop-i-preserved : goal.loop-i-preserved
-loop-i-preserved c =
+pub loop-word-preserved : goal.loop-word-preserved
+loop-word-preserved c =
     let a = c.args in
-    let l = c.loop-i in
+    let l = c.loop-word in
     let put = c.put_type-next.ensures in
-    let w = words-next a.names.now a.name_at.now a.name_len.now a.words.now l.i (omega arith) in
-    let rest = print_words a.names.now a.name_at.now a.name_len.now (drop (l.i + 1) a.words.now) in
+    let w = words-next a.names.now a.name_at.now a.name_len.now a.words.now l.word-index (omega arith) in
+    let rest = print_words a.names.now a.name_at.now a.name_len.now (drop (l.word-index + 1) a.words.now) in
     let e = ap length w in
-    let n = length-append (print_word a.names.now a.name_at.now a.name_len.now (get_or a.words.now l.i 0)) rest in
+    let n = length-append (print_word a.names.now a.name_at.now a.name_len.now (get_or a.words.now l.word-index 0)) rest in
     let q = put.next in (
+      put-length put ∙ l.invariant.0,
+      (legal-front (length a.name_at.now) a.words.now l.word-index (omega arith) l.invariant.1).1,
       omega arith,
-      put-length put ∙ l.invariant.1,
-      (legal-front (length a.name_at.now) a.words.now l.i (omega arith) l.invariant.2).1,
-      omega arith,
-      l.invariant.4 ∙ ap (λ (xs : List ℕ). sets l.out l.next xs) w ∙ put-before put rest,
+      l.invariant.3 ∙ ap (λ (xs : List ℕ). sets l.out l.next xs) w ∙ put-before put rest,
     )
-
-pub shape_of-out : goal.shape_of-out
-shape_of-out c = c.loop-i.invariant.1
 
 pub returns : goal.returns
 returns c =
     let a = c.args in
-    let l = c.loop-i in
-    let w = words-none a.names.now a.name_at.now a.name_len.now a.words.now l.i (omega arith) in
+    let l = c.loop-word in
+    let w = words-none a.names.now a.name_at.now a.name_len.now a.words.now l.word-index (omega arith) in
     let e = ap length w in
-    record { next = let q = l.invariant.3 in omega arith; stored = sym (l.invariant.4 ∙ ap (λ (xs : List ℕ). sets l.out l.next xs) w) }
+    record { next = let q = l.invariant.2 in omega arith; stored = sym (l.invariant.3 ∙ ap (λ (xs : List ℕ). sets l.out l.next xs) w) }

@@ -7,11 +7,7 @@ use Rattle.ty.specs.Words.{all_legal}
 use Rattle.writer.specs.Steps.{words_size}
 use Rattle.writer.proofs.types_length.Given as goal
 
-abbrev pub invariant-loop-i : goal.invariant-loop-i
-invariant-loop-i l = (l.i ≤ length l.words)
-    × (l.n ≤ 512 * l.i)
-    × (words_size l.name_len l.words ≡ l.n + words_size l.name_len (drop l.i l.words))
-    × (all_legal (length l.name_len) (drop l.i l.words) ≡ true)
-
-abbrev pub decreases-loop-i : goal.decreases-loop-i
-decreases-loop-i l = length l.words - l.i
+abbrev pub invariant-loop-word : goal.invariant-loop-word
+invariant-loop-word l = (l.n ≤ 512 * l.word-index)
+    × (words_size l.name_len l.words ≡ l.n + words_size l.name_len (drop l.word-index l.words))
+    × (all_legal (length l.name_len) (drop l.word-index l.words) ≡ true)

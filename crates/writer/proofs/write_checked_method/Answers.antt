@@ -1,5 +1,5 @@
 -- `write_checked_method` meets its contract: a case for each refusal, and one for none.
-use mathlib.Core.Path.{sym, ap, ap₂, ◌∙◌}
+use mathlib.Core.Path.{refl, sym, ap, ap₂, ◌∙◌}
 use Prim.Native.Nat.{ℕ}
 use mathlib.Core.Bool.{Bool, ◌&&◌}
 use native.Mathlib.Omega.{arith}
@@ -11,14 +11,14 @@ use Rattle.writer.proofs.write_checked_method.Goals as goal
 pub returns-then-params-gt-PARAMETERS : goal.returns-then-params-gt-PARAMETERS
 returns-then-params-gt-PARAMETERS c =
     let a = c.args in
-    wrote-none 8 (method-many a.names.now a.name_at.now a.name_len.now a.params.now a.res (length a.out.now) (omega arith)) (λ z. omega arith) c.refused.ensures
+    wrote-none 8 (method-many a.names.now a.name_at.now a.name_len.now a.params.now a.res (length a.out.now) (omega arith)) (λ z. omega arith) refl
 
 pub returns-then-not-are_legal : goal.returns-then-not-are_legal
 returns-then-not-are_legal c =
     let a = c.args in
     let h = sym c.are_legal.ensures ∙ c.if-not-are_legal.true in
     wrote-none 7 (method-illegal a.names.now a.name_at.now a.name_len.now a.params.now a.res (length a.out.now) (omega arith) (ap (λ (t : Bool). t && legal_word (length a.name_at.now) a.res) h))
-    (λ z. omega arith) c.refused-then-not-are_legal.ensures
+    (λ z. omega arith) refl
 
 pub returns-then-not-is_legal : goal.returns-then-not-is_legal
 returns-then-not-is_legal c =
@@ -26,7 +26,7 @@ returns-then-not-is_legal c =
     let h = sym c.are_legal.ensures ∙ c.if-not-are_legal.false in
     let g = sym c.is_legal.ensures ∙ c.if-not-is_legal.true in
     wrote-none 7 (method-illegal a.names.now a.name_at.now a.name_len.now a.params.now a.res (length a.out.now) (omega arith) (ap₂ (λ (t u : Bool). t && u) h g))
-    (λ z. omega arith) c.refused-then-not-is_legal.ensures
+    (λ z. omega arith) refl
 
 pub method_length-requires : goal.method_length-requires
 method_length-requires c =
@@ -48,7 +48,7 @@ returns-then-out-method_length c =
     let g = sym c.is_legal.ensures ∙ c.if-not-is_legal.false in
     let s = method-size a.names.now a.name_at.now a.name_len.now p a.params.now a.res h g in
     let r = c.method_length.ensures in
-    wrote-none 22 (method-long a.names.now a.name_at.now a.name_len.now a.params.now a.res (length a.out.now) (omega arith) h g (omega arith)) (λ z. omega arith) c.refused-then-out-method_length.ensures
+    wrote-none 22 (method-long a.names.now a.name_at.now a.name_len.now a.params.now a.res (length a.out.now) (omega arith) h g (omega arith)) (λ z. omega arith) refl
 
 pub put_method-end-requires : goal.put_method-end-requires
 put_method-end-requires c =

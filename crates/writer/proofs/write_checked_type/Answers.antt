@@ -1,5 +1,5 @@
 -- `write_checked_type` meets its contract: a case for each refusal, and one for none.
-use mathlib.Core.Path.{sym, ap, ◌∙◌}
+use mathlib.Core.Path.{refl, sym, ap, ◌∙◌}
 use Prim.Native.Nat.{ℕ}
 use native.Mathlib.Omega.{arith}
 use lib.ListN.{length}
@@ -11,7 +11,7 @@ pub returns-then-not-is_legal : goal.returns-then-not-is_legal
 returns-then-not-is_legal c =
     let a = c.args in
     wrote-none 7 (type-illegal a.names.now a.name_at.now a.name_len.now a.word (length a.out.now) (sym c.is_legal.ensures ∙ c.if-not-is_legal.true))
-    (λ z. omega arith) c.refused.ensures
+    (λ z. omega arith) refl
 
 pub type_length-requires : goal.type_length-requires
 type_length-requires c =
@@ -26,7 +26,7 @@ returns-then-out-type_length c =
     let h = sym c.is_legal.ensures ∙ c.if-not-is_legal.false in
     let s = word-size a.names.now a.name_at.now a.name_len.now p a.word h in
     let r = c.type_length.ensures in
-    wrote-none 22 (type-long a.names.now a.name_at.now a.name_len.now a.word (length a.out.now) h (omega arith)) (λ z. omega arith) c.refused-then-out-type_length.ensures
+    wrote-none 22 (type-long a.names.now a.name_at.now a.name_len.now a.word (length a.out.now) h (omega arith)) (λ z. omega arith) refl
 
 pub put_type-end-requires : goal.put_type-end-requires
 put_type-end-requires c =

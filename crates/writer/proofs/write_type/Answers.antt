@@ -1,25 +1,31 @@
 -- `write_type` meets its contract: the names' refusal first.
-use mathlib.Core.Path.{sym, ◌∙◌}
-use lib.ListN.{length}
+use Rattle.std.proofs.Common.{◌≡◌, sym, ap, ◌∙◌, length, rules, Result, Err}
+use Rattle.refusals.specs.declared.Refusal.{Refusal}
+use Rattle.refusals.specs.Numbers.{code, code-taken, code-refused}
 use Rattle.names.specs.Table.{checked}
+use Rattle.writer.specs.Print.{Written, written}
 use Rattle.writer.specs.Steps.{type-unnamed, type-named, wrote-none, wrote-as}
 use Rattle.writer.proofs.write_type.Goals as goal
 
-pub returns-then-refusal-ne0 : goal.returns-then-refusal-ne0
-returns-then-refusal-ne0 c =
+pub returns-in_err-check_names : goal.returns-in_err-check_names
+returns-in_err-check_names c =
     let a = c.args in
-    let k = c.check_names-refusal in
-    wrote-none k.result (type-unnamed a.names.now a.name_at.now a.name_len.now k.result k.ensures a.word (length a.out.now) c.if-refusal-ne0.true)
-    c.if-refusal-ne0.true c.refused.ensures
+    let k = c.check_names in
+    let w = c.in_err-check_names.was in
+    let z = code-refused k.result _ w in
+    let f : Err c.in_err-check_names.field-0.0 ≡ c.from_residual.result = search rules in
+    wrote-none (code k.result) (type-unnamed a.names.now a.name_at.now a.name_len.now (code k.result) k.ensures a.word (length a.out.now) z) z
+    (ap written (sym f) ∙ ap {B = Written} (λ (x : Result (Unit {0}) Refusal). record { refusal = code x; «length» = 0 }) (sym w))
 
 pub write_checked_type-requires : goal.write_checked_type-requires
 write_checked_type-requires c =
     let a = c.args in
-    checked a.names.now a.name_at.now a.name_len.now (sym c.check_names-refusal.ensures ∙ c.if-refusal-ne0.false)
+    let k = c.check_names in
+    checked a.names.now a.name_at.now a.name_len.now (sym k.ensures ∙ code-taken k.result _ c.in_ok-check_names.was)
 
 pub returns : goal.returns
 returns c =
     let a = c.args in
-    let k = c.check_names-refusal in
-    wrote-as (type-named a.names.now a.name_at.now a.name_len.now k.result k.ensures a.word (length a.out.now) c.if-refusal-ne0.false)
+    let k = c.check_names in
+    wrote-as (type-named a.names.now a.name_at.now a.name_len.now (code k.result) k.ensures a.word (length a.out.now) (code-taken k.result _ c.in_ok-check_names.was))
     c.write_checked_type.ensures
