@@ -87,13 +87,10 @@ fn any_accepts(domain: &[u64], candidate: TypeWord) -> bool
     requires { AllLegal domain.now × Legal candidate.word }
     ensures { result ≡ any_accepts (map type_of domain.now) (type_of candidate.word) }
 {
-    let mut i: usize = 0;
-    while i < domain.len() {
-        let observed = TypeWord { word: domain[i] };
-        if observed_accepts(observed, candidate) {
+    for &word in domain {
+        if observed_accepts(TypeWord { word }, candidate) {
             return true;
         }
-        i += 1;
     }
     false
 }
@@ -120,13 +117,9 @@ fn is_assignable_to_each(
     requires { Prepared pairs.now marks.now t × Legal candidate.word × AllLegal upper.now }
     ensures { result ≡ assignable_to_all (world_of pairs.now marks.now t) (type_of candidate.word) (map type_of upper.now) }
 {
-    let mut i = upper.len();
-    while 0 < i {
-        let k = i - 1;
-        let other = TypeWord { word: upper[k] };
-        if is_assignable(pairs, marks, t, candidate, other) {
-            i = k;
-        } else {
+    for &word in upper.iter().rev() {
+        let other = TypeWord { word };
+        if !is_assignable(pairs, marks, t, candidate, other) {
             return false;
         }
     }
@@ -200,10 +193,8 @@ fn group_of(pairs: &[u64], marks: &[u64], t: Tables, candidate: TypeWord, upper:
         rest: true,
         classes: Set::empty(),
     };
-    let mut i = upper.len();
-    while 0 < i {
-        i -= 1;
-        let other = TypeWord { word: upper[i] };
+    for &word in upper.iter().rev() {
+        let other = TypeWord { word };
         let next = with_other(pairs, marks, t, candidate, g, other);
         if next.rest {
             g = next;
@@ -321,10 +312,8 @@ fn least_of_few(pairs: &[u64], marks: &[u64], t: Tables, upper: &[u64]) -> Maybe
     ensures { result ≡ maybe_word (most_specific_upper (world_of pairs.now marks.now t) (map type_of upper.now)) }
 {
     let mut best = MaybeType::Nothing;
-    let mut i = upper.len();
-    while 0 < i {
-        i -= 1;
-        let bound = TypeWord { word: upper[i] };
+    for &word in upper.iter().rev() {
+        let bound = TypeWord { word };
         best = with_bound(pairs, marks, t, upper, bound, best);
     }
     best
@@ -431,10 +420,8 @@ fn least_of_many(pairs: &[u64], marks: &[u64], t: Tables, upper: &[u64]) -> Mayb
             classes: Set::empty(),
         },
     };
-    let mut i = upper.len();
-    while 0 < i {
-        i -= 1;
-        let bound = TypeWord { word: upper[i] };
+    for &word in upper.iter().rev() {
+        let bound = TypeWord { word };
         b = with_any_bound(pairs, marks, t, upper, bound, b);
     }
     b.best
