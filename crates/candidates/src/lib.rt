@@ -166,21 +166,15 @@ fn with_other(
     requires { Prepared pairs.now marks.now t × ClassAt g.head candidate.word × Legal other.word }
     ensures { (result.head ≡ g.head) × Adds (world_of pairs.now marks.now t) g.head g.classes.words other.word result.rest result.classes.words }
 {
-    let head = g.head;
-    let classes = g.classes;
-    if other.word / TAG == head {
+    if other.word / TAG == g.head {
         return Group {
-            head: head,
             rest: true,
-            classes: classes.with(other.load()),
+            classes: g.classes.with(other.load()),
+            ..g
         };
     }
     let rest = is_assignable(pairs, marks, t, candidate, other);
-    Group {
-        head: head,
-        rest: rest,
-        classes: classes,
-    }
+    Group { rest, ..g }
 }
 
 // The group of a candidate's head. Where one of the others refuses it, the rest is not looked at.
@@ -356,12 +350,11 @@ fn with_class_hint(
     requires { Prepared pairs.now marks.now t × AllLegal upper.now × Legal hint.word × (tag_of hint.word ≡ 1) × BestIs (world_of pairs.now marks.now t) (map type_of upper.now) b (maybe_type b.best) }
     ensures { BestIs (world_of pairs.now marks.now t) (map type_of upper.now) result (candidate (world_of pairs.now marks.now t) (map type_of upper.now) (some (type_of hint.word)) (maybe_type b.best)) }
 {
-    let best = b.best;
-    let g = group_for(pairs, marks, t, upper, hint, b.group);
-    let taken = takes(pairs, marks, t, g, hint);
+    let group = group_for(pairs, marks, t, upper, hint, b.group);
+    let taken = takes(pairs, marks, t, group, hint);
     Best {
-        best: lesser_if(taken, hint, best),
-        group: g,
+        best: lesser_if(taken, hint, b.best),
+        group,
     }
 }
 
@@ -380,11 +373,9 @@ fn with_any_hint(
     if hint.tag() == 1 {
         return with_class_hint(pairs, marks, t, upper, hint, b);
     }
-    let best = b.best;
-    let group = b.group;
     Best {
-        best: with_hint(pairs, marks, t, upper, hint, best),
-        group: group,
+        best: with_hint(pairs, marks, t, upper, hint, b.best),
+        ..b
     }
 }
 
