@@ -1,5 +1,5 @@
 -- A loop over a slice of words from the last to the first.
-use Rattle.std.proofs.Common.{◌≡◌, ℕ, ◌+◌, ◌-◌, ◌≤◌, ◌<◌, List, ◌∷◌, map, Bool, true, ◌&&◌, reverse, length, get_or, Bor, Option, Some, None, sym, ◌∙◌, ap, subst, arith, Iter}
+use Rattle.std.proofs.Common.{◌≡◌, ℕ, ◌-◌, ◌≤◌, ◌<◌, List, ◌∷◌, ◌&&◌, length, get_or, Bor, Option, Some, None, sym, ◌∙◌, ap, subst, arith, Iter}
 use Rattle.std.specs.Slice.Iter.{iter_rest, iter_steps_back}
 use Rattle.std.specs.List.{push}
 use Rattle.std.specs.declared.iter.Rev.{Rev}

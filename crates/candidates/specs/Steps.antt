@@ -5,7 +5,7 @@ use Rattle.std.proofs.Common.{◌∙◌, true≢false, add-one, drop_of_length-l
 use mathlib.Core.List.{List, [], ◌∷◌, map}
 use Rattle.std.proofs.Math.Option.{Option, some, none}
 use native.Mathlib.Omega.{arith}
-use Rattle.ty.specs.Types.{ArgType, Primitive, Object, Array, Unknown, categories, is_known, is_primitive, is_reference, is_wide, concrete_hint}
+use Rattle.ty.specs.Types.{ArgType, Primitive, Object, Array, Unknown, categories, is_known, is_primitive, is_reference, is_wide}
 use Rattle.ty.specs.Words.{Legal, type_of}
 use Rattle.lattice.specs.Lattice.{World, same_type, unknown_accepts, is_assignable, producer_bound_compatible, same_register_category, observed_accepts, any_accepts, domain_accepts, assignable_to_all, lesser, candidate, least_hint}
 use Rattle.lattice.specs.Same.{same-refl, same-words}

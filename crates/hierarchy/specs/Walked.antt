@@ -1,5 +1,5 @@
 -- What the contracts of this crate cite beside the view: the cast test on the marks, and what a walk tells.
-use Rattle.std.specs.Prelude.{◌≡◌, Bool, true, false, cond, ◌&&◌, List, ℕ, Option, Some, None}
+use Rattle.std.specs.Prelude.{◌≡◌, Bool, false, cond, ◌&&◌, List, ℕ, Option, Some, None}
 use Rattle.sets.specs.Sets.{member}
 use Rattle.view.specs.View.{View, reached, reach, steps, cast_by_facts}
 use Rattle.tables.specs.Table.{mark}
