@@ -10,7 +10,7 @@ ghost use Rattle.ancestry.specs.Spread.{Spread};
 ghost use Rattle.ancestry.specs.Rows.{rows_room, row, Joined, JoinedIf, Through};
 ghost use Rattle.ancestry.specs.Closure.{Rows, Bases};
 
-use hierarchy::{expand, with_parents};
+use hierarchy::{expand, set_at, with_parents};
 use sets::Set;
 use tables::{NAMES, Tables};
 
@@ -39,12 +39,7 @@ pub fn row_of(rows: &[u64], c: u64) -> Set
     requires { (length rows.now ≡ rows_room) × (c < names_room) }
     ensures { result.words ≡ row rows.now c }
 {
-    let first = (16 * c) as usize;
-    let mut words = [0u64; 16];
-    for i in 0..16 {
-        words[i] = rows[first + i];
-    }
-    Set { words: words }
+    set_at(rows, c)
 }
 
 // Whether d is in row c.
@@ -52,9 +47,7 @@ pub fn is_in(rows: &[u64], c: u64, d: u64) -> bool
     requires { (length rows.now ≡ rows_room) × (c < names_room) × (d < names_room) }
     ensures { result ≡ member (row rows.now c) d }
 {
-    let i = (16 * c + d / 64) as usize;
-    let w = rows[i];
-    (w >> (d % 64)) % 2 == 1
+    hierarchy::is_in(rows, c, d)
 }
 
 // Puts s into row c.
@@ -64,7 +57,7 @@ fn join(rows: &mut [u64], c: u64, s: Set)
 {
     let first = (16 * c) as usize;
     for k in 0..16 {
-        rows[first + k] = rows[first + k] | s.words[k];
+        rows[first + k] |= s.words[k];
     }
 }
 
@@ -84,11 +77,9 @@ fn through(rows: &mut [u64], names: u64, k: u64)
     ensures { Through rows.old names k rows.new }
 {
     let via = row_of(rows, k);
-    let mut i: u64 = 0;
-    while i < names {
+    for i in 0..names {
         let taken = is_in(rows, i, k);
         join_if(rows, i, taken, via);
-        i += 1;
     }
 }
 

@@ -5,7 +5,7 @@ use Rattle.std.proofs.Common.{◌∙◌, true≢false, add-one, drop_of_length-l
 use mathlib.Core.List.{List, [], ◌∷◌, map}
 use Rattle.std.proofs.Math.Option.{Option, some, none}
 use native.Mathlib.Omega.{arith}
-use Rattle.ty.specs.Types.{ArgType, Primitive, Object, Array, Unknown, categories, is_known, is_primitive, is_reference, is_wide, concrete_hint}
+use Rattle.ty.specs.Types.{ArgType, Primitive, Object, Array, Unknown, categories, is_known, is_primitive, is_reference, is_wide}
 use Rattle.ty.specs.Words.{Legal, type_of}
 use Rattle.lattice.specs.Lattice.{World, same_type, unknown_accepts, is_assignable, producer_bound_compatible, same_register_category, observed_accepts, any_accepts, domain_accepts, assignable_to_all, lesser, candidate, least_hint}
 use Rattle.lattice.specs.Same.{same-refl, same-words}
@@ -148,14 +148,6 @@ module _ (ws : List ℕ) (i : ℕ) where
   unfolding any_accepts
   any-end u h = ap (λ (ts : List ArgType). any_accepts ts u) (types-end h)
 
-  pub all-later : (w : World) (t : ArgType) → i < length ws → is_assignable w t (type_of (get_or ws i 0)) ≡ true → assignable_to_all w t (types_from i ws) ≡ assignable_to_all w t (types_from (i + 1) ws)
-  unfolding assignable_to_all
-  all-later w t h e = ap (assignable_to_all w t) (types-step h) ∙ ap (λ (b : Bool). b && assignable_to_all w t (types_from (i + 1) ws)) e
-
-  pub all-not : (w : World) (t : ArgType) → i < length ws → is_assignable w t (type_of (get_or ws i 0)) ≡ false → assignable_to_all w t (types_from i ws) ≡ false
-  unfolding assignable_to_all
-  all-not w t h e = ap (assignable_to_all w t) (types-step h) ∙ ap (λ (b : Bool). b && assignable_to_all w t (types_from (i + 1) ws)) e
-
   pub all-end : (w : World) (t : ArgType) → length ws ≤ i → assignable_to_all w t (types_from i ws) ≡ true
   unfolding assignable_to_all
   all-end w t h = ap (assignable_to_all w t) (types-end h)
@@ -166,14 +158,6 @@ module _ (w : World) (upper : List ArgType) (ws : List ℕ) (i : ℕ) where
   pub least-end : length ws ≤ i → least_hint w upper (types_from i ws) ≡ none
   unfolding least_hint
   least-end h = ap (least_hint w upper) (types-end ws i h)
-
-  -- the bound before the place i
-  pub least-step : 0 < i → i ≤ length ws
-      → least_hint w upper (types_from (i - 1) ws) ≡ candidate w upper (concrete_hint w.object (type_of (get_or ws (i - 1) 0))) (least_hint w upper (types_from i ws))
-  unfolding least_hint
-  least-step g h =
-      ap (least_hint w upper) (types-step ws (i - 1) (omega arith))
-      ∙ ap (λ (k : ℕ). candidate w upper (concrete_hint w.object (type_of (get_or ws (i - 1) 0))) (least_hint w upper (types_from k ws))) (let q : i - 1 + 1 ≡ i = omega arith in q)
 
 pub candidate-yes : (w : World) (upper : List ArgType) (t : ArgType) (rest : Option ArgType) → assignable_to_all w t upper ≡ true → candidate w upper (some t) rest ≡ lesser t rest
 candidate-yes w upper t rest e = ap (λ (b : Bool). cond b (lesser t rest) rest) e

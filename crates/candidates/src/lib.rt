@@ -87,13 +87,10 @@ fn any_accepts(domain: &[u64], candidate: TypeWord) -> bool
     requires { AllLegal domain.now × Legal candidate.word }
     ensures { result ≡ any_accepts (map type_of domain.now) (type_of candidate.word) }
 {
-    let mut i: usize = 0;
-    while i < domain.len() {
-        let observed = TypeWord { word: domain[i] };
-        if observed_accepts(observed, candidate) {
+    for &word in domain {
+        if observed_accepts(TypeWord { word }, candidate) {
             return true;
         }
-        i += 1;
     }
     false
 }
@@ -120,13 +117,9 @@ fn is_assignable_to_each(
     requires { Prepared pairs.now marks.now t × Legal candidate.word × AllLegal upper.now }
     ensures { result ≡ assignable_to_all (world_of pairs.now marks.now t) (type_of candidate.word) (map type_of upper.now) }
 {
-    let mut i = upper.len();
-    while 0 < i {
-        let k = i - 1;
-        let other = TypeWord { word: upper[k] };
-        if is_assignable(pairs, marks, t, candidate, other) {
-            i = k;
-        } else {
+    for &word in upper.iter().rev() {
+        let other = TypeWord { word };
+        if !is_assignable(pairs, marks, t, candidate, other) {
             return false;
         }
     }
@@ -173,21 +166,15 @@ fn with_other(
     requires { Prepared pairs.now marks.now t × ClassAt g.head candidate.word × Legal other.word }
     ensures { (result.head ≡ g.head) × Adds (world_of pairs.now marks.now t) g.head g.classes.words other.word result.rest result.classes.words }
 {
-    let head = g.head;
-    let classes = g.classes;
-    if other.word / TAG == head {
+    if other.word / TAG == g.head {
         return Group {
-            head: head,
             rest: true,
-            classes: classes.with(other.load()),
+            classes: g.classes.with(other.load()),
+            ..g
         };
     }
     let rest = is_assignable(pairs, marks, t, candidate, other);
-    Group {
-        head: head,
-        rest: rest,
-        classes: classes,
-    }
+    Group { rest, ..g }
 }
 
 // The group of a candidate's head. Where one of the others refuses it, the rest is not looked at.
@@ -200,10 +187,8 @@ fn group_of(pairs: &[u64], marks: &[u64], t: Tables, candidate: TypeWord, upper:
         rest: true,
         classes: Set::empty(),
     };
-    let mut i = upper.len();
-    while 0 < i {
-        i -= 1;
-        let other = TypeWord { word: upper[i] };
+    for &word in upper.iter().rev() {
+        let other = TypeWord { word };
         let next = with_other(pairs, marks, t, candidate, g, other);
         if next.rest {
             g = next;
@@ -321,10 +306,8 @@ fn least_of_few(pairs: &[u64], marks: &[u64], t: Tables, upper: &[u64]) -> Optio
     ensures { result ≡ maybe_word (most_specific_upper (world_of pairs.now marks.now t) (map type_of upper.now)) }
 {
     let mut best = None;
-    let mut i = upper.len();
-    while 0 < i {
-        i -= 1;
-        let bound = TypeWord { word: upper[i] };
+    for &word in upper.iter().rev() {
+        let bound = TypeWord { word };
         best = with_bound(pairs, marks, t, upper, bound, best);
     }
     best
@@ -367,12 +350,11 @@ fn with_class_hint(
     requires { Prepared pairs.now marks.now t × AllLegal upper.now × Legal hint.word × (tag_of hint.word ≡ 1) × BestIs (world_of pairs.now marks.now t) (map type_of upper.now) b (maybe_type b.best) }
     ensures { BestIs (world_of pairs.now marks.now t) (map type_of upper.now) result (candidate (world_of pairs.now marks.now t) (map type_of upper.now) (some (type_of hint.word)) (maybe_type b.best)) }
 {
-    let best = b.best;
-    let g = group_for(pairs, marks, t, upper, hint, b.group);
-    let taken = takes(pairs, marks, t, g, hint);
+    let group = group_for(pairs, marks, t, upper, hint, b.group);
+    let taken = takes(pairs, marks, t, group, hint);
     Best {
-        best: lesser_if(taken, hint, best),
-        group: g,
+        best: lesser_if(taken, hint, b.best),
+        group,
     }
 }
 
@@ -391,11 +373,9 @@ fn with_any_hint(
     if hint.tag() == 1 {
         return with_class_hint(pairs, marks, t, upper, hint, b);
     }
-    let best = b.best;
-    let group = b.group;
     Best {
-        best: with_hint(pairs, marks, t, upper, hint, best),
-        group: group,
+        best: with_hint(pairs, marks, t, upper, hint, b.best),
+        ..b
     }
 }
 
@@ -431,10 +411,8 @@ fn least_of_many(pairs: &[u64], marks: &[u64], t: Tables, upper: &[u64]) -> Opti
             classes: Set::empty(),
         },
     };
-    let mut i = upper.len();
-    while 0 < i {
-        i -= 1;
-        let bound = TypeWord { word: upper[i] };
+    for &word in upper.iter().rev() {
+        let bound = TypeWord { word };
         b = with_any_bound(pairs, marks, t, upper, bound, b);
     }
     b.best

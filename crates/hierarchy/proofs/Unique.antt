@@ -21,6 +21,10 @@ use Rattle.hierarchy.proofs.recorded.Reads as recorded-reads
 use Rattle.hierarchy.proofs.recorded.Kinds as recorded-kinds
 use Rattle.hierarchy.proofs.reaches.Reads as reaches-reads
 use Rattle.hierarchy.proofs.reaches.Kinds as reaches-kinds
+use Rattle.hierarchy.proofs.set_at.Reads as set-at-reads
+use Rattle.hierarchy.proofs.set_at.Kinds as set-at-kinds
+use Rattle.hierarchy.proofs.is_in.Reads as is-in-reads
+use Rattle.hierarchy.proofs.is_in.Kinds as is-in-kinds
 
 pub with-parents-one : (κs : Lfts 2) (a : Dens κs with-parents-kinds.ps) (r₁ r₂ : (res_t with-parents-kinds.r κs).Denot) (x₁ x₂ : AtExit (ended_of 2 with-parents-kinds.ps with-parents-kinds.r) κs)
     → with-parents-reads.Post κs a r₁ x₁ → with-parents-reads.Post κs a r₂ x₂ → r₁ ≡ r₂
@@ -57,3 +61,11 @@ reaches-one κs a r₁ r₂ x₁ x₂ p q = p ∙ sym q
 pub recorded-one : (κs : Lfts 1) (a : Dens κs recorded-kinds.ps) (r₁ r₂ : (res_t recorded-kinds.r κs).Denot) (x₁ x₂ : AtExit (ended_of 1 recorded-kinds.ps recorded-kinds.r) κs)
     → recorded-reads.Post κs a r₁ x₁ → recorded-reads.Post κs a r₂ x₂ → r₁ ≡ r₂
 recorded-one κs a r₁ r₂ x₁ x₂ p q = λ i. record { words = (p ∙ sym q) i }
+
+pub set-at-one : (κs : Lfts 1) (a : Dens κs set-at-kinds.ps) (r₁ r₂ : (res_t set-at-kinds.r κs).Denot) (x₁ x₂ : AtExit (ended_of 1 set-at-kinds.ps set-at-kinds.r) κs)
+    → set-at-reads.Post κs a r₁ x₁ → set-at-reads.Post κs a r₂ x₂ → r₁ ≡ r₂
+set-at-one κs a r₁ r₂ x₁ x₂ p q = λ i. record { words = (p ∙ sym q) i }
+
+pub is-in-one : (κs : Lfts 1) (a : Dens κs is-in-kinds.ps) (r₁ r₂ : (res_t is-in-kinds.r κs).Denot) (x₁ x₂ : AtExit (ended_of 1 is-in-kinds.ps is-in-kinds.r) κs)
+    → is-in-reads.Post κs a r₁ x₁ → is-in-reads.Post κs a r₂ x₂ → r₁ ≡ r₂
+is-in-one κs a r₁ r₂ x₁ x₂ p q = p ∙ sym q

@@ -3,6 +3,8 @@ use mathlib.Core.Path.{◌≡◌, refl, sym, ap, ◌∙◌, subst}
 use mathlib.Core.Bool.{Bool, true, false, cond, true≢false}
 use mathlib.Core.List.{List}
 use mathlib.Core.Option.{some, none}
+use Rattle.std.specs.Prelude.{Option, Some, None, is_some, unwrap_or}
+use Rattle.std.specs.Bool.{then_some}
 use Prim.Native.Nat.{ℕ, suc, ◌+◌, ◌≤◌, ◌<◌}
 use borrow.Author.Count.{below_more}
 use borrow.Author.Tests.{eq-eqb, ne_eqb}
@@ -18,7 +20,7 @@ use Rattle.view.specs.View.{number_of, View, with_parents, grow, level, reached,
 use Rattle.view.specs.Grow.{Formed, member-le}
 use Rattle.view.specs.Reach.{level-formed, level-grows, level-stays}
 use Rattle.view.specs.Frontier.{Expanded, frontier, expanded-next, part-next, nothing-new}
-use Rattle.hierarchy.specs.Walked.{Walked}
+use Rattle.hierarchy.specs.Walked.{level_of, Walked}
 
 -- at level k nothing but the front is left to expand, and y was in no level before
 pub record Standing (v : View) (x y : ℕ) (seen front : List ℕ) (k : ℕ) : Type 0 where
@@ -59,11 +61,10 @@ module _ (v : View) (x y : ℕ) where
         first-is (λ n. at (level v n x) y) (suc v.names) k (let l = st.within in omega arith) st.not-before
         (λ z. let a = at-member seen y m in let b = ap (λ (s : List ℕ). at s y) st.is-level in omega arith)
 
-    pub walked-found : member seen y ≡ true → Walked v x y true k seen
-    unfolding reach reached
+    pub walked-found : member seen y ≡ true → Walked v x y (Some k) seen
+    unfolding reach reached level_of
     walked-found m = record {
-      tells = sym found;
-      at-level = λ _. sym (found-steps m);
+      at-level = ap Some (sym (found-steps m)) ∙ sym (ap (λ (b : Bool). cond b (Some (steps v x y)) None) found);
       has-seen = λ n. absurd (true≢false (sym found ∙ n));
     }
       where
@@ -71,17 +72,22 @@ module _ (v : View) (x y : ℕ) where
         found = member-le seen (level v v.names x) y (subst (λ (s : List ℕ). at s y ≤ at (level v v.names x) y) (sym st.is-level) (level-grows v k v.names x y st.within)) m
 
     -- y is not in this level, which is the last
-    walked-none : member seen y ≡ false → level v v.names x ≡ seen → Walked v x y false k seen
-    unfolding reach reached
+    walked-none : member seen y ≡ false → level v v.names x ≡ seen → Walked v x y None seen
+    unfolding reach reached level_of
     walked-none n e = record {
-      tells = sym (ap (λ (s : List ℕ). member s y) e ∙ n);
-      at-level = λ m. absurd (true≢false (sym m ∙ ap (λ (s : List ℕ). member s y) e ∙ n));
+      at-level = sym (ap (λ (b : Bool). cond b (Some (steps v x y)) None) (ap (λ (s : List ℕ). member s y) e ∙ n));
       has-seen = λ _. sym e;
     }
 
-    pub walked-end : v.names ≤ k → (b : Bool) → b ≡ member seen y → Walked v x y b k seen
-    walked-end h true e = walked-found (sym e)
-    walked-end h false e = walked-none (sym e) (ap (λ (n : ℕ). level v n x) (let q : v.names ≡ k = let l = st.within in omega arith in q) ∙ sym st.is-level)
+    pub walked-end : v.names ≤ k → (b : Bool) → b ≡ member seen y → (r : Option ℕ) → r ≡ then_some b v.names → Walked v x y r seen
+    walked-end h b e r q = subst (λ (o : Option ℕ). Walked v x y o seen) (ap (then_some b) last ∙ sym q) (go b e)
+      where
+        last : k ≡ v.names
+        last = let l = st.within in omega arith
+
+        go : (b : Bool) → b ≡ member seen y → Walked v x y (then_some b k) seen
+        go true e = walked-found (sym e)
+        go false e = walked-none (sym e) (ap (λ (n : ℕ). level v n x) (sym last) ∙ sym st.is-level)
 
     module _ (next new : List ℕ) (e : next ≡ with_parents v seen (members (at front) 0 1024)) (q : new ≡ subtract next seen) where
       next-level : next ≡ grow v seen
@@ -90,7 +96,7 @@ module _ (v : View) (x y : ℕ) where
       new-is : new ≡ subtract (grow v seen) seen
       new-is = q ∙ ap (λ (s : List ℕ). subtract s seen) next-level
 
-      pub walked-last : member seen y ≡ false → first (at new) 1024 ≡ 1024 → Walked v x y false k seen
+      pub walked-last : member seen y ≡ false → first (at new) 1024 ≡ 1024 → Walked v x y None seen
       unfolding level
       walked-last n l =
           walked-none n
@@ -107,6 +113,16 @@ module _ (v : View) (x y : ℕ) where
         not-before = below_more _ _ st.not-before (ap (λ (s : List ℕ). at s y) (sym st.is-level) ∙ at-none seen y n);
       }
 
+-- what the level of a walk tells
+module _ (v : View) (x y : ℕ) where
+  pub tells : (level : Option ℕ) → level ≡ level_of v x y → is_some level ≡ reach v x y
+  unfolding level_of
+  tells level e = ap is_some e ∙ go (reach v x y)
+    where
+      go : (b : Bool) → is_some (cond b (Some (steps v x y)) None) ≡ b
+      go true = refl
+      go false = refl
+
 module _ (v : View) (x : ℕ) where
   -- a number past the end is never found
   pub never-found : reach v x 1024 ≡ false
@@ -115,17 +131,21 @@ module _ (v : View) (x : ℕ) where
 
   module _ (y : ℕ) where
     -- ---- the distance, by what a walk told
-    pub distance-found : (n : ℕ) → reach v x y ≡ true → n ≡ steps v x y → n ≡ number_of (distance v x y)
-    unfolding distance number_of
-    distance-found n r e = e ∙ simp r
+    pub distance-found : (n : ℕ) → Some n ≡ level_of v x y → n ≡ number_of (distance v x y)
+    unfolding level_of distance number_of
+    distance-found n e = go (reach v x y) e
+      where
+        go : (b : Bool) → Some n ≡ cond b (Some (steps v x y)) None → n ≡ number_of (cond b (some (steps v x y)) (cond (eqb y v.object) (some far) none))
+        go true q = ap (λ (o : Option ℕ). unwrap_or o 0) q
+        go false q = absurd (true≢false (ap is_some q))
 
-    pub distance-far : reach v x y ≡ false → y ≡ v.object → far ≡ number_of (distance v x y)
+    pub distance-far : None ≡ level_of v x y → y ≡ v.object → far ≡ number_of (distance v x y)
     unfolding distance number_of
-    distance-far r e = simp (r, eq-eqb y v.object e)
+    distance-far n e = simp (sym (tells v x y None n), eq-eqb y v.object e)
 
-    pub distance-none : reach v x y ≡ false → (y ≡ v.object → ⊥) → 18446744073709551615 ≡ number_of (distance v x y)
+    pub distance-none : None ≡ level_of v x y → (y ≡ v.object → ⊥) → 18446744073709551615 ≡ number_of (distance v x y)
     unfolding distance number_of
-    distance-none r n = simp (r, ne_eqb y v.object n)
+    distance-none n d = simp (sym (tells v x y None n), ne_eqb y v.object d)
 
     -- ---- and as a number that is there for every class
     pub far-found : (n : ℕ) → v.names ≤ 1024 → reach v x y ≡ true → n ≡ steps v x y → (n ≡ distance_or (distance v x y)) × (n ≤ far)

@@ -1,5 +1,5 @@
 -- What the contracts of this crate cite beside the view: the cast test on the marks, and what a walk tells.
-use Rattle.std.specs.Prelude.{◌≡◌, Bool, true, false, ◌&&◌, List, ℕ}
+use Rattle.std.specs.Prelude.{◌≡◌, Bool, false, cond, ◌&&◌, List, ℕ, Option, Some, None}
 use Rattle.sets.specs.Sets.{member}
 use Rattle.view.specs.View.{View, reached, reach, steps, cast_by_facts}
 use Rattle.tables.specs.Table.{mark}
@@ -12,8 +12,11 @@ cast_marked marks source target =
 
 -- ---- what a walk from x towards y tells
 
-pub record Walked (v : View) (x y : ℕ) (found : Bool) (level : ℕ) (seen : List ℕ) : Type 0 where
-  -- whether y is reached; then its level, else all that is reached
-  pub tells : found ≡ reach v x y
-  pub at-level : reach v x y ≡ true → level ≡ steps v x y
+-- the level of y, where it is reached
+unfoldable pub level_of : View → ℕ → ℕ → Option ℕ
+level_of v x y = cond (reach v x y) (Some (steps v x y)) None
+
+pub record Walked (v : View) (x y : ℕ) (level : Option ℕ) (seen : List ℕ) : Type 0 where
+  -- the level of y, or that it is not reached; then all that is reached
+  pub at-level : level ≡ level_of v x y
   pub has-seen : reach v x y ≡ false → seen ≡ reached v x

@@ -1,7 +1,7 @@
 // What is asked of the class tables, from hierarchy.rs. A walk is handed the whole tables, though it reads the pairs alone.
 #![tactic(auto)]
 
-ghost use Rattle.std.specs.Prelude.{◌≡◌, cond, ◌<◌, ltb, length};
+ghost use Rattle.std.specs.Prelude.{◌≡◌, cond, ◌+◌, ◌*◌, ◌≤◌, ◌<◌, ltb, length};
 ghost use Rattle.sets.specs.Sets.{at, member, members, insert};
 ghost use Rattle.view.specs.View.{insert_all, with_parents, reached, reach, ancestors, distance, ancestor, relation, cast, number_of};
 ghost use Rattle.tables.specs.Table.{names_room, marks_room, mark, view_of};
@@ -29,16 +29,14 @@ pub fn with_parents(pairs: &[u64], marks: &[u64], t: Tables, c: u64, s: Set) -> 
     requires { c < names_room }
     ensures { result.words ≡ insert_all s.words ((view_of pairs.now marks.now t).parents c) }
 {
+    let first = sorted::position(pairs, t.pairs, c * NAMES);
     let past = sorted::count(pairs, t.pairs);
-    let mut i = sorted::position(pairs, t.pairs, c * NAMES);
     let mut all = s;
-    while i < past {
-        let key = pairs[i];
+    for &key in &pairs[first..past] {
         if key / NAMES != c {
             return all;
         }
         all = with_class(all, t.names, key % NAMES);
-        i += 1;
     }
     all
 }
@@ -58,47 +56,37 @@ pub fn expand(pairs: &[u64], marks: &[u64], t: Tables, s: Set, front: Set) -> Se
     all
 }
 
-// Where a walk ended: whether it found what it looked for, at which level, and what it has seen.
+// Where a walk ended: at which level it found what it looked for, if it did, and what it has seen.
 #[derive(Clone, Copy)]
 struct Walk {
-    found: bool,
-    level: u64,
+    level: Option<u64>,
     seen: Set,
 }
 
 // From x, level by level, until y is found or nothing is new.
 fn walk_to(pairs: &[u64], marks: &[u64], t: Tables, x: u64, y: u64) -> Walk
-    ensures { Walked (view_of pairs.now marks.now t) x y result.found result.level result.seen.words }
+    ensures { Walked (view_of pairs.now marks.now t) x y result.level result.seen.words }
 {
     let none = Set::empty();
     let mut seen = none.with(x);
     let mut front = seen;
-    let mut k: u64 = 0;
-    while k < t.names {
+    for k in 0..t.names {
         if seen.has(y) {
             return Walk {
-                found: true,
-                level: k,
-                seen: seen,
+                level: Some(k),
+                seen,
             };
         }
         let next = expand(pairs, marks, t, seen, front);
         front = next.difference(seen);
         if front.lowest() == NAMES {
-            return Walk {
-                found: false,
-                level: k,
-                seen: seen,
-            };
+            return Walk { level: None, seen };
         }
         seen = next;
-        k += 1;
     }
-    let last = seen.has(y);
     Walk {
-        found: last,
-        level: k,
-        seen: seen,
+        level: seen.has(y).then_some(t.names),
+        seen,
     }
 }
 
@@ -115,7 +103,7 @@ pub fn reaches(pairs: &[u64], marks: &[u64], t: Tables, x: u64, y: u64) -> bool
     ensures { result ≡ reach (view_of pairs.now marks.now t) x y }
 {
     let w = walk_to(pairs, marks, t, x, y);
-    w.found
+    w.level.is_some()
 }
 
 // The ancestors: what is reached, and Object.
@@ -131,8 +119,8 @@ pub fn distance(pairs: &[u64], marks: &[u64], t: Tables, value: u64, expected: u
     ensures { result ≡ number_of (distance (view_of pairs.now marks.now t) value expected) }
 {
     let w = walk_to(pairs, marks, t, value, expected);
-    if w.found {
-        return w.level;
+    if let Some(level) = w.level {
+        return level;
     }
     if expected == t.object {
         return FAR;
@@ -151,7 +139,27 @@ fn is_ancestor(pairs: &[u64], marks: &[u64], t: Tables, value: u64, expected: u6
         return true;
     }
     let up = walk_to(pairs, marks, t, value, expected);
-    up.found
+    up.level.is_some()
+}
+
+// Of sets that stand in a slice one behind the other, sixteen words each: set k.
+pub fn set_at(words: &[u64], k: u64) -> Set
+    requires { 16 * k + 16 ≤ length words.now }
+    ensures { result.words ≡ mark words.now k }
+{
+    let first = (16 * k) as usize;
+    let mut set = Set::empty();
+    set.words.copy_from_slice(&words[first..first + 16]);
+    set
+}
+
+// Whether c is in set k.
+pub fn is_in(words: &[u64], k: u64, c: u64) -> bool
+    requires { (16 * k + 16 ≤ length words.now) × (c < names_room) }
+    ensures { result ≡ member (mark words.now k) c }
+{
+    let i = (16 * k + c / 64) as usize;
+    (words[i] >> (c % 64)) % 2 == 1
 }
 
 // Whether c is in the set k of the four.
@@ -160,9 +168,7 @@ fn is_marked(marks: &[u64], k: u64, c: u64) -> bool
     ensures { result ≡ member (mark marks.now k) c }
 {
     if c < NAMES {
-        let i = (16 * k + c / 64) as usize;
-        let w = marks[i];
-        return (w >> (c % 64)) % 2 == 1;
+        return is_in(marks, k, c);
     }
     false
 }
@@ -172,11 +178,7 @@ pub fn recorded(marks: &[u64]) -> Set
     requires { length marks.now ≡ marks_room }
     ensures { result.words ≡ mark marks.now 0 }
 {
-    let mut words = [0u64; 16];
-    for i in 0..16 {
-        words[i] = marks[i];
-    }
-    Set { words: words }
+    set_at(marks, 0)
 }
 
 // How `value` stands to `expected`: subtype_relation. (A function `relation` could not stand beside the enum `Relation`.)
@@ -197,7 +199,7 @@ pub fn subtype_relation(
         return Relation::Yes;
     }
     let w = walk_to(pairs, marks, t, value, expected);
-    if w.found {
+    if w.level.is_some() {
         return Relation::Yes;
     }
     let seen = w.seen;

@@ -198,10 +198,8 @@ fn keep_members(load: u64, set: u64) -> u64
     requires { load / 2 ^ 44 ≤ 11 }
     ensures { (result ≡ list_load (kept set (list_of load))) × (result < 2 ^ 48) }
 {
-    let mut i = load / LENGTH;
     let mut found: u64 = 0;
-    while 0 < i {
-        i -= 1;
+    for i in (0..load / LENGTH).rev() {
         let c = digit(load, i);
         found = keep(found, c, (set >> c) % 2 == 1);
     }
@@ -386,10 +384,8 @@ pub fn join_all(pairs: &[u64], marks: &[u64], t: Tables, words: &[u64]) -> Optio
         return None;
     }
     let mut all = TypeWord { word: words[0] };
-    let mut i: usize = 1;
-    while i < words.len() {
-        all = join(pairs, marks, t, all, TypeWord { word: words[i] });
-        i += 1;
+    for &word in &words[1..] {
+        all = join(pairs, marks, t, all, TypeWord { word });
     }
     Some(all)
 }

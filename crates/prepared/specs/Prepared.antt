@@ -1,13 +1,13 @@
 -- KEYS WITH ROWS BEHIND THEM. A slice of 20,480 words has the keys of a class table in its first 4,096 words and rows in the others; it is ready
 -- if every row that is there is what its class reaches. A slice of another length has no row, and is ready as it is.
-use Rattle.std.specs.Prelude.{◌≡◌, refl, Bool, true, false, ◌&&◌, ℕ, suc, ◌+◌, ◌-◌, ◌≤◌, ◌<◌, eqb, leb, ltb, length, get_or, set, replicate}
+use Rattle.std.specs.Prelude.{◌≡◌, refl, Bool, true, false, ◌&&◌, ℕ, ◌+◌, ◌-◌, ◌≤◌, ◌<◌, eqb, leb, ltb, length, get_or, replicate}
 use Rattle.std.proofs.Math.Path.{sym, ap}
-use Rattle.std.proofs.Common.{◌∙◌, subst, true≢false, arith, length-set, length-take, length-append, take_all, drop-drop, drop_at, get_or-take, get_or-drop, ext_get_or, length-take-le}
+use Rattle.std.proofs.Common.{◌∙◌, subst, true≢false, arith, length-take, length-append, take_all, drop-drop, drop_at, get_or-take, get_or-drop, ext_get_or, length-take-le}
 use Rattle.std.proofs.lemmas.Bool.{false≢true}
 use mathlib.Core.List.{List, [], ◌++◌, append-nil}
 use Rattle.std.proofs.Math.ListN.{take, drop, length-drop, length-replicate, drop_of_length-le}
 use Rattle.std.proofs.lemmas.List.{get_or-replicate}
-use Rattle.std.proofs.Math.Seq.{paste, paste-suc}
+use Rattle.std.proofs.Math.Seq.{paste}
 use Rattle.std.proofs.lemmas.List.Edits.{take-paste, drop-paste, length-paste}
 use borrow.Author.Tests.{eqb-true, leb-true, ltb-true, ne_eqb, eq-eqb, le-leb, lt-leb, lt-ltb, le-ltb}
 use borrow.Rule.Slice.PartMut.{put_mid, same_len_mid}
@@ -86,15 +86,6 @@ module _ (pairs marks : List ℕ) (t : Tables) (y : Prepared pairs marks t) (c :
   pub row-tells : (d : ℕ) (b : Bool) → b ≡ member w d → reach (view_of pairs marks t) c d ≡ b
   unfolding reach
   row-tells d b q = sym (q ∙ ap (λ (x : List ℕ). member x d) row-is)
-
--- ---- words copied to the front, one more
-pub paste-more : (into now from : List ℕ) (i : ℕ) → i < length from → i < length into → length now ≡ length into → now ≡ paste into 0 from i
-    → (length (set now i (get_or from i 0)) ≡ length into) × (set now i (get_or from i 0) ≡ paste into 0 from (i + 1))
-paste-more into now from i f l n e = (
-  length-set now i (get_or from i 0) ∙ n,
-  ap (λ (x : List ℕ). set x i (get_or from i 0)) e ∙ ap (λ (k : ℕ). set (paste into 0 from i) k (get_or from i 0)) (let q : i ≡ 0 + i = omega arith in q)
-      ∙ paste-suc into 0 from i 0 (omega arith) f ∙ ap (paste into 0 from) (let q : suc i ≡ i + 1 = omega arith in q),
-)
 
 -- ---- a prepared slice
 

@@ -3,7 +3,6 @@
 #![tactic(auto)]
 
 ghost use Rattle.std.specs.Prelude.{◌≡◌, true, ◌≤◌, ◌<◌, length, replicate};
-ghost use Rattle.std.proofs.Math.Seq.{paste};
 ghost use Rattle.sets.specs.Sets.{MembersBelow};
 ghost use Rattle.view.specs.View.{reached, reach, relation};
 ghost use Rattle.tables.specs.Table.{names_room, pairs_room, view_of};
@@ -89,18 +88,6 @@ pub fn relation_of(pairs: &[u64], marks: &[u64], t: Tables, value: u64, expected
     hierarchy::subtype_relation(pairs, marks, t, value, expected)
 }
 
-// The first n words of one slice to the front of another.
-fn copy_front(from: &[u64], n: usize, into: &mut [u64])
-    requires { (n ≤ length from.now) × (n ≤ length into.old) }
-    ensures { into.new ≡ paste into.old 0 from.now n }
-{
-    let mut i: usize = 0;
-    while i < n {
-        into[i] = from[i];
-        i += 1;
-    }
-}
-
 // Into an empty table: the keys, and a row for each class that is reached from s.
 pub fn prepare(pairs: &[u64], marks: &[u64], t: Tables, s: Set, table: &mut [u64])
     requires { (t.names ≤ names_room) × (t.object < t.names) × (t.pairs ≤ pairs_room) × (t.pairs ≤ length pairs.now) × MembersBelow t.names s.words × (table.old ≡ replicate table_room 0) }
@@ -108,5 +95,5 @@ pub fn prepare(pairs: &[u64], marks: &[u64], t: Tables, s: Set, table: &mut [u64
 {
     let above = spread(pairs, marks, t, s);
     fill(pairs, marks, t, above, &mut table[4096..20480]);
-    copy_front(pairs, t.pairs, table);
+    table[..t.pairs].copy_from_slice(&pairs[..t.pairs]);
 }

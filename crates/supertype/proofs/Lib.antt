@@ -1,3 +1,2 @@
 -- What the proofs of this crate's functions share.
-pub mod Steps
 pub mod Unique

@@ -16,28 +16,38 @@ use Rattle.ancestry.specs.Rows.{row}
 use Rattle.ancestry.specs.Spread.{Spread}
 use Rattle.ancestry.specs.Closure.{Rows}
 
+-- of a set, without those of a list for which a test is true
+unfoldable pub strip_by : (ℕ → Bool) → List ℕ → List ℕ → List ℕ
+strip_by p s [] = s
+strip_by p s (c ∷ cs) = strip_by p (cond (p c) (remove s c) s) cs
+
 -- of a set, without those of a list whose row has d
-unfoldable pub strip_rows : List ℕ → ℕ → List ℕ → List ℕ → List ℕ
-strip_rows rows d s [] = s
-strip_rows rows d s (c ∷ cs) = strip_rows rows d (cond (member (row rows c) d) (remove s c) s) cs
+abbrev pub strip_rows : List ℕ → ℕ → List ℕ → List ℕ → List ℕ
+strip_rows rows d = strip_by (λ c. member (row rows c) d)
 
-module _ (rows : List ℕ) (d : ℕ) where
-  pub rows-step : (s f : List ℕ) (c : ℕ) → c ≡ first (at f) 1024 → c < 1024
-      → strip_rows rows d s (members (at f) 0 1024) ≡ strip_rows rows d (cond (member (row rows c) d) (remove s c) s) (members (at (remove f c)) 0 1024)
-  unfolding strip_rows
-  rows-step s f c e h = ap (strip_rows rows d s) (members-pop f c e h)
+module _ (p : ℕ → Bool) where
+  pub by-step : (s f : List ℕ) (c : ℕ) → c ≡ first (at f) 1024 → c < 1024
+      → strip_by p s (members (at f) 0 1024) ≡ strip_by p (cond (p c) (remove s c) s) (members (at (remove f c)) 0 1024)
+  unfolding strip_by
+  by-step s f c e h = ap (strip_by p s) (members-pop f c e h)
 
-  pub rows-end : (s f : List ℕ) (c : ℕ) → c ≡ first (at f) 1024 → 1024 ≤ c → strip_rows rows d s (members (at f) 0 1024) ≡ s
-  unfolding strip_rows
-  rows-end s f c e h = ap (strip_rows rows d s) (members-none f (let l = first-le (at f) 1024 in omega arith))
+  pub by-end : (s f : List ℕ) (c : ℕ) → c ≡ first (at f) 1024 → 1024 ≤ c → strip_by p s (members (at f) 0 1024) ≡ s
+  unfolding strip_by
+  by-end s f c e h = ap (strip_by p s) (members-none f (let l = first-le (at f) 1024 in omega arith))
 
-  -- where the rows have what is reached, it is the same as by walks
-  strip-same : (v : View) (s cs : List ℕ) → ((c : ℕ) → Memᴰ c cs → row rows c ≡ reached v c) → strip_rows rows d s cs ≡ strip v d s cs
-  unfolding strip_rows strip reach
-  strip-same v s [] f = refl
-  strip-same v s (c ∷ cs) f =
-      ap (λ (b : Bool). strip_rows rows d (cond b (remove s c) s) cs) (ap (λ (w : List ℕ). member w d) (f c (Memᴰ.head refl)))
-      ∙ strip-same v (cond (reach v c d) (remove s c) s) cs (λ e m. f e (Memᴰ.tail m))
+-- by a walk from each
+pub by-walks : (v : View) (d : ℕ) (s cs : List ℕ) → strip_by (λ c. reach v c d) s cs ≡ strip v d s cs
+unfolding strip_by strip
+by-walks v d s [] = refl
+by-walks v d s (c ∷ cs) = by-walks v d (cond (reach v c d) (remove s c) s) cs
+
+-- where the rows have what is reached, it is the same as by walks
+strip-same : (rows : List ℕ) (d : ℕ) (v : View) (s cs : List ℕ) → ((c : ℕ) → Memᴰ c cs → row rows c ≡ reached v c) → strip_rows rows d s cs ≡ strip v d s cs
+unfolding strip_by strip reach
+strip-same rows d v s [] f = refl
+strip-same rows d v s (c ∷ cs) f =
+    ap (λ (b : Bool). strip_rows rows d (cond b (remove s c) s) cs) (ap (λ (w : List ℕ). member w d) (f c (Memᴰ.head refl)))
+    ∙ strip-same rows d v (cond (reach v c d) (remove s c) s) cs (λ e m. f e (Memᴰ.tail m))
 
 -- ---- a turn of the loop
 

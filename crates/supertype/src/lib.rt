@@ -1,7 +1,7 @@
 // The least common supertype, from hierarchy.rs, over the class tables as `hierarchy` reads them.
 #![tactic(auto)]
 
-ghost use Rattle.std.specs.Prelude.{◌≡◌, true, cond, ℕ, ◌≤◌, ◌<◌, length};
+ghost use Rattle.std.specs.Prelude.{◌≡◌, true, Bool, cond, ℕ, ◌≤◌, ◌<◌, length};
 ghost use Rattle.sets.specs.Sets.{MembersBelow, at, member, members, remove, intersect};
 ghost use Rattle.view.specs.View.{reached, ancestors, supertype, number_of};
 ghost use Rattle.view.specs.Supertype.{Common};
@@ -11,7 +11,7 @@ ghost use Rattle.tables.specs.Table.{names_room, view_of};
 ghost use Rattle.ancestry.specs.Rows.{rows_room, row};
 ghost use Rattle.prepared.specs.Prepared.{Prepared};
 ghost use Rattle.supertype.specs.Sources.{Upward};
-ghost use Rattle.supertype.specs.Stripped.{strip_rows, Starts};
+ghost use Rattle.supertype.specs.Stripped.{strip_by, strip_rows, Starts};
 ghost use Rattle.supertype.specs.Near.{of_two, lone, FirstHit};
 
 use ancestry::{ROWS, fill, is_in, row_of, spread};
@@ -33,20 +33,28 @@ fn without_if(s: Set, taken: bool, c: u64) -> Set
     s
 }
 
-// Of s, the classes that do not reach d.
-fn not_reaching(pairs: &[u64], marks: &[u64], t: Tables, s: Set, d: u64) -> Set
-    requires { Prepared pairs.now marks.now t × (d < names_room) }
-    ensures { result.words ≡ strip (view_of pairs.now marks.now t) d s.words (members (at s.words) 0 1024) }
+// Of s, the classes for which the test is false.
+fn without_those<F: Fn(u64) -> bool>(s: Set, is_out: F) -> Set
+    requires { (c : ℕ) → c < 1024 → F.pre is_out c }
+    ensures { (p : ℕ → Bool) → ((c : ℕ) (b : Bool) → c < 1024 → F.post is_out c b → b ≡ p c) → result.words ≡ strip_by p s.words (members (at s.words) 0 1024) }
 {
     let mut kept = s;
     let mut left = s;
     let mut c = left.lowest();
     while c < 1024 {
-        kept = without_if(kept, reaches(pairs, marks, t, c, d), c);
+        kept = without_if(kept, is_out(c), c);
         left = left.without(c);
         c = left.lowest();
     }
     kept
+}
+
+// Of s, the classes that do not reach d.
+fn not_reaching(pairs: &[u64], marks: &[u64], t: Tables, s: Set, d: u64) -> Set
+    requires { Prepared pairs.now marks.now t × (d < names_room) }
+    ensures { result.words ≡ strip (view_of pairs.now marks.now t) d s.words (members (at s.words) 0 1024) }
+{
+    without_those(s, |c| reaches(pairs, marks, t, c, d))
 }
 
 // Of a set of classes, those with none strictly below, looked at from `start` on. What a class reaches is looked at no more: it is strictly
@@ -73,18 +81,11 @@ fn not_in_rows(rows: &[u64], s: Set, d: u64) -> Set
     requires { (length rows.now ≡ rows_room) × (d < names_room) }
     ensures { result.words ≡ strip_rows rows.now d s.words (members (at s.words) 0 1024) }
 {
-    let mut kept = s;
-    let mut left = s;
-    let mut c = left.lowest();
-    while c < 1024 {
-        kept = without_if(kept, is_in(rows, c, d), c);
-        left = left.without(c);
-        c = left.lowest();
-    }
-    kept
+    without_those(s, |c| is_in(rows, c, d))
 }
 
-// As `lowest_by_walks`, where the rows of the classes are at hand: what each reaches.
+// As `lowest_by_walks`, where the rows of the classes are at hand: what each reaches. (One loop that takes both as closures is no plainer:
+// that it ends, and leaves what it promises, rests on what each tells of the keys, which it would have to take for that alone.)
 fn lowest_by_rows(pairs: &[u64], marks: &[u64], t: Tables, all: Set, rows: &[u64]) -> Set
     requires { (t.names ≤ names_room) × (t.object < t.names) × (length all.words ≡ 16) × MembersBelow t.names all.words × (length rows.now ≡ rows_room) × ((c : ℕ) → member all.words c ≡ true → row rows.now c ≡ reached (view_of pairs.now marks.now t) c) }
     ensures { Lows (view_of pairs.now marks.now t) all.words result.words }
@@ -249,8 +250,7 @@ fn first_near(
     let mut seen_right = none.with(right);
     let mut front_left = seen_left;
     let mut front_right = seen_right;
-    let mut k: u64 = 0;
-    while k < t.names {
+    for _k in 0..t.names {
         let met = hits(seen_left, seen_right, s, both);
         if met.lowest() != 1024 {
             return met;
@@ -261,7 +261,6 @@ fn first_near(
         front_right = next_right.difference(seen_right);
         seen_left = next_left;
         seen_right = next_right;
-        k += 1;
     }
     hits(seen_left, seen_right, s, both)
 }

@@ -1,4 +1,4 @@
--- `walk_to` meets its contract: at each turn the walk stands at level k; the measure is the number of levels left.
+-- `walk_to` meets its contract: at each turn the walk stands at level k.
 use native.Mathlib.Omega.{arith}
 use mathlib.Core.Path.{sym, ◌∙◌}
 use Rattle.tables.specs.Table.{view_of}
@@ -34,4 +34,4 @@ pub returns : goal.returns
 returns c =
     let a = c.args in
     let l = c.loop-k in
-    walked-end (view_of a.pairs.now a.marks.now a.t) a.x a.y l.seen.words l.front.words l.k l.invariant (omega arith) c.has-last.result c.has-last.ensures
+    walked-end (view_of a.pairs.now a.marks.now a.t) a.x a.y l.seen.words l.front.words l.k l.invariant (omega arith) c.has-2.result c.has-2.ensures c.then_some.result c.then_some.ensures

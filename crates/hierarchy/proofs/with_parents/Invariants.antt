@@ -1,14 +1,11 @@
--- `with_parents` meets its contract: what is left to put in are the keys from i on.
+-- `with_parents` meets its contract: what is left to put in are the keys of the run from the index on.
 use mathlib.Core.Path.{◌≡◌}
-use Prim.Native.Nat.{◌-◌, ◌≤◌}
-use lib.ListN.{length, take, drop}
+use lib.ListN.{drop}
 use Rattle.view.specs.View.{insert_all}
 use Rattle.tables.specs.Table.{parents_in, own_run}
 use Rattle.hierarchy.proofs.with_parents.Given as goal
 
-abbrev pub invariant-loop-i : goal.invariant-loop-i
-invariant-loop-i l = (l.past ≡ length (take l.t.pairs l.pairs)) × (l.past ≤ length l.pairs)
-    × (insert_all l.initial.all.words (parents_in l.t.names (own_run l.c (drop l.initial.i (take l.t.pairs l.pairs)))) ≡ insert_all l.all.words (parents_in l.t.names (own_run l.c (drop l.i (take l.t.pairs l.pairs)))))
-
-abbrev pub decreases-loop-i : goal.decreases-loop-i
-decreases-loop-i l = l.past - l.i
+abbrev pub invariant-loop-key : goal.invariant-loop-key
+invariant-loop-key l =
+    insert_all l.initial.all.words (parents_in l.t.names (own_run l.c l.key-items))
+    ≡ insert_all l.all.words (parents_in l.t.names (own_run l.c (drop l.key-index l.key-items)))

@@ -6,6 +6,3 @@ use Rattle.joins.proofs.keep_members.Given as goal
 
 abbrev pub invariant-loop-i : goal.invariant-loop-i
 invariant-loop-i l = (l.i ≤ l.load / 2 ^ 44) × (l.found ≡ kept_from l.load l.set l.i)
-
-abbrev pub decreases-loop-i : goal.decreases-loop-i
-decreases-loop-i l = l.i

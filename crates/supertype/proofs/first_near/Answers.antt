@@ -15,7 +15,7 @@ returns-then-lowest-ne1024 c =
     let a = c.args in
     let l = c.loop-k in
     let h = c.hits-met in
-    meeting-hit a.both (view_of a.pairs.now a.marks.now a.t) a.left a.right a.s.words c.requires l.seen_left.words l.front_left.words l.seen_right.words l.front_right.words l.k l.invariant h.result.words h.ensures (λ e. c.if-lowest-ne1024.true (c.lowest.ensures ∙ e))
+    meeting-hit a.both (view_of a.pairs.now a.marks.now a.t) a.left a.right a.s.words c.requires l.seen_left.words l.front_left.words l.seen_right.words l.front_right.words l._k l.invariant h.result.words h.ensures (λ e. c.if-lowest-ne1024.true (c.lowest.ensures ∙ e))
 
 pub loop-k-preserved : goal.loop-k-preserved
 loop-k-preserved c =
@@ -24,11 +24,11 @@ loop-k-preserved c =
     let h = c.hits-met in
     let nl = c.expand-next_left in
     let nr = c.expand-next_right in
-    meeting-next a.both (view_of a.pairs.now a.marks.now a.t) a.left a.right a.s.words c.requires l.seen_left.words l.front_left.words l.seen_right.words l.front_right.words l.k l.invariant h.result.words h.ensures (sym c.lowest.ensures ∙ c.if-lowest-ne1024.false) c.loop-k-test.true nl.result.words nr.result.words c.difference-front_left.result.words c.difference-front_right.result.words nl.ensures nr.ensures c.difference-front_left.ensures c.difference-front_right.ensures
+    meeting-next a.both (view_of a.pairs.now a.marks.now a.t) a.left a.right a.s.words c.requires l.seen_left.words l.front_left.words l.seen_right.words l.front_right.words l._k l.invariant h.result.words h.ensures (sym c.lowest.ensures ∙ c.if-lowest-ne1024.false) c.loop-k-test.true nl.result.words nr.result.words c.difference-front_left.result.words c.difference-front_right.result.words nl.ensures nr.ensures c.difference-front_left.ensures c.difference-front_right.ensures
 
 pub returns : goal.returns
 returns c =
     let a = c.args in
     let l = c.loop-k in
     let h = c.hits in
-    meeting-end a.both (view_of a.pairs.now a.marks.now a.t) a.left a.right a.s.words c.requires l.seen_left.words l.front_left.words l.seen_right.words l.front_right.words l.k l.invariant h.result.words h.ensures (omega arith)
+    meeting-end a.both (view_of a.pairs.now a.marks.now a.t) a.left a.right a.s.words c.requires l.seen_left.words l.front_left.words l.seen_right.words l.front_right.words l._k l.invariant h.result.words h.ensures (omega arith)

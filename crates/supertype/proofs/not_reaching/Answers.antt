@@ -1,38 +1,14 @@
--- `not_reaching` meets its contract: what is left to look at are the members of `left`, and c is the least of them.
-use native.Mathlib.Omega.{arith}
-use mathlib.Core.Path.{refl, sym, ap, ap₂, ◌∙◌}
-use mathlib.Core.Bool.{Bool, cond}
-use mathlib.Core.List.{List}
-use Prim.Native.Nat.{ℕ}
-use Rattle.sets.specs.Sets.{at, remove, members}
+-- `not_reaching` meets its contract: the test is whether d is reached.
+use mathlib.Core.Path.{◌∙◌}
+use Rattle.std.proofs.Common.{rules}
+use Rattle.sets.specs.Sets.{at, members}
+use Rattle.view.specs.View.{reach}
 use Rattle.tables.specs.Table.{view_of}
-use Rattle.view.specs.Lows.{strip}
-use Rattle.supertype.proofs.Steps.{strip-step, strip-end}
-use Rattle.view.specs.Frontier.{left-less}
+use Rattle.supertype.specs.Stripped.{by-walks}
 use Rattle.supertype.proofs.not_reaching.Goals as goal
-
-pub loop-c-init : goal.loop-c-init
-loop-c-init c = (c.lowest-c.ensures, refl)
-
-pub loop-c-smaller : goal.loop-c-smaller
-loop-c-smaller c =
-    let l = c.loop-c in
-    left-less l.left.words l.c c.without-left.result.words l.invariant.0 (omega arith) c.without-left.ensures
-
-pub loop-c-preserved : goal.loop-c-preserved
-loop-c-preserved c =
-    let a = c.args in
-    let l = c.loop-c in
-    let v = view_of a.pairs.now a.marks.now a.t in (
-      c.lowest-c-in-loop-c.ensures,
-      l.invariant.1 ∙ strip-step v a.d l.kept.words l.left.words l.c l.invariant.0 (omega arith)
-          ∙ ap₂ (λ (s f : List ℕ). strip v a.d s (members (at f) 0 1024))
-          (ap (λ (b : Bool). cond b (remove l.kept.words l.c) l.kept.words) (sym c.reaches.ensures) ∙ sym c.without_if-kept.ensures)
-          (sym c.without-left.ensures),
-    )
 
 pub returns : goal.returns
 returns c =
     let a = c.args in
-    let l = c.loop-c in
-    sym (l.invariant.1 ∙ strip-end (view_of a.pairs.now a.marks.now a.t) a.d l.kept.words l.left.words l.c l.invariant.0 (omega arith))
+    let v = view_of a.pairs.now a.marks.now a.t in
+    c.without_those.ensures (λ x. reach v x a.d) (λ x b h q. search rules) ∙ by-walks v a.d a.s.words (members (at a.s.words) 0 1024)

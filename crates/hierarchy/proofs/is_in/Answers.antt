@@ -5,10 +5,10 @@ use Prim.Native.Nat.{ℕ}
 use lib.Dec.{eqb}
 use Rattle.sets.specs.Sets.{bit, member}
 use Rattle.tables.specs.Table.{mark-at}
-use Rattle.ancestry.proofs.is_in.Goals as goal
+use Rattle.hierarchy.proofs.is_in.Goals as goal
 
 pub returns : goal.returns
 unfolding member bit
 returns c =
     let a = c.args in
-    ap (λ (n : ℕ). eqb n 1) (sym (mark-at a.rows.now a.c a.d (omega arith)))
+    ap (λ (n : ℕ). eqb n 1) (sym (mark-at a.words.now a.k a.c (omega arith)))
