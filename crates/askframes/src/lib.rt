@@ -36,10 +36,7 @@ fn say(n: Numbers, said: Said) -> Framed
     ensures { result ≡ framed said (ask_numbers n) }
 {
     let m = n.asked();
-    Framed {
-        said: said,
-        numbers: m,
-    }
+    Framed { said, numbers: m }
 }
 
 fn relation_number(r: Relation) -> u64
@@ -50,15 +47,6 @@ fn relation_number(r: Relation) -> u64
         Relation::No => 1,
         Relation::Unknown => 2,
     }
-}
-
-fn flag(b: bool) -> u64
-    ensures { result ≡ cond b 1 0 }
-{
-    if b {
-        return 1;
-    }
-    0
 }
 
 // 0b: the relation of a value to what is expected.
@@ -108,6 +96,6 @@ pub fn cast_frame(body: &[u8], pairs: &[u64], marks: &[u64], n: Numbers) -> Fram
     if refusal != 0 {
         return refuse(n, refusal);
     }
-    let r = flag(hierarchy::cast(pairs, marks, t, a, b));
+    let r = u64::from(hierarchy::cast(pairs, marks, t, a, b));
     say(n, Said::Castable(r))
 }

@@ -64,24 +64,15 @@ impl Numbers {
     pub fn named(self, last: usize, tables: Tables) -> Numbers
         ensures { result ≡ name_numbers self last tables }
     {
-        let before = self.stack;
-        let layer = before.layer;
         let stack = StackTables {
-            tables: tables,
-            layer: layer,
-            under: before.under,
+            tables,
+            ..self.stack
         };
         Numbers {
-            stack: stack,
-            last: last,
-            components: self.components,
-            variables: self.variables,
-            bounds: self.bounds,
-            flows: self.flows,
-            uppers: self.uppers,
-            reads: self.reads,
-            writes: self.writes,
+            stack,
+            last,
             rank: 1,
+            ..self
         }
     }
 
@@ -89,160 +80,85 @@ impl Numbers {
         ensures { result ≡ record_numbers self stack }
     {
         Numbers {
-            stack: stack,
-            last: self.last,
-            components: self.components,
-            variables: self.variables,
-            bounds: self.bounds,
-            flows: self.flows,
-            uppers: self.uppers,
-            reads: self.reads,
-            writes: self.writes,
+            stack,
             rank: 2,
+            ..self
         }
     }
 
     pub fn counted(self, components: u64) -> Numbers
         ensures { result ≡ count_numbers self components }
     {
-        let stack = self.stack;
         Numbers {
-            stack: stack,
-            last: self.last,
-            components: components,
-            variables: self.variables,
-            bounds: self.bounds,
-            flows: self.flows,
-            uppers: self.uppers,
-            reads: self.reads,
-            writes: self.writes,
+            components,
             rank: 3,
+            ..self
         }
     }
 
     pub fn with_variables(self, count: usize) -> Numbers
         ensures { result ≡ variable_numbers self count }
     {
-        let stack = self.stack;
         Numbers {
-            stack: stack,
-            last: self.last,
-            components: self.components,
             variables: count,
-            bounds: self.bounds,
-            flows: self.flows,
-            uppers: self.uppers,
-            reads: self.reads,
-            writes: self.writes,
             rank: 4,
+            ..self
         }
     }
 
     pub fn with_bounds(self, count: usize) -> Numbers
         ensures { result ≡ bound_numbers self count }
     {
-        let stack = self.stack;
         Numbers {
-            stack: stack,
-            last: self.last,
-            components: self.components,
-            variables: self.variables,
             bounds: count,
-            flows: self.flows,
-            uppers: self.uppers,
-            reads: self.reads,
-            writes: self.writes,
             rank: 5,
+            ..self
         }
     }
 
     pub fn with_flows(self, count: usize) -> Numbers
         ensures { result ≡ flow_numbers self count }
     {
-        let stack = self.stack;
         Numbers {
-            stack: stack,
-            last: self.last,
-            components: self.components,
-            variables: self.variables,
-            bounds: self.bounds,
             flows: count,
-            uppers: self.uppers,
-            reads: self.reads,
-            writes: self.writes,
             rank: 6,
+            ..self
         }
     }
 
     pub fn with_uppers(self, count: usize) -> Numbers
         ensures { result ≡ upper_numbers self count }
     {
-        let stack = self.stack;
         Numbers {
-            stack: stack,
-            last: self.last,
-            components: self.components,
-            variables: self.variables,
-            bounds: self.bounds,
-            flows: self.flows,
             uppers: count,
-            reads: self.reads,
-            writes: self.writes,
             rank: 7,
+            ..self
         }
     }
 
     pub fn with_reads(self, count: usize) -> Numbers
         ensures { result ≡ read_numbers self count }
     {
-        let stack = self.stack;
         Numbers {
-            stack: stack,
-            last: self.last,
-            components: self.components,
-            variables: self.variables,
-            bounds: self.bounds,
-            flows: self.flows,
-            uppers: self.uppers,
             reads: count,
-            writes: self.writes,
             rank: 8,
+            ..self
         }
     }
 
     pub fn with_writes(self, count: usize) -> Numbers
         ensures { result ≡ write_numbers self count }
     {
-        let stack = self.stack;
         Numbers {
-            stack: stack,
-            last: self.last,
-            components: self.components,
-            variables: self.variables,
-            bounds: self.bounds,
-            flows: self.flows,
-            uppers: self.uppers,
-            reads: self.reads,
             writes: count,
             rank: 9,
+            ..self
         }
     }
 
     pub fn asked(self) -> Numbers
         ensures { result ≡ ask_numbers self }
     {
-        let stack = self.stack;
-        Numbers {
-            stack: stack,
-            last: self.last,
-            components: self.components,
-            variables: self.variables,
-            bounds: self.bounds,
-            flows: self.flows,
-            uppers: self.uppers,
-            reads: self.reads,
-            writes: self.writes,
-            rank: 10,
-        }
+        Numbers { rank: 10, ..self }
     }
 }

@@ -1,6 +1,8 @@
 -- Laws of hex lines, as the code meets them: digits, a pair of digits at a time, a slice filled from the front.
 use Rattle.std.specs.Prelude.{◌≡◌, refl, Bool, ◌&&◌, List, [], ◌∷◌, ◌++◌, ℕ, suc, ◌+◌, ◌-◌, ◌*◌, ◌%◌, ◌≤◌, ◌<◌, take, drop, get_or, set}
 use Rattle.std.proofs.Math.Path.{sym, ap, ap₂}
+use Rattle.std.specs.List.{list_all}
+use Rattle.std.specs.Int.{from_be_bytes, w64}
 use Rattle.std.proofs.Common.{◌∙◌, true≢false, append_assoc, append-nil, add-one, length-set, take-append-drop, drop_of_length-le, drop-cons, drop-drop, take-suc-set, drop-set-lt, length-take-le}
 use Rattle.std.proofs.Math.Bool.{true, false, cond}
 use Rattle.std.proofs.Math.Option.{Option, some, none}
@@ -100,6 +102,19 @@ then-bytes none y r h = absurd (true≢false (sym h))
 then-bytes (some d) none r h = absurd (true≢false (sym h))
 then-bytes (some d) (some e) none h = absurd (true≢false (sym h))
 then-bytes (some d) (some e) (some bs) h = (refl, refl)
+
+-- each byte of whole pairs is a digit
+pub all-hex : (line : List ℕ) → length line % 2 ≡ 0 → list_all (λ b. is_digit (digit b)) line ≡ is_hex (hex_bytes line)
+unfolding hex_bytes
+all-hex [] h = refl
+all-hex (x ∷ []) h = absurd (omega arith)
+all-hex (x ∷ y ∷ rest) h = go (digit x) (digit y) (hex_bytes rest) (list_all (λ b. is_digit (digit b)) rest) (all-hex rest (omega arith))
+  where
+    go : (d e : Option ℕ) (r : Option (List ℕ)) (b : Bool) → b ≡ is_hex r → (is_digit d && (is_digit e && b)) ≡ is_hex (byte_then d e r)
+    go none e r b p = refl
+    go (some d) none r b p = refl
+    go (some d) (some e) none b p = p
+    go (some d) (some e) (some bs) b p = p
 
 -- ---- the same at place 2 * k of a line
 
@@ -235,3 +250,9 @@ word-is (a ∷ b ∷ c ∷ d ∷ e ∷ f ∷ g ∷ []) l = absurd (omega arith)
 word-is (a ∷ b ∷ c ∷ d ∷ e ∷ f ∷ g ∷ h ∷ []) l = absurd (omega arith)
 word-is (a ∷ b ∷ c ∷ d ∷ e ∷ f ∷ g ∷ h ∷ i ∷ []) l = absurd (omega arith)
 word-is (a ∷ b ∷ c ∷ d ∷ e ∷ f ∷ g ∷ h ∷ i ∷ j ∷ []) l = absurd (omega arith)
+
+-- the same of the eight bytes
+pub word-of-bytes : (body : List ℕ) → length body ≡ 11
+    → from_be_bytes w64 (get_or body 3 0 ∷ get_or body 4 0 ∷ get_or body 5 0 ∷ get_or body 6 0 ∷ get_or body 7 0 ∷ get_or body 8 0 ∷ get_or body 9 0 ∷ get_or body 10 0 ∷ []) ≡ bytes_number 0 (drop 3 body)
+unfolding number_at
+word-of-bytes body l = let e = word-is body l in omega arith

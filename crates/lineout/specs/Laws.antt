@@ -207,6 +207,26 @@ module _ (letter : ℕ) (a b : List ℕ) (f m₁ m₂ m₃ m₄ r : ℕ) (o o₁
       (puts-then (letter ∷ 32 ∷ a) (32 ∷ []) f m₂ m₃ o o₂ o₃ (omega arith)
       (puts-then (letter ∷ 32 ∷ []) a f m₁ m₂ o o₁ o₂ (omega arith) p q) s) t) u)
 
+-- a letter and a number, a space behind each: the first part of a line of two parts
+abbrev pub heading : ℕ → ℕ → List ℕ
+heading letter n = letter ∷ 32 ∷ (decimal n ++ (32 ∷ []))
+
+pub heading-short : (letter n : ℕ) → n < 2 ^ 64 → length (heading letter n) ≤ 23
+heading-short letter n h = let d = decimal-short n h in let e = length-append (decimal n) (32 ∷ []) in omega arith
+
+module _ (letter n f m₁ m₂ r : ℕ) (o o₁ o₂ o₃ : List ℕ) where
+  pub heading-put : f + (3 + length (decimal n)) ≤ length o → Puts (letter ∷ 32 ∷ []) f o o₁ m₁ → Puts (decimal n) m₁ o₁ o₂ m₂ → Puts (32 ∷ []) m₂ o₂ o₃ r → Puts (heading letter n) f o o₃ r
+  heading-put h p q s = puts-then (letter ∷ 32 ∷ decimal n) (32 ∷ []) f m₂ r o o₂ o₃ (omega arith) (puts-then (letter ∷ 32 ∷ []) (decimal n) f m₁ m₂ o o₁ o₂ (omega arith) p q) s
+
+module _ (letter n : ℕ) (b : List ℕ) (f m₁ m₂ r : ℕ) (o o₁ o₂ o₃ : List ℕ) where
+  pub line-headed : n < 2 ^ 64 → f + (24 + length b) ≤ length o → Puts (heading letter n) f o o₁ m₁ → Puts b m₁ o₁ o₂ m₂ → Puts (10 ∷ []) m₂ o₂ o₃ r → Puts (printed letter (decimal n ++ (32 ∷ b))) f o o₃ r
+  line-headed l h p q t =
+      let x = heading-short letter n l in
+      let y = length-append (heading letter n) b in
+      puts-as (letter ∷ 32 ∷ (((decimal n ++ (32 ∷ [])) ++ b) ++ (10 ∷ []))) (printed letter (decimal n ++ (32 ∷ b))) f r o o₃
+      (ap (λ (m : List ℕ). letter ∷ 32 ∷ (m ++ (10 ∷ []))) (append_assoc (decimal n) (32 ∷ []) b))
+      (puts-then (heading letter n ++ b) (10 ∷ []) f m₂ r o o₂ o₃ (omega arith) (puts-then (heading letter n) b f m₁ m₂ o o₁ o₂ (omega arith) p q) t)
+
 -- the lines of what is left, where variable i is the next
 pub lines-step : (i : ℕ) (ws : List ℕ) → i < length ws → variable_lines i (drop i ws) ≡ variable_line i (get_or ws i 0) ++ variable_lines (i + 1) (drop (i + 1) ws)
 unfolding variable_lines

@@ -3,6 +3,7 @@
 #![tactic(auto)]
 
 ghost use Rattle.std.specs.Prelude.{◌≡◌, [], ◌∷◌, ◌+◌, ◌*◌, ◌≤◌, ◌<◌, length};
+ghost use Rattle.lineout.specs.Laws.{heading};
 ghost use Rattle.lineout.specs.Printed.{decimal, hex_digit, hex_digits, word_text, number_text, printed, variable_line, variable_lines, refusal_line, Puts};
 
 // One byte.
@@ -50,11 +51,9 @@ fn put_word(out: &mut [u8], filled: usize, w: u64) -> usize
     requires { filled + 16 ≤ length out.old }
     ensures { Puts (hex_digits 16 w) filled out.old out.new result }
 {
-    let mut k: u64 = 0;
     let mut at = filled;
-    while k < 16 {
+    for k in 0..16u64 {
         at = put_byte(out, at, hex_digit((w >> (4 * (15 - k))) % 16));
-        k += 1;
     }
     at
 }
@@ -70,7 +69,7 @@ fn put_word_or_dash(out: &mut [u8], filled: usize, w: u64) -> usize
     put_word(out, filled, w)
 }
 
-// A number, or a dash for all ones.
+// A number, or a dash for all ones. One function for both, that takes what else to put, would need a longer contract than these two.
 fn put_number_or_dash(out: &mut [u8], filled: usize, n: u64) -> usize
     requires { filled + 20 ≤ length out.old }
     ensures { Puts (number_text n) filled out.old out.new result }
@@ -100,16 +99,24 @@ pub fn put_number(out: &mut [u8], filled: usize, letter: u8, n: u64) -> usize
     put_byte(out, b, b'\n')
 }
 
+// A letter and a number, a space behind each.
+fn put_heading(out: &mut [u8], filled: usize, letter: u8, n: u64) -> usize
+    requires { filled + 23 ≤ length out.old }
+    ensures { Puts (heading letter n) filled out.old out.new result }
+{
+    let a = put_letter(out, filled, letter);
+    let b = put_decimal(out, a, n);
+    put_byte(out, b, b' ')
+}
+
 // `E`, the number of a line and its refusal.
 pub fn put_refusal(out: &mut [u8], filled: usize, line: u64, refusal: u64) -> usize
     requires { filled + 44 ≤ length out.old }
     ensures { Puts (refusal_line line refusal) filled out.old out.new result }
 {
-    let a = put_letter(out, filled, b'E');
-    let b = put_decimal(out, a, line);
-    let c = put_byte(out, b, b' ');
-    let d = put_decimal(out, c, refusal);
-    put_byte(out, d, b'\n')
+    let a = put_heading(out, filled, b'E', line);
+    let b = put_decimal(out, a, refusal);
+    put_byte(out, b, b'\n')
 }
 
 // `V`, the number of a variable and its word, or a dash for all ones.
@@ -117,11 +124,9 @@ fn put_variable(out: &mut [u8], filled: usize, i: u64, w: u64) -> usize
     requires { filled + 40 ≤ length out.old }
     ensures { Puts (variable_line i w) filled out.old out.new result }
 {
-    let a = put_letter(out, filled, b'V');
-    let b = put_decimal(out, a, i);
-    let c = put_byte(out, b, b' ');
-    let d = put_word_or_dash(out, c, w);
-    put_byte(out, d, b'\n')
+    let a = put_heading(out, filled, b'V', i);
+    let b = put_word_or_dash(out, a, w);
+    put_byte(out, b, b'\n')
 }
 
 // A line for each variable.
@@ -129,11 +134,9 @@ pub fn put_variables(out: &mut [u8], filled: usize, answers: &[u64]) -> usize
     requires { filled + 40 * length answers.now ≤ length out.old }
     ensures { Puts (variable_lines 0 answers.now) filled out.old out.new result }
 {
-    let mut i: usize = 0;
     let mut at = filled;
-    while i < answers.len() {
-        at = put_variable(out, at, i as u64, answers[i]);
-        i += 1;
+    for (i, w) in answers.iter().enumerate() {
+        at = put_variable(out, at, i as u64, *w);
     }
     at
 }

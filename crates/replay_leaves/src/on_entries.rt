@@ -8,14 +8,6 @@ use sorted::Put;
 // The most entries that a case may have room for.
 const ROOM: usize = 64;
 
-fn copy(entries: &[u64], to: &mut [u64]) {
-    let mut i: usize = 0;
-    while i < entries.len() && i < to.len() {
-        to[i] = entries[i];
-        i += 1;
-    }
-}
-
 // What `find` says: whether x is there, and its position.
 fn is_found(entries: &[u64], x: u64, r: &[u64]) -> bool {
     let f = sorted::find(entries, entries.len(), x);
@@ -52,7 +44,7 @@ fn insert_in(entries: &[u64], room: usize, x: u64, table: &mut [u64], r: &[u64])
     if table.len() < room || room < n {
         return Verdict::Unread;
     }
-    copy(entries, table);
+    table[..n].copy_from_slice(entries);
     let p = sorted::insert(&mut table[0..room], n, x);
     is_put(p, n, table, r)
 }

@@ -5,10 +5,8 @@ use sets::Set;
 
 fn set_of(list: &[u64]) -> Set {
     let mut s = Set::empty();
-    let mut i: usize = 0;
-    while i < list.len() {
-        s = s.with(list[i]);
-        i += 1;
+    for x in list {
+        s = s.with(*x);
     }
     s
 }
@@ -16,14 +14,12 @@ fn set_of(list: &[u64]) -> Set {
 // Whether a list has exactly the members of a set, ascending.
 fn is_list_of(s: Set, list: &[u64]) -> bool {
     let mut rest = s;
-    let mut i: usize = 0;
-    while i < list.len() {
+    for x in list {
         let low = rest.lowest();
-        if low != list[i] {
+        if low != *x {
             return false;
         }
         rest = rest.without(low);
-        i += 1;
     }
     1024 <= rest.lowest()
 }

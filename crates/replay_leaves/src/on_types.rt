@@ -67,11 +67,9 @@ fn order_of_places(i: usize, j: usize) -> u64 {
 // How many members have the order to x that their places have to place i.
 fn as_placed(list: &[u64], i: usize, x: u64) -> u64 {
     let mut n: u64 = 0;
-    let mut j: usize = 0;
-    while j < list.len() {
-        let is_so = order_of_words(x, list[j]) == order_of_places(i, j);
+    for (j, y) in list.iter().enumerate() {
+        let is_so = order_of_words(x, *y) == order_of_places(i, j);
         n = std::num::wrapping_add_u64(n, answers::flag(is_so));
-        j += 1;
     }
     n
 }
@@ -79,10 +77,8 @@ fn as_placed(list: &[u64], i: usize, x: u64) -> u64 {
 // How many pairs of members have the order that their places have.
 fn all_as_placed(list: &[u64]) -> u64 {
     let mut n: u64 = 0;
-    let mut i: usize = 0;
-    while i < list.len() {
-        n = std::num::wrapping_add_u64(n, as_placed(list, i, list[i]));
-        i += 1;
+    for (i, x) in list.iter().enumerate() {
+        n = std::num::wrapping_add_u64(n, as_placed(list, i, *x));
     }
     n
 }
@@ -114,11 +110,9 @@ pub(crate) fn legal(a: &[u64], r: &[u64]) -> Verdict {
 // exclusive or with d; p is below 4.
 fn edits_from(names: u64, w: u64, from: u64) -> u64 {
     let mut bits: u64 = 0;
-    let mut i: u64 = 0;
-    while i < 64 {
+    for i in 0..64u64 {
         let at = 4 * (from % 13 + i / 16);
         bits = bits | (is_legal(names, w ^ ((i % 16) << at)) << i);
-        i += 1;
     }
     bits
 }

@@ -3,7 +3,7 @@ use Rattle.std.proofs.Common.{◌≡◌, ℕ, ◌+◌, ◌-◌, ◌*◌, ◌%◌
 use native.Mathlib.Decide.{ℕ_discrete}
 use borrow.Author.Tests.{lt-leb}
 use lib.Seq.{set_out}
-use Rattle.replaying.specs.Replaying.{end_of, last_end, span, after_of, clipped, part_of, place_of, list_of, is_last, verdict, Judges, more, tallied, counted, Entered}
+use Rattle.replaying.specs.Replaying.{end_of, last_end, span, after_of, clipped, part_of, place_of, list_of, is_last, verdict, Judges, more, tallied, counted}
 use Rattle.replaying.specs.declared.lists.Span.{Span}
 use Rattle.replaying.specs.declared.answers.Verdict.{Verdict}
 use Rattle.replaying.specs.declared.answers.Verdict.TheVariants.{Agrees, Differs, Unread}
@@ -118,35 +118,9 @@ pub counted-in : (place : ℕ) (v : Verdict) (counts : List ℕ) → (place ≡ 
 unfolding counted
 counted-in place v counts n l = sym (simp (ne_eqb _ _ n, lt-leb _ _ l))
 
--- past any end
-abbrev none : ℕ
-none = 18446744073709551615
-
-more-none : (all : ℕ) (counts : List ℕ) → length counts < 2 ^ 64 → more all (more none counts) ≡ more all counts
-more-none all counts l = ap (more all) (sym (more-out none counts (omega arith)))
-
-module _ (place : ℕ) (v : Verdict) where
-  pub entered-comment : place ≡ 64 → Entered place v none none
-  entered-comment e counts l = more-none none counts l ∙ sym (more-out none counts (omega arith)) ∙ counted-comment place v counts e
-
-  pub entered-past : (place ≡ 64 → ⊥) → 63 ≤ place → Entered place v none 127
-  entered-past n h counts l = more-none 127 counts l ∙ counted-past place v counts n h
-
-  module _ (n : place ≡ 64 → ⊥) (h : place < 63) where
-    to-counted : (w : Verdict) (counts : List ℕ) → v ≡ w → tallied place w counts ≡ counted place v counts
-    to-counted w counts e = ap (λ (u : Verdict). tallied place u counts) (sym e) ∙ counted-in place v counts n h
-
-    pub entered-agrees : v ≡ Agrees → Entered place v (2 * place) (2 * place + 1)
-    unfolding tallied
-    entered-agrees e counts l = to-counted Agrees counts e
-
-    pub entered-differs : v ≡ Differs → Entered place v none (2 * place + 1)
-    unfolding tallied
-    entered-differs e counts l = more-none (2 * place + 1) counts l ∙ to-counted Differs counts e
-
-    pub entered-unread : v ≡ Unread → Entered place v none 127
-    unfolding tallied
-    entered-unread e counts l = more-none 127 counts l ∙ to-counted Unread counts e
+-- on a function by its number, after each verdict
+pub counted-as : (place : ℕ) (v w : Verdict) (counts : List ℕ) → (place ≡ 64 → ⊥) → place < 63 → v ≡ w → tallied place w counts ≡ counted place v counts
+counted-as place v w counts n h e = ap (λ (u : Verdict). tallied place u counts) (sym e) ∙ counted-in place v counts n h
 
 -- ---- parts that are handed out
 

@@ -91,7 +91,3 @@ tallied place Unread counts = more 127 counts
 -- and on a line: 64 stands for one that is to be no case, 63 and what else passes the functions for one that is none
 unfoldable pub counted : ℕ → Verdict → List ℕ → List ℕ
 counted place v counts = cond (place == 64) counts (cond (nat_le 63 place) (more 127 counts) (tallied place v counts))
-
--- the same as one more at two places, of which one past any end counts nothing
-abbrev pub Entered : ℕ → Verdict → ℕ → ℕ → Type 0
-Entered place v agree all = (counts : List ℕ) → length counts < 2 ^ 64 → more all (more agree counts) ≡ counted place v counts

@@ -1,5 +1,7 @@
 -- Laws of the report, as the code meets them.
-use Rattle.std.specs.Prelude.{◌≡◌, ℕ, suc, ◌+◌, ◌*◌, ◌%◌, ◌^◌, ◌<◌, ◌≤◌, Bool, true, false, cond, ◌&&◌, List, [], ◌∷◌, ◌++◌, length, drop, ◌==◌, ◌≢◌, nat_le, slice_index, refl}
+use Rattle.std.specs.Prelude.{◌≡◌, ℕ, suc, ◌+◌, ◌-◌, ◌*◌, ◌%◌, ◌^◌, ◌<◌, ◌≤◌, Bool, true, false, cond, ◌&&◌, List, [], ◌∷◌, ◌++◌, length, drop, ◌==◌, ◌≢◌, nat_le, slice_index, refl}
+use Rattle.std.specs.List.{count_by}
+use Rattle.std.proofs.lemmas.List.Recursion.{is_count_by}
 use Rattle.std.proofs.Common.{sym, ap, ap₂, ◌∙◌, append_assoc, add-one, arith, length-append, drop_of_length-le, drop-cons, eq-eqb, ne_eqb, le-leb}
 use Rattle.std.proofs.lemmas.Bool.{lt-leb}
 use Rattle.lineout.specs.Printed.{decimal, Puts}
@@ -117,3 +119,24 @@ report-put names counts m n r o o₁ o₂ h k l e p q =
     puts-as (names_text counts 0 names ++ names_text (sums_of counts n) 0 unread_all) (report_in names counts (length o)) 0 r o o₂
     (ap (λ (j : ℕ). names_text counts 0 names ++ names_text (sums_of counts j) 0 unread_all) e ∙ report-in names counts (length o) h k)
     (puts-then (names_text counts 0 names) (names_text (sums_of counts n) 0 unread_all) 0 m r o o₁ o₂ (omega arith) p q)
+
+some-names : (names : List ℕ) → 1 ≤ names_in names
+unfolding names_in
+some-names [] = omega arith
+some-names (b ∷ names) = go (b == 32) (some-names names)
+  where
+    go : (t : Bool) → 1 ≤ names_in names → 1 ≤ cond t (suc (names_in names)) (names_in names)
+    go true h = omega arith
+    go false h = h
+
+-- the names are one more than the blanks
+pub names-counted : (names : List ℕ) → 1 + count_by (λ (b : ℕ). b == 32) names ≡ names_in names
+unfolding names_in
+names-counted names = let e = is_count_by (λ (l : List ℕ). names_in l - 1) (λ (b : ℕ). b == 32) refl step names in let s = some-names names in omega arith
+  where
+    step : (b : ℕ) (l : List ℕ) → names_in (b ∷ l) - 1 ≡ cond (b == 32) (1 + (names_in l - 1)) (names_in l - 1)
+    step b l = go (b == 32) (some-names l)
+      where
+        go : (t : Bool) → 1 ≤ names_in l → cond t (suc (names_in l)) (names_in l) - 1 ≡ cond t (1 + (names_in l - 1)) (names_in l - 1)
+        go true h = omega arith
+        go false h = refl

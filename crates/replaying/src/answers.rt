@@ -16,10 +16,7 @@ pub const MISSING: u64 = 0xffffffffffffffff;
 pub fn flag(is_so: bool) -> u64
     ensures { result ≡ cond is_so 1 0 }
 {
-    if is_so {
-        return 1;
-    }
-    0
+    u64::from(is_so)
 }
 
 pub fn judged(agrees: bool) -> Verdict
@@ -31,20 +28,11 @@ pub fn judged(agrees: bool) -> Verdict
     Verdict::Differs
 }
 
+// Not one function with `text::is_same`: of any type, `==` says less than that the lists are equal.
 pub fn is_same(said: &[u64], recorded: &[u64]) -> bool
     ensures { (result ≡ true) ↔ (said.now ≡ recorded.now) }
 {
-    if said.len() != recorded.len() {
-        return false;
-    }
-    let mut i: usize = 0;
-    while i < said.len() {
-        if said[i] != recorded[i] {
-            return false;
-        }
-        i += 1;
-    }
-    true
+    said == recorded
 }
 
 pub fn all(said: &[u64], recorded: &[u64]) -> Verdict

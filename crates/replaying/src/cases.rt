@@ -13,35 +13,47 @@ pub struct Case {
     pub split: usize,
 }
 
-// What is being read: nothing between two words, a number with as many digits as the state says, a word that stands for no
-// number (the name, or what starts with an equals sign), and bytes, before the first and before the second digit of one. What is
-// bad stays so.
-const BETWEEN: usize = 0;
+// What is being read: nothing between two words, a number of so many digits so far, a word that stands for no number (the name,
+// or what starts with an equals sign), and bytes, before the first and before the second digit of one. What is bad stays so.
+#[derive(Clone, Copy)]
+enum State {
+    Between,
+    Number(usize),
+    Silent,
+    Bytes,
+    Half,
+    Bad,
+}
 
+// The most digits of a number.
 const LONGEST: usize = 16;
 
-const SILENT: usize = 17;
+// What a byte means: a digit by what it counts.
+#[derive(Clone, Copy)]
+enum Meaning {
+    Digit(u8),
+    Blank,
+    Sign,
+    X,
+    Other,
+}
 
-const BAD: usize = 18;
-
-const BYTES: usize = 19;
-
-const HALF: usize = 20;
-
-// What a byte means is its place here, which for a digit is what it counts.
-const MEANINGS: [u8; 19] = *b"0123456789abcdef =x";
-
-const BLANK: usize = 16;
-
-const SIGN: usize = 17;
-
-const X: usize = 18;
+fn meaning_of(b: u8) -> Meaning {
+    match b {
+        b'0'..=b'9' => Meaning::Digit(b - b'0'),
+        b'a'..=b'f' => Meaning::Digit(b - 87),
+        b' ' => Meaning::Blank,
+        b'=' => Meaning::Sign,
+        b'x' => Meaning::X,
+        _ => Meaning::Other,
+    }
+}
 
 // A line as far as it is read: the numbers that are whole, how many bytes are in the store, how many numbers stood before the
 // equals sign (0 before it is read: every function has an argument), and what the next number is so far.
 #[derive(Clone, Copy)]
 struct Reading {
-    state: usize,
+    state: State,
     count: usize,
     used: usize,
     split: usize,
@@ -49,124 +61,103 @@ struct Reading {
 }
 
 impl Reading {
-    // One number more is whole. The next is where the bytes so far end, until a digit of a number comes.
-    fn counted(mut self, state: usize) -> Reading {
-        self.state = state;
-        self.count = std::num::wrapping_add_usize(self.count, 1);
-        self.value = self.used as u64;
-        self
+    fn to(self, state: State) -> Reading {
+        Reading { state, ..self }
     }
 
-    fn equals(mut self) -> Reading {
-        if self.split != 0 {
-            self.state = BAD;
-            return self;
+    // One number more is whole. The next is where the bytes so far end, until a digit of a number comes.
+    fn counted(self, state: State) -> Reading {
+        Reading {
+            state,
+            count: std::num::wrapping_add_usize(self.count, 1),
+            value: self.used as u64,
+            ..self
         }
-        self.split = self.count;
-        self.state = SILENT;
-        self
+    }
+
+    fn equals(self) -> Reading {
+        if self.split != 0 {
+            return self.to(State::Bad);
+        }
+        Reading {
+            split: self.count,
+            state: State::Silent,
+            ..self
+        }
     }
 
     // The first byte of a word, which is not empty.
-    fn begun(mut self, m: usize) -> Reading {
-        if m < BLANK {
-            self.value = m as u64;
-            self.state = 1;
-            return self;
+    fn begun(self, m: Meaning) -> Reading {
+        match m {
+            Meaning::Digit(d) => Reading {
+                value: u64::from(d),
+                state: State::Number(1),
+                ..self
+            },
+            Meaning::Sign => self.equals(),
+            Meaning::X => self.counted(State::Bytes),
+            Meaning::Blank | Meaning::Other => self.to(State::Bad),
         }
-        if m == SIGN {
-            return self.equals();
-        }
-        if m == X {
-            return self.counted(BYTES);
-        }
-        self.state = BAD;
-        self
     }
 
     // The end of a word, if one has begun.
-    fn ended(mut self) -> Reading {
-        if self.state == BETWEEN {
-            return self;
+    fn ended(self) -> Reading {
+        match self.state {
+            State::Between | State::Bad => self,
+            State::Silent => self.to(State::Between),
+            State::Half => self.to(State::Bad),
+            State::Number(_) | State::Bytes => self.counted(State::Between),
         }
-        if self.state == SILENT {
-            self.state = BETWEEN;
-            return self;
-        }
-        if self.state == BAD {
-            return self;
-        }
-        if self.state == HALF {
-            self.state = BAD;
-            return self;
-        }
-        self.counted(BETWEEN)
     }
 
     // A digit after the first byte of a word.
-    fn digit(mut self, d: usize) -> Reading {
-        if self.state < LONGEST {
-            self.value = (self.value << 4) | (d as u64);
-            self.state = self.state + 1;
-            return self;
+    fn digit(self, d: u8) -> Reading {
+        match self.state {
+            State::Number(digits) if digits < LONGEST => Reading {
+                value: (self.value << 4) | u64::from(d),
+                state: State::Number(digits + 1),
+                ..self
+            },
+            State::Bytes => self.to(State::Half),
+            State::Half => {
+                let used = std::num::wrapping_add_usize(self.used, 1);
+                Reading {
+                    used,
+                    value: used as u64,
+                    state: State::Bytes,
+                    ..self
+                }
+            }
+            _ => self.to(State::Bad),
         }
-        if self.state == BYTES {
-            self.state = HALF;
-            return self;
-        }
-        if self.state == HALF {
-            self.used = std::num::wrapping_add_usize(self.used, 1);
-            self.value = self.used as u64;
-            self.state = BYTES;
-            return self;
-        }
-        self.state = BAD;
-        self
     }
 
     // The next byte by what it means.
-    fn next(mut self, m: usize) -> Reading {
-        if self.state == BETWEEN {
-            return self.begun(m);
+    fn next(self, m: Meaning) -> Reading {
+        match (self.state, m) {
+            (State::Between, _) => self.begun(m),
+            (_, Meaning::Blank) => self.ended(),
+            (State::Silent, _) => self,
+            (_, Meaning::Digit(d)) => self.digit(d),
+            _ => self.to(State::Bad),
         }
-        if m == BLANK {
-            return self.ended();
-        }
-        if self.state == SILENT {
-            return self;
-        }
-        if m < BLANK {
-            return self.digit(m);
-        }
-        self.state = BAD;
-        self
     }
 
-    // Where a digit of bytes goes; nowhere for what is none.
-    fn byte_at(self, m: usize) -> usize {
-        if self.state < BYTES {
-            return usize::MAX;
+    // Where a digit goes, if it is one of bytes.
+    fn byte_at(self) -> Option<usize> {
+        match self.state {
+            State::Bytes | State::Half => Some(self.used),
+            _ => None,
         }
-        if m < BLANK {
-            return self.used;
-        }
-        usize::MAX
     }
 
     // The numbers before the equals sign, 0 where what was read is no case or had no room among so many bytes.
     fn arguments(self, room: usize) -> usize {
-        if room < self.used {
-            return 0;
+        match self.state {
+            State::Between if self.used <= room => self.split,
+            _ => 0,
         }
-        if self.state == BETWEEN {
-            return self.split;
-        }
-        0
     }
-}
-
-fn meaning(b: u8) -> usize {
-    text::part_end(&MEANINGS, 0, b)
 }
 
 // What has no room is left out: it is counted all the same, and then there is no case.
@@ -177,15 +168,17 @@ fn put_number(numbers: &mut [u64], at: usize, n: u64) {
 }
 
 // A digit into the byte at a place: two of them are all of it.
-fn put_digit(store: &mut [u8], at: usize, d: usize) {
+fn put_digit(store: &mut [u8], at: usize, d: u8) {
     if at < store.len() {
-        store[at] = (store[at] << 4) | ((d % 16) as u8);
+        store[at] = (store[at] << 4) | d;
     }
 }
 
 // One byte of the words. What a word stands for so far is among the numbers before it is counted.
-fn step(r: Reading, m: usize, numbers: &mut [u64], store: &mut [u8]) -> Reading {
-    put_digit(store, r.byte_at(m), m);
+fn step(r: Reading, m: Meaning, numbers: &mut [u64], store: &mut [u8]) -> Reading {
+    if let (Some(at), Meaning::Digit(d)) = (r.byte_at(), m) {
+        put_digit(store, at, d);
+    }
     let s = r.next(m);
     put_number(numbers, s.count, s.value);
     s
@@ -194,33 +187,24 @@ fn step(r: Reading, m: usize, numbers: &mut [u64], store: &mut [u8]) -> Reading 
 // All words of a line, of which the first is the name.
 fn words(line: &[u8], numbers: &mut [u64], store: &mut [u8]) -> Reading {
     let mut r = Reading {
-        state: SILENT,
+        state: State::Silent,
         count: 0,
         used: 0,
         split: 0,
         value: 0,
     };
-    let mut i: usize = 0;
-    while i < line.len() {
-        r = step(r, meaning(line[i]), numbers, store);
-        i += 1;
+    for b in line {
+        r = step(r, meaning_of(*b), numbers, store);
     }
     r.ended()
 }
 
 // The place of a word among names with one blank between; as many as there are names for another word.
 fn place(names: &[u8], word: &[u8]) -> usize {
-    let mut k: usize = 0;
-    let mut i: usize = 0;
-    while i < names.len() {
-        let e = text::part_end(names, i, b' ');
-        if text::is_same(parts::bytes(names, i as u64, e as u64), word) {
-            break;
-        }
-        i = e + 1;
-        k += 1;
-    }
-    k
+    names
+        .split(|b| *b == b' ')
+        .position(|name| name == word)
+        .unwrap_or_else(|| names.split(|b| *b == b' ').count())
 }
 
 // A line that is no case has a place of its own and no numbers.
@@ -243,7 +227,7 @@ pub fn room() -> [u8; 1048576]
 
 // Whether a line is to be no case.
 fn is_comment(line: &[u8]) -> bool {
-    line.len() != 0 && line[0] == b'#'
+    line.starts_with(b"#")
 }
 
 // A case of the name at a place, where there is room for so many numbers.

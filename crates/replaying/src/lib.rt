@@ -11,4 +11,5 @@ pub mod input;
 pub mod lists;
 pub mod parts;
 pub mod report;
+pub mod run;
 pub mod text;

@@ -9,10 +9,7 @@ use crate::lists::Span;
 pub fn number_at(a: &[u64], i: usize) -> u64
     ensures { result ≡ slice_index a.now i }
 {
-    if i < a.len() {
-        return a[i];
-    }
-    0
+    a.get(i).copied().unwrap_or(0)
 }
 
 // Two places inside so many members; both 0 where they do not stand so.
@@ -59,10 +56,8 @@ pub fn place(a: &[u64], from: usize, k: usize) -> Span
             end: from,
         },
     );
-    let mut i: usize = 0;
-    while i < k {
+    for i in 0..k {
         s = lists::after(a, s);
-        i += 1;
     }
     s
 }

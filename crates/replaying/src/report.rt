@@ -2,21 +2,18 @@
 // lent buffer.
 ghost use Rattle.std.specs.Prelude.{◌≡◌, ◌+◌, ◌*◌, ◌≤◌, cond, length};
 ghost use Rattle.lineout.specs.Printed.{Puts};
-ghost use Rattle.replaying.specs.Replaying.{more, Entered, counted};
+ghost use Rattle.replaying.specs.Replaying.{more, counted};
 ghost use Rattle.replaying.specs.Report.{field, counts_of, next_text, next_name, names_text, names_in, total, sums_of, unread_all, report_in};
 
 use crate::answers::Verdict;
 use crate::parts::number_at;
 use lineout::{put_byte, put_decimal};
 
-// The most functions of a program, and the place that stands for lines that are no case.
+// The most functions of a program, and the place that stands for lines that are no case. A place is a number, as the contract of `record` has it (`counted`).
 pub(crate) const UNREAD: usize = 63;
 
 // The place that stands for lines that are to be none.
 pub(crate) const COMMENT: usize = 64;
-
-// No index of the counts.
-const NONE: usize = usize::MAX;
 
 // Room for the report of names of at most 128 bytes.
 pub const ROOM: usize = 8192;
@@ -30,52 +27,24 @@ fn one_more(counts: &mut [u64], at: usize)
     }
 }
 
-// Which counts a line is in: of the cases that agree, and of all.
-#[derive(Clone, Copy)]
-struct Entry {
-    agree: usize,
-    all: usize,
-}
-
-// Those of a verdict on the function at a place.
-fn entry_of(place: usize, v: Verdict) -> Entry
-    ensures { Entered place v result.agree result.all }
-{
-    if place == COMMENT {
-        return Entry {
-            agree: NONE,
-            all: NONE,
-        };
-    }
-    if UNREAD <= place {
-        return Entry {
-            agree: NONE,
-            all: 127,
-        };
-    }
-    match v {
-        Verdict::Agrees => Entry {
-            agree: 2 * place,
-            all: 2 * place + 1,
-        },
-        Verdict::Differs => Entry {
-            agree: NONE,
-            all: 2 * place + 1,
-        },
-        Verdict::Unread => Entry {
-            agree: NONE,
-            all: 127,
-        },
-    }
-}
-
 // The verdict on a line.
 pub fn record(counts: &mut [u64], place: usize, v: Verdict)
     ensures { counts.new ≡ counted place v counts.old }
 {
-    let e = entry_of(place, v);
-    one_more(counts, e.agree);
-    one_more(counts, e.all)
+    if place == COMMENT {
+        return;
+    }
+    if UNREAD <= place {
+        return one_more(counts, 127);
+    }
+    match v {
+        Verdict::Agrees => {
+            one_more(counts, 2 * place);
+            one_more(counts, 2 * place + 1)
+        }
+        Verdict::Differs => one_more(counts, 2 * place + 1),
+        Verdict::Unread => one_more(counts, 127),
+    }
 }
 
 // An input that fills the buffer may be longer: that counts as a line that is no case.
@@ -135,12 +104,9 @@ fn put_names(out: &mut [u8], at: usize, names: &[u8], counts: &[u64]) -> usize
 {
     let mut k: usize = 0;
     let mut m = at;
-    let mut i: usize = 0;
-    while i < names.len() {
-        let b = names[i];
-        m = put_next(out, m, b, counts, k);
-        k = next_name(k, b);
-        i += 1;
+    for b in names {
+        m = put_next(out, m, *b, counts, k);
+        k = next_name(k, *b);
     }
     put_counts(out, m, counts, k)
 }
@@ -150,13 +116,7 @@ fn names_in(names: &[u8]) -> usize
     requires { length names.now ≤ 128 }
     ensures { (result ≡ names_in names.now) × (result ≤ 129) }
 {
-    let mut k: usize = 0;
-    let mut i: usize = 0;
-    while i < names.len() {
-        k = next_name(k, names[i]);
-        i += 1;
-    }
-    k + 1
+    1 + names.iter().filter(|b| **b == b' ').count()
 }
 
 // The first count of n functions, or the second, added up.
@@ -165,10 +125,8 @@ fn sum(counts: &[u64], first: usize, n: usize) -> u64
     ensures { result ≡ total counts.now first n }
 {
     let mut s: u64 = 0;
-    let mut k: usize = 0;
-    while k < n {
+    for k in 0..n {
         s = std::num::wrapping_add_u64(s, number_at(counts, 2 * k + first));
-        k += 1;
     }
     s
 }

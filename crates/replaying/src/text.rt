@@ -6,28 +6,16 @@ ghost use Rattle.replaying.specs.Replaying.{Part};
 pub fn part_end(text: &[u8], from: usize, b: u8) -> usize
     ensures { Part text.now from b result }
 {
-    let mut i = from;
-    while i < text.len() {
+    for i in from..text.len() {
         if text[i] == b {
-            break;
+            return i;
         }
-        i += 1;
     }
-    i
+    from.max(text.len())
 }
 
 pub fn is_same(x: &[u8], y: &[u8]) -> bool
     ensures { (result ≡ true) ↔ (x.now ≡ y.now) }
 {
-    if x.len() != y.len() {
-        return false;
-    }
-    let mut i: usize = 0;
-    while i < x.len() {
-        if x[i] != y[i] {
-            return false;
-        }
-        i += 1;
-    }
-    true
+    x == y
 }

@@ -21,7 +21,7 @@ fn byte_at(body: &[u8], i: usize) -> u64
     requires { i < length body.now }
     ensures { (result ≡ get_or body.now i 0) × (result < 256) }
 {
-    body[i] as u64
+    u64::from(body[i])
 }
 
 // Accepted with the numbers of the row, or refused with those before it.
@@ -39,11 +39,7 @@ fn copy(from: &[u8], to: &mut [u8])
     requires { length from.now ≤ length to.old }
     ensures { to.new ≡ filled from.now to.old }
 {
-    let mut k: usize = 0;
-    while k < from.len() {
-        to[k] = from[k];
-        k += 1;
-    }
+    to[..from.len()].copy_from_slice(from);
 }
 
 // 01: a name.

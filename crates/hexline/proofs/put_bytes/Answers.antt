@@ -9,24 +9,22 @@ use Rattle.hexline.specs.Laws.{hex-length, hex-end, pair-bytes, Filling, fill-st
 use Rattle.hexline.proofs.put_bytes.Goals as goal
 
 pub loop-k-init : goal.loop-k-init
-loop-k-init c = let a = c.args in let p = c.requires.0 in let e = hex-length a.line.now p in (omega arith, omega arith, omega arith, p, fill-start (bytes_of (hex_bytes a.line.now)) a.frame.now)
+loop-k-init c = let a = c.args in (c.requires.0, fill-start (bytes_of (hex_bytes a.line.now)) a.frame.now)
 
 pub loop-k-preserved : goal.loop-k-preserved
 loop-k-preserved c =
     let l = c.loop-k in
     let a = c.args in
-    let q = pair-bytes a.line.now l.k (omega arith) l.invariant.3 in
+    let e = hex-length a.line.now c.requires.0 in
+    let q = pair-bytes a.line.now l.k (omega arith) l.invariant.0 in
     let v = ap₂ (λ (x y : ℕ). x * 16 + y) c.value.ensures.0 c.value-in-loop-k.ensures.0 in
-    let f = subst (λ (m : List ℕ). Filling (bytes_of (hex_bytes a.line.now)) m a.frame.now l.frame l.k) (q.0 ∙ ap (λ (x : ℕ). x ∷ bytes_of (hex_bytes (drop (2 * (l.k + 1)) a.line.now))) (sym v)) l.invariant.4 in
-    let g = fill-step (bytes_of (hex_bytes a.line.now)) a.frame.now l.frame l.k _ _ (omega arith) f in
-    (omega arith, omega arith, (let s = g.same in let t = l.invariant.4.same in omega arith), q.1, g)
-
-pub shape_of-frame : goal.shape_of-frame
-shape_of-frame c = c.loop-k.invariant.4.same
+    let f = subst (λ (m : List ℕ). Filling (bytes_of (hex_bytes a.line.now)) m a.frame.now l.frame l.k) (q.0 ∙ ap (λ (x : ℕ). x ∷ bytes_of (hex_bytes (drop (2 * (l.k + 1)) a.line.now))) (sym v)) l.invariant.1 in
+    (q.1, fill-step (bytes_of (hex_bytes a.line.now)) a.frame.now l.frame l.k _ _ (omega arith) f)
 
 pub returns : goal.returns
 returns c =
     let l = c.loop-k in
     let a = c.args in
+    let e = hex-length a.line.now c.requires.0 in
     fill-end (bytes_of (hex_bytes a.line.now)) a.frame.now l.frame l.k (omega arith)
-    (subst (λ (m : List ℕ). Filling (bytes_of (hex_bytes a.line.now)) m a.frame.now l.frame l.k) (ap bytes_of (hex-end a.line.now l.k (omega arith))) l.invariant.4)
+    (subst (λ (m : List ℕ). Filling (bytes_of (hex_bytes a.line.now)) m a.frame.now l.frame l.k) (ap bytes_of (hex-end a.line.now l.k (omega arith))) l.invariant.1)

@@ -9,19 +9,15 @@ use Rattle.hexline.specs.Laws.{numbers-step, numbers-end, numbers-length, Fillin
 use Rattle.hexline.proofs.put_numbers.Goals as goal
 
 pub loop-k-init : goal.loop-k-init
-loop-k-init c = let a = c.args in (omega arith, omega arith, omega arith, fill-start (numbers_in a.bytes.now) a.numbers.now)
+loop-k-init c = let a = c.args in fill-start (numbers_in a.bytes.now) a.numbers.now
 
 pub loop-k-preserved : goal.loop-k-preserved
 loop-k-preserved c =
     let l = c.loop-k in
     let a = c.args in
     let q = numbers-step a.bytes.now l.k (omega arith) in
-    let f = subst (λ (m : List ℕ). Filling (numbers_in a.bytes.now) m a.numbers.now l.numbers l.k) (q ∙ ap (λ (x : ℕ). x ∷ numbers_in (drop (2 * (l.k + 1)) a.bytes.now)) (sym c.number_at.ensures.0)) l.invariant.3 in
-    let g = fill-step (numbers_in a.bytes.now) a.numbers.now l.numbers l.k _ _ (omega arith) f in
-    (omega arith, omega arith, (let s = g.same in let t = l.invariant.3.same in omega arith), g)
-
-pub shape_of-numbers : goal.shape_of-numbers
-shape_of-numbers c = c.loop-k.invariant.3.same
+    let f = subst (λ (m : List ℕ). Filling (numbers_in a.bytes.now) m a.numbers.now l.numbers l.k) (q ∙ ap (λ (x : ℕ). x ∷ numbers_in (drop (2 * (l.k + 1)) a.bytes.now)) (sym c.number_at.ensures.0)) l.invariant in
+    fill-step (numbers_in a.bytes.now) a.numbers.now l.numbers l.k _ _ (omega arith) f
 
 pub returns : goal.returns
 returns c =
@@ -30,5 +26,5 @@ returns c =
     let n = numbers-length a.bytes.now c.requires.0 in (
       omega arith,
       fill-end (numbers_in a.bytes.now) a.numbers.now l.numbers l.k (omega arith)
-          (subst (λ (m : List ℕ). Filling (numbers_in a.bytes.now) m a.numbers.now l.numbers l.k) (numbers-end a.bytes.now l.k (omega arith)) l.invariant.3),
+          (subst (λ (m : List ℕ). Filling (numbers_in a.bytes.now) m a.numbers.now l.numbers l.k) (numbers-end a.bytes.now l.k (omega arith)) l.invariant),
     )

@@ -1,9 +1,7 @@
--- `word_at_3` meets its contract: two halves of four bytes.
-use mathlib.Core.Path.{sym, ap₂, ◌∙◌}
-use Prim.Native.Nat.{ℕ, ◌+◌, ◌*◌}
-use native.Mathlib.Omega.{arith}
-use Rattle.hexline.specs.Laws.{word-is}
+-- `word_at_3` meets its contract.
+use Rattle.std.proofs.Common.{◌∙◌, arith}
+use Rattle.hexline.specs.Laws.{word-of-bytes}
 use Rattle.hexline.proofs.word_at_3.Goals as goal
 
 pub returns : goal.returns
-returns c = (ap₂ (λ (x y : ℕ). x * 4294967296 + y) c.half_at.ensures.0 c.half_at-2.ensures.0 ∙ sym (word-is c.args.body.now c.requires), omega arith)
+returns c = (c.from_be_bytes.ensures ∙ word-of-bytes c.args.body.now c.requires, omega arith)

@@ -1,63 +1,30 @@
--- `put_refusal` meets its contract: letter, two numbers, LF.
-use mathlib.Core.Path.{◌∙◌}
-use native.Mathlib.Omega.{arith}
-use Rattle.lineout.specs.Printed.{decimal}
-use Rattle.lineout.specs.Laws.{decimal-short, line-two}
+-- `put_refusal` meets its contract: letter and number, another number, LF.
+use Rattle.std.proofs.Common.{arith}
+use Rattle.lineout.specs.Laws.{decimal-short, heading-short, line-headed}
 use Rattle.lineout.proofs.put_refusal.Goals as goal
 
 pub put_decimal-b-requires : goal.put_decimal-b-requires
 put_decimal-b-requires c =
     let p = c.requires in
-    let d = decimal-short c.args.line (omega arith) in
-    let a = c.put_letter-a.ensures.filled-is in
-    let k = c.put_letter-a.auto.out in
-    omega arith
-
-pub put_byte-c-requires : goal.put_byte-c-requires
-put_byte-c-requires c =
-    let p = c.requires in
-    let d = decimal-short c.args.line (omega arith) in
-    let a = c.put_letter-a.ensures.filled-is in
-    let b = c.put_decimal-b.ensures.filled-is in
-    let k = c.put_letter-a.auto.out in
-    let l = c.put_decimal-b.auto.out in
-    omega arith
-
-pub put_decimal-d-requires : goal.put_decimal-d-requires
-put_decimal-d-requires c =
-    let p = c.requires in
-    let d = decimal-short c.args.line (omega arith) in
+    let d = heading-short 69 c.args.line (omega arith) in
     let e = decimal-short c.args.refusal (omega arith) in
-    let a = c.put_letter-a.ensures.filled-is in
-    let b = c.put_decimal-b.ensures.filled-is in
-    let f = c.put_byte-c.ensures.filled-is in
-    let k = c.put_letter-a.auto.out in
-    let l = c.put_decimal-b.auto.out in
-    let m = c.put_byte-c.auto.out in
+    let a = c.put_heading-a.ensures.filled-is in
+    let k = c.put_heading-a.auto.out in
     omega arith
 
 pub put_byte-requires : goal.put_byte-requires
 put_byte-requires c =
     let p = c.requires in
-    let d = decimal-short c.args.line (omega arith) in
+    let d = heading-short 69 c.args.line (omega arith) in
     let e = decimal-short c.args.refusal (omega arith) in
-    let a = c.put_letter-a.ensures.filled-is in
+    let a = c.put_heading-a.ensures.filled-is in
     let b = c.put_decimal-b.ensures.filled-is in
-    let f = c.put_byte-c.ensures.filled-is in
-    let g = c.put_decimal-d.ensures.filled-is in
-    let k = c.put_letter-a.auto.out in
+    let k = c.put_heading-a.auto.out in
     let l = c.put_decimal-b.auto.out in
-    let m = c.put_byte-c.auto.out in
-    let n = c.put_decimal-d.auto.out in
     omega arith
-
-pub shape_of-out : goal.shape_of-out
-shape_of-out c = c.put_byte.auto.out ∙ c.put_decimal-d.auto.out ∙ c.put_byte-c.auto.out ∙ c.put_decimal-b.auto.out ∙ c.put_letter-a.auto.out
 
 pub returns : goal.returns
 returns c =
     let p = c.requires in
-    let d = decimal-short c.args.line (omega arith) in
     let e = decimal-short c.args.refusal (omega arith) in
-    line-two 69 (decimal c.args.line) (decimal c.args.refusal) c.args.filled _ _ _ _ _ c.args.out.now _ _ _ _ _ (omega arith)
-    c.put_letter-a.ensures c.put_decimal-b.ensures c.put_byte-c.ensures c.put_decimal-d.ensures c.put_byte.ensures
+    line-headed 69 c.args.line _ _ _ _ _ _ _ _ _ (omega arith) (omega arith) c.put_heading-a.ensures c.put_decimal-b.ensures c.put_byte.ensures

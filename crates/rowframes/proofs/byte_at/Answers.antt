@@ -1,10 +1,6 @@
 -- `byte_at` meets its contract: a byte is below 256.
-use mathlib.Core.Path.{refl}
-use native.Mathlib.Omega.{arith}
+use Rattle.std.proofs.Common.{arith}
 use Rattle.rowframes.proofs.byte_at.Goals as goal
 
-pub overflow_cast-result : goal.overflow_cast-result
-overflow_cast-result c = omega (arith, c.type_inv.body c.args.i)
-
 pub returns : goal.returns
-returns c = (refl, omega (arith, c.type_inv.body c.args.i))
+returns c = let e = c.from.ensures in (e, omega (arith, c.type_inv.body c.args.i, e))

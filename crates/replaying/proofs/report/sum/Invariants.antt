@@ -1,10 +1,7 @@
 -- `sum` meets its contract: what is added so far is the sum of the first k.
-use Rattle.std.proofs.Common.{◌≡◌, ◌-◌, ◌≤◌}
+use Rattle.std.proofs.Common.{◌≡◌}
 use Rattle.replaying.specs.Report.{total}
 use Rattle.replaying.proofs.report.sum.Given as goal
 
 abbrev pub invariant-loop-k : goal.invariant-loop-k
-invariant-loop-k l = (l.k ≤ l.n) × (l.s ≡ total l.counts l.first l.k)
-
-abbrev pub decreases-loop-k : goal.decreases-loop-k
-decreases-loop-k l = l.n - l.k
+invariant-loop-k l = l.s ≡ total l.counts l.first l.k
