@@ -16,7 +16,7 @@ pub struct Queue {
     pub queued: Set,
 }
 
-// What is taken from the front: the first component, and the queue without it.
+// What is taken from the front: the first component, and the queue without it. (A pair would be no plainer: it would not name them.)
 #[derive(Clone, Copy)]
 pub struct Popped {
     pub front: u64,

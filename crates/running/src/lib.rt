@@ -8,7 +8,7 @@ ghost use Rattle.running.specs.Running.{started, taken};
 use inserting::State;
 use queue::{fill, pop};
 
-// Whose turn it is, and the solve without it in the queue.
+// Whose turn it is, and the solve without it in the queue. (A pair would be no plainer: it would not name them.)
 #[derive(Clone, Copy)]
 pub struct Taken {
     pub root: u64,
