@@ -307,11 +307,10 @@ fn one_hint(t: Tables, domain: &[u64]) -> Option<TypeWord>
     requires { Fits t × AllLegal t domain.now }
     ensures { LegalMaybe result × (maybe_type result ≡ single (hints_of t.object (map type_of domain.now))) }
 {
-    let object = t.object;
     let mut found = None;
     for i in (0..domain.len()).rev() {
         let observed = TypeWord { word: domain[i] };
-        let hint = observed.concrete_hint(object);
+        let hint = observed.concrete_hint(t.object);
         if both_differ(hint, found) {
             return None;
         }

@@ -8,4 +8,4 @@ use Rattle.solving.specs.Solving.{list_of, hints_of}
 use Rattle.resolving.proofs.one_hint.Given as goal
 
 abbrev pub invariant-loop-i : goal.invariant-loop-i
-invariant-loop-i l = (l.i ≤ length l.domain) × LegalMaybe l.found × (hints_of l.object (types_from l.i l.domain) ≡ list_of (maybe_type l.found))
+invariant-loop-i l = (l.i ≤ length l.domain) × LegalMaybe l.found × (hints_of l.t.object (types_from l.i l.domain) ≡ list_of (maybe_type l.found))
