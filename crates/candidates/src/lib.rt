@@ -15,8 +15,8 @@ ghost use Rattle.candidates.specs.Maybe.{AllLegal, LegalMaybe, maybe_type};
 ghost use Rattle.candidates.specs.Groups.{head_of, ClassAt, Stands, Grouped, Adds, Takes, BestIs};
 
 use assignable::{is_assignable, not_no, unknown_accepts};
-use std::cmp::Ordering;
 use sets::Set;
+use std::cmp::Ordering;
 use tables::{NAMES, Tables};
 use ty::{TAG, TypeWord};
 
@@ -419,7 +419,12 @@ fn least_of_many(pairs: &[u64], marks: &[u64], t: Tables, upper: &[u64]) -> Opti
 }
 
 // The least hint of an upper bound that is assignable to all of them.
-pub fn most_specific_upper(pairs: &[u64], marks: &[u64], t: Tables, upper: &[u64]) -> Option<TypeWord>
+pub fn most_specific_upper(
+    pairs: &[u64],
+    marks: &[u64],
+    t: Tables,
+    upper: &[u64],
+) -> Option<TypeWord>
     requires { Prepared pairs.now marks.now t × (t.object < names_room) × AllLegal upper.now }
     ensures { result ≡ maybe_word (most_specific_upper (world_of pairs.now marks.now t) (map type_of upper.now)) }
 {

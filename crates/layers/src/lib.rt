@@ -2,7 +2,7 @@
 // classes that the topmost layer records and how many keys are theirs. The first record of a class takes the keys of the layers below away.
 #![tactic(auto)]
 
-ghost use Rattle.std.specs.Prelude.{◌≡◌, ◌++◌, ◌-◌, ◌≤◌, ◌<◌, ltb, length, take, drop, replicate};
+ghost use Rattle.std.specs.Prelude.{◌≡◌, ◌-◌, ◌≤◌, ◌<◌, ltb, length, take, replicate};
 ghost use Rattle.sorted.specs.Sorted.{Sorted};
 ghost use Rattle.tables.specs.Table.{names_room, pairs_room};
 ghost use Rattle.rows.specs.Rows.{Below, put_all, record_refusal, filled, fresh_in};

@@ -320,7 +320,13 @@ fn one_hint(t: Tables, domain: &[u64]) -> Option<TypeWord>
 }
 
 // Way 5: the one hint of the domain, where the upper bounds allow it.
-fn domain_hint(pairs: &[u64], marks: &[u64], t: Tables, upper: &[u64], domain: &[u64]) -> Option<TypeWord>
+fn domain_hint(
+    pairs: &[u64],
+    marks: &[u64],
+    t: Tables,
+    upper: &[u64],
+    domain: &[u64],
+) -> Option<TypeWord>
     requires { Classed pairs.now marks.now t × AllLegal t upper.now × AllLegal t domain.now }
     ensures { result ≡ maybe_word (by_hint (world_of pairs.now marks.now t) (map type_of upper.now) (map type_of domain.now)) }
 {

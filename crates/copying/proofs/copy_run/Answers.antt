@@ -1,8 +1,8 @@
 -- `copy_run` meets its contract: the run that `sorted::run` finds, copied entry by entry.
-use Rattle.std.specs.Prelude.{◌≡◌, List, ℕ, ◌+◌, length, map, get_or, set}
+use Rattle.std.specs.Prelude.{◌≡◌, List, ℕ, length, map, get_or, set}
 use Rattle.std.proofs.Common.{ap, ◌∙◌, arith}
 use Rattle.std.proofs.Math.Seq.{paste, paste-zero}
-use Rattle.copying.specs.Copies.{between, run_in}
+use Rattle.copying.specs.Copies.{between}
 use Rattle.copying.specs.Steps.{paste-more, run-is, run-bounds}
 use Rattle.copying.proofs.copy_run.Goals as goal
 
