@@ -62,6 +62,15 @@ module _ (load n i : ℕ) where
   unfolding all_wide
   wide-step h k = ap all_wide (rest-step load n i h k)
 
+  -- by what the digit is
+  pub wide-yes : (d : ℕ) → d ≡ load / 2 ^ (4 * (10 - i)) % 16 → i < 11 → i < n → wide_category d ≡ true
+      → all_wide (rest_of load n i) ≡ all_wide (rest_of load n (i + 1))
+  wide-yes d e h k w = wide-step h k ∙ ap (λ (x : Bool). x && all_wide (rest_of load n (i + 1))) (ap wide_category (sym e) ∙ w)
+
+  pub wide-no : (d : ℕ) → d ≡ load / 2 ^ (4 * (10 - i)) % 16 → i < 11 → i < n → wide_category d ≡ false
+      → all_wide (rest_of load n i) ≡ false
+  wide-no d e h k w = wide-step h k ∙ ap (λ (x : Bool). x && all_wide (rest_of load n (i + 1))) (ap wide_category (sym e) ∙ w)
+
   pub wide-none : n ≤ i → all_wide (rest_of load n i) ≡ true
   unfolding all_wide
   wide-none h = ap all_wide (rest-none load n i h)

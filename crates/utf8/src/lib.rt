@@ -18,7 +18,7 @@ fn one(s: &[u8], i: usize, to: usize, lo: u8, hi: u8) -> bool
     false
 }
 
-// The same, and the byte after it continues the sequence.
+// The same, and the byte after it continues the sequence. (One function of how many bytes follow would be no plainer: a loop in the place of a call.)
 fn two(s: &[u8], i: usize, to: usize, lo: u8, hi: u8) -> bool
     requires { to ≤ length s.now }
     ensures { result ≡ matches (lo ‥ hi ∷ 0x80 ‥ 0xBF ∷ []) (slice i to s.now) }
