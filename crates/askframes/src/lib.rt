@@ -39,6 +39,7 @@ fn say(n: Numbers, said: Said) -> Framed
     Framed { said, numbers: m }
 }
 
+// No `From`: that would have to stand in `view`, beside the enum.
 fn relation_number(r: Relation) -> u64
     ensures { result ≡ relation_number r }
 {

@@ -9,9 +9,9 @@ mod writing;
 
 use replaying::answers::Verdict;
 use replaying::cases::Case;
-use replaying::{cases, parts, report, text};
+use replaying::run::{Outcome, replay};
+use replaying::{cases, parts};
 use std::io;
-use std::io::Write;
 
 const NAMES: [u8; 61] = *b"d_type d_strict d_method m_strict w_type w_method lookup utf8";
 
@@ -39,33 +39,22 @@ fn judge(c: Case, store: &[u8], numbers: &[u64]) -> Verdict {
     )
 }
 
-fn one_line(line: &[u8], counts: &mut [u64]) {
+fn one_line(line: &[u8]) -> Outcome {
     let mut numbers = [0u64; 512];
     let mut store = [0u8; 1024];
     let c = cases::read(&NAMES, line, &mut numbers, &mut store);
-    report::record(counts, c.place, judge(c, &store, &numbers));
-}
-
-fn each_line(input: &[u8], counts: &mut [u64]) {
-    let mut i: usize = 0;
-    while i < input.len() {
-        let e = text::part_end(input, i, b'\n');
-        one_line(&input[i..e], counts);
-        i = e + 1;
+    Outcome {
+        place: c.place,
+        verdict: judge(c, &store, &numbers),
     }
 }
 
-fn print(output: &mut impl Write, counts: &[u64]) -> io::Result<()> {
-    let mut out = [0u8; report::ROOM];
-    let n = report::put(&NAMES, counts, &mut out);
-    output.write_all(parts::bytes(&out, 0, n as u64))
-}
-
 fn main(rt: HostRuntime) -> io::Result<()> {
-    let mut input = cases::room();
-    let mut counts = [0u64; 128];
-    let n = replaying::input::fill(&mut rt.stdin(), &mut input)?;
-    report::note_full(&mut counts, n == input.len());
-    each_line(parts::bytes(&input, 0, n as u64), &mut counts);
-    print(&mut rt.stdout(), &counts)
+    replay(
+        &mut rt.stdin(),
+        &mut rt.stdout(),
+        &mut cases::room(),
+        &NAMES,
+        one_line,
+    )
 }

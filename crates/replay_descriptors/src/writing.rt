@@ -36,59 +36,57 @@ fn is_written(w: BpWritten, out: &[u8], store: &[u8], r: &[u64]) -> Verdict {
     answers::judged(is_refusal && text::is_same(recorded, written))
 }
 
-// Writes a type into the first bytes of `out`; the word and how many bytes stand at the end of the arguments.
-fn type_in(store: &[u8], a: &[u64], out: &mut [u8]) -> BpWritten {
+// What `write` makes of as many bytes as the last argument says, where the lists up to list k are whole; behind them stand a word and that number.
+fn written<F: FnOnce(&mut [u8]) -> BpWritten>(
+    k: usize,
+    store: &[u8],
+    a: &[u64],
+    r: &[u64],
+    write: F,
+) -> Verdict
+    requires { F.IsAlwaysCallable write }
+{
+    if !are_arguments(a, k, store.len()) {
+        return Verdict::Unread;
+    }
+    let mut out = [0u8; ROOM];
     let room = cutting::last(a, 1) as usize;
-    if out.len() < room {
-        return BpWritten {
+    let w = if room <= ROOM {
+        write(&mut out[0..room])
+    } else {
+        BpWritten {
             refusal: 1,
             length: 0,
-        };
-    }
-    bracepuffin::bp_write_type(
-        names(store, a),
-        parts::list(a, 2, 0),
-        parts::list(a, 2, 1),
-        cutting::last(a, 2),
-        &mut out[0..room],
-    )
+        }
+    };
+    is_written(w, &out, store, r)
 }
 
+// Writes a type, whose word stands behind the lists.
 pub(crate) fn of_type(store: &[u8], a: &[u64], r: &[u64]) -> Verdict {
-    if are_arguments(a, 1, store.len()) {
-        let mut out = [0u8; ROOM];
-        let w = type_in(store, a, &mut out);
-        return is_written(w, &out, store, r);
-    }
-    Verdict::Unread
+    written(1, store, a, r, |out| {
+        bracepuffin::bp_write_type(
+            names(store, a),
+            parts::list(a, 2, 0),
+            parts::list(a, 2, 1),
+            cutting::last(a, 2),
+            out,
+        )
+    })
 }
 
-// Writes a method; its parameters are a list, and its result and how many bytes stand at the end of the arguments.
-fn method_in(store: &[u8], a: &[u64], out: &mut [u8]) -> BpWritten {
-    let room = cutting::last(a, 1) as usize;
-    if out.len() < room {
-        return BpWritten {
-            refusal: 1,
-            length: 0,
-        };
-    }
-    bracepuffin::bp_write_method(
-        names(store, a),
-        parts::list(a, 2, 0),
-        parts::list(a, 2, 1),
-        parts::list(a, 2, 2),
-        cutting::last(a, 2),
-        &mut out[0..room],
-    )
-}
-
+// Writes a method; its parameters are a list, and its result stands behind it.
 pub(crate) fn of_method(store: &[u8], a: &[u64], r: &[u64]) -> Verdict {
-    if are_arguments(a, 2, store.len()) {
-        let mut out = [0u8; ROOM];
-        let w = method_in(store, a, &mut out);
-        return is_written(w, &out, store, r);
-    }
-    Verdict::Unread
+    written(2, store, a, r, |out| {
+        bracepuffin::bp_write_method(
+            names(store, a),
+            parts::list(a, 2, 0),
+            parts::list(a, 2, 1),
+            parts::list(a, 2, 2),
+            cutting::last(a, 2),
+            out,
+        )
+    })
 }
 
 // The class of the name at the end of the arguments.

@@ -3,9 +3,19 @@ use crate::cutting;
 use bracepuffin::{BpAnswer, BpSet, BpTable};
 use replaying::parts;
 
-// The answer to question 0 relation, 1 distance, 2 supertype, 3 cast of two classes; 4 join, 5 assignability of two types.
+// What is asked of two classes, and of two types.
+#[derive(Clone, Copy)]
+pub(crate) enum Question {
+    Relation,
+    Distance,
+    Supertype,
+    Cast,
+    Join,
+    Assignable,
+}
+
 fn answer(
-    question: usize,
+    question: Question,
     names: &[u8],
     name_at: &[u64],
     name_len: &[u64],
@@ -19,7 +29,7 @@ fn answer(
     work: &mut [u64],
 ) -> BpAnswer {
     match question {
-        0 => {
+        Question::Relation => {
             let a = bracepuffin::bp_relation(
                 names, name_at, name_len, rec_flags, rec_class, rec_at, rec_len, parents, x, y,
                 work,
@@ -29,19 +39,19 @@ fn answer(
                 value: a.relation,
             }
         }
-        1 => bracepuffin::bp_distance(
+        Question::Distance => bracepuffin::bp_distance(
             names, name_at, name_len, rec_flags, rec_class, rec_at, rec_len, parents, x, y, work,
         ),
-        2 => bracepuffin::bp_supertype(
+        Question::Supertype => bracepuffin::bp_supertype(
             names, name_at, name_len, rec_flags, rec_class, rec_at, rec_len, parents, x, y, work,
         ),
-        3 => bracepuffin::bp_cast(
+        Question::Cast => bracepuffin::bp_cast(
             names, name_at, name_len, rec_flags, rec_class, rec_at, rec_len, parents, x, y, work,
         ),
-        4 => bracepuffin::bp_join(
+        Question::Join => bracepuffin::bp_join(
             names, name_at, name_len, rec_flags, rec_class, rec_at, rec_len, parents, x, y, work,
         ),
-        _ => bracepuffin::bp_assignable(
+        Question::Assignable => bracepuffin::bp_assignable(
             names, name_at, name_len, rec_flags, rec_class, rec_at, rec_len, parents, x, y, work,
         ),
     }
@@ -49,7 +59,7 @@ fn answer(
 
 // The same over a table among numbers.
 pub(crate) fn ask(
-    question: usize,
+    question: Question,
     t: &[u64],
     store: &[u8],
     x: u64,

@@ -1,4 +1,5 @@
 // What is said over a table of eight columns, beside the answers recorded.
+use crate::calling::Question;
 use crate::{calling, cutting};
 use bracepuffin::{BpAnswer, BpSet, BpTable};
 use replaying::answers::Verdict;
@@ -6,12 +7,14 @@ use replaying::{answers, parts};
 
 // The question whose answer stands at index i of a line's answers: a pair has four, one after the other, a table is asked for
 // a join.
-fn question(place: usize, i: usize) -> usize {
-    match place {
-        0 => 4,
-        1 => i,
-        3 => 4,
-        _ => 5,
+fn question(place: usize, i: usize) -> Question {
+    match (place, i) {
+        (0, _) | (3, _) => Question::Join,
+        (1, 0) => Question::Relation,
+        (1, 1) => Question::Distance,
+        (1, 2) => Question::Supertype,
+        (1, _) => Question::Cast,
+        _ => Question::Assignable,
     }
 }
 
@@ -53,11 +56,9 @@ fn are_said(
     work: &mut [u64],
 ) -> bool {
     let n = count(place, t);
-    let mut i: usize = 0;
-    while i < n {
+    for i in 0..n {
         let said = calling::ask(question(place, i), t, store, x, other(place, t, y, i), work);
-        i += 1;
-        if !is_said(said, r, i) {
+        if !is_said(said, r, i + 1) {
             return false;
         }
     }
@@ -66,17 +67,10 @@ fn are_said(
 
 // Whether the words of a set are those of a list and then zeros.
 fn are_words(words: &[u64], list: &[u64]) -> bool {
-    if words.len() < list.len() {
-        return false;
+    match words.strip_prefix(list) {
+        Some(rest) => rest.iter().all(|w| *w == 0),
+        None => false,
     }
-    let mut i: usize = 0;
-    while i < words.len() {
-        if words[i] != parts::number_at(list, i) {
-            return false;
-        }
-        i += 1;
-    }
-    true
 }
 
 // Refusal, count, lowest, and the words.

@@ -1,7 +1,7 @@
 // Lists among numbers: the length, then the members.
 ghost use Rattle.replaying.specs.Replaying.{ListEnd, LastEnd, After};
 
-// The end of the list at `at`; 0 where there is no whole list.
+// The end of the list at `at`; 0 where there is no whole list, as the contract `ListEnd` says, and so no Option.
 pub fn end(a: &[u64], at: usize) -> usize
     ensures { ListEnd a.now at result }
 {

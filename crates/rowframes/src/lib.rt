@@ -118,6 +118,8 @@ pub fn bound_frame(body: &[u8], bounds: &mut [u64], n: Numbers) -> Framed
     finish(a.refusal, n, n.with_bounds(a.count))
 }
 
+// The four frames of pairs differ in a field of the numbers: one function would take it as a closure, and need a contract as long as these.
+
 // 06: source and target of a flow.
 pub fn flow_frame(body: &[u8], flows: &mut [u64], n: Numbers) -> Framed
     requires { (length body.now ≡ 4) × (n.components ≤ 512) × (n.flows ≤ 2048) × (2048 ≤ length flows.old) × Sorted (take n.flows flows.old) }
