@@ -2,3 +2,4 @@
 pub mod Spread
 pub mod Rows
 pub mod Closure
+pub mod ByPlace

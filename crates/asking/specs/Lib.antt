@@ -2,3 +2,4 @@
 pub mod Asking
 pub mod Steps
 pub mod Laws
+pub mod ByPlace

@@ -2,3 +2,4 @@
 pub mod Maybe
 pub mod Steps
 pub mod Groups
+pub mod ByPlace

@@ -2,3 +2,4 @@
 pub mod Sources
 pub mod Stripped
 pub mod Near
+pub mod ByPlace
