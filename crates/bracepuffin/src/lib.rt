@@ -11,6 +11,7 @@ ghost use Rattle.columns.specs.Given.{given_by};
 ghost use Rattle.questions.specs.Questions.{work_after};
 ghost use Rattle.bracepuffin.specs.Boundary.{type_found, type_answer, method_result, bp_method, found_answer, written_answer, WroteType, WroteMethod, relation_answer, number_answer, set_answer, check_answer, check_told, relation_told, distance_told, ancestors_told, supertype_told, cast_told, join_told, assignable_told, solved_answer, bp_solved, SolveLeaves};
 
+use columns::TableColumns;
 use descriptor::{Base, Read, read_whole};
 use methods::{MethodRead, read_method, read_strict};
 use names::look_up;
@@ -313,9 +314,16 @@ pub extern "C" fn bp_check_table(
 ) -> BpTable
     ensures { result ≡ check_told (given_by names name_at name_len rec_flags rec_class rec_at rec_len parents) }
 {
-    check_answer(check_table(
-        names, name_at, name_len, rec_flags, rec_class, rec_at, rec_len, parents,
-    ))
+    check_answer(check_table(&TableColumns {
+        names,
+        name_at,
+        name_len,
+        rec_flags,
+        rec_class,
+        rec_at,
+        rec_len,
+        parents,
+    }))
 }
 
 // ---- classes
@@ -368,7 +376,7 @@ pub extern "C" fn bp_relation(
     ensures value { result ≡ relation_told (given_by names name_at name_len rec_flags rec_class rec_at rec_len parents) value expected (length work.old) }
     ensures work_after { work.new ≡ work_after work.old }
 {
-    let a = ask(
+    let table = TableColumns {
         names,
         name_at,
         name_len,
@@ -377,11 +385,8 @@ pub extern "C" fn bp_relation(
         rec_at,
         rec_len,
         parents,
-        Question::Relation,
-        value,
-        expected,
-        work,
-    );
+    };
+    let a = ask(&table, Question::Relation, value, expected, work);
     relation_answer(a)
 }
 
@@ -402,7 +407,7 @@ pub extern "C" fn bp_distance(
     ensures value { result ≡ distance_told (given_by names name_at name_len rec_flags rec_class rec_at rec_len parents) value expected (length work.old) }
     ensures work_after { work.new ≡ work_after work.old }
 {
-    let a = ask(
+    let table = TableColumns {
         names,
         name_at,
         name_len,
@@ -411,11 +416,8 @@ pub extern "C" fn bp_distance(
         rec_at,
         rec_len,
         parents,
-        Question::Distance,
-        value,
-        expected,
-        work,
-    );
+    };
+    let a = ask(&table, Question::Distance, value, expected, work);
     number_answer(a)
 }
 
@@ -435,9 +437,17 @@ pub extern "C" fn bp_ancestors(
     ensures value { result ≡ ancestors_told (given_by names name_at name_len rec_flags rec_class rec_at rec_len parents) class_no (length work.old) }
     ensures work_after { work.new ≡ work_after work.old }
 {
-    let a = ancestors_of(
-        names, name_at, name_len, rec_flags, rec_class, rec_at, rec_len, parents, class_no, work,
-    );
+    let table = TableColumns {
+        names,
+        name_at,
+        name_len,
+        rec_flags,
+        rec_class,
+        rec_at,
+        rec_len,
+        parents,
+    };
+    let a = ancestors_of(&table, class_no, work);
     set_answer(a)
 }
 
@@ -458,7 +468,7 @@ pub extern "C" fn bp_supertype(
     ensures value { result ≡ supertype_told (given_by names name_at name_len rec_flags rec_class rec_at rec_len parents) left right (length work.old) }
     ensures work_after { work.new ≡ work_after work.old }
 {
-    let a = ask(
+    let table = TableColumns {
         names,
         name_at,
         name_len,
@@ -467,11 +477,8 @@ pub extern "C" fn bp_supertype(
         rec_at,
         rec_len,
         parents,
-        Question::Supertype,
-        left,
-        right,
-        work,
-    );
+    };
+    let a = ask(&table, Question::Supertype, left, right, work);
     number_answer(a)
 }
 
@@ -492,7 +499,7 @@ pub extern "C" fn bp_cast(
     ensures value { result ≡ cast_told (given_by names name_at name_len rec_flags rec_class rec_at rec_len parents) source target (length work.old) }
     ensures work_after { work.new ≡ work_after work.old }
 {
-    let a = ask(
+    let table = TableColumns {
         names,
         name_at,
         name_len,
@@ -501,11 +508,8 @@ pub extern "C" fn bp_cast(
         rec_at,
         rec_len,
         parents,
-        Question::Cast,
-        source,
-        target,
-        work,
-    );
+    };
+    let a = ask(&table, Question::Cast, source, target, work);
     number_answer(a)
 }
 
@@ -528,7 +532,7 @@ pub extern "C" fn bp_join(
     ensures value { result ≡ join_told (given_by names name_at name_len rec_flags rec_class rec_at rec_len parents) left right (length work.old) }
     ensures work_after { work.new ≡ work_after work.old }
 {
-    let a = ask(
+    let table = TableColumns {
         names,
         name_at,
         name_len,
@@ -537,11 +541,8 @@ pub extern "C" fn bp_join(
         rec_at,
         rec_len,
         parents,
-        Question::Join,
-        left,
-        right,
-        work,
-    );
+    };
+    let a = ask(&table, Question::Join, left, right, work);
     number_answer(a)
 }
 
@@ -562,7 +563,7 @@ pub extern "C" fn bp_assignable(
     ensures value { result ≡ assignable_told (given_by names name_at name_len rec_flags rec_class rec_at rec_len parents) value expected (length work.old) }
     ensures work_after { work.new ≡ work_after work.old }
 {
-    let a = ask(
+    let table = TableColumns {
         names,
         name_at,
         name_len,
@@ -571,11 +572,8 @@ pub extern "C" fn bp_assignable(
         rec_at,
         rec_len,
         parents,
-        Question::Assignable,
-        value,
-        expected,
-        work,
-    );
+    };
+    let a = ask(&table, Question::Assignable, value, expected, work);
     number_answer(a)
 }
 
@@ -621,10 +619,20 @@ pub extern "C" fn bp_solve(
     ensures value { result ≡ bp_solved names name_at name_len rec_flags rec_class rec_at rec_len parents components var_comp bnd_comp bnd_kind bnd_type flow_src flow_dst up_src up_dst read_arr read_res write_arr write_val answers out_comp out_kind out_type work }
     ensures solve_leaves { SolveLeaves names name_at name_len rec_flags rec_class rec_at rec_len parents components var_comp bnd_comp bnd_kind bnd_type flow_src flow_dst up_src up_dst read_arr read_res write_arr write_val answers out_comp out_kind out_type work }
 {
+    let table = TableColumns {
+        names,
+        name_at,
+        name_len,
+        rec_flags,
+        rec_class,
+        rec_at,
+        rec_len,
+        parents,
+    };
     let c = solve_slices(
-        names, name_at, name_len, rec_flags, rec_class, rec_at, rec_len, parents, components,
-        var_comp, bnd_comp, bnd_kind, bnd_type, flow_src, flow_dst, up_src, up_dst, read_arr,
-        read_res, write_arr, write_val, answers, out_comp, out_kind, out_type, work,
+        &table, components, var_comp, bnd_comp, bnd_kind, bnd_type, flow_src, flow_dst, up_src,
+        up_dst, read_arr, read_res, write_arr, write_val, answers, out_comp, out_kind, out_type,
+        work,
     );
     solved_answer(c)
 }

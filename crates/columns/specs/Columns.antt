@@ -5,7 +5,8 @@ use Rattle.tables.specs.declared.Tables.{Tables}
 use Rattle.rows.specs.declared.Outcome.{Outcome}
 use Rattle.tables.specs.Table.{pairs_room, marks_room}
 use Rattle.rows.specs.Rows.{no_tables, name_row, State, Ran, record_ran, Fills}
-use Rattle.lending.specs.Lending.{Slice, MutSlice, came, came_mut, became}
+use Rattle.columns.specs.declared.TableColumns.{TableColumns}
+use Rattle.lending.specs.Lending.{MutSlice, came_mut, became}
 
 -- len entries from at on lie inside a slice of that size; the difference does not overflow where the sum would
 unfoldable pub inside : ℕ → ℕ → ℕ → Bool
@@ -42,9 +43,16 @@ record_rows parents (f ∷ fs) (c ∷ cs) (a ∷ ats) (l ∷ ls) s =
     cond (eqb (placed_record parents f c a l s).refusal 0) (record_rows parents fs cs ats ls (placed_record parents f c a l s).state)
     (placed_record parents f c a l s)
 
--- of the records that a function is lent
-abbrev pub record_rows_by : (parents fs cs ats ls : Slice) → State → Ran
-record_rows_by parents fs cs ats ls = record_rows (came parents) (came fs) (came cs) (came ats) (came ls)
+-- the columns of the records are of equal length
+abbrev pub EvenRecords : TableColumns → Type 0
+EvenRecords c = (length c.rec_flags.now ≡ length c.rec_class.now) × (length c.rec_flags.now ≡ length c.rec_at.now) × (length c.rec_flags.now ≡ length c.rec_len.now)
+
+-- the records of columns, and those from row i on
+abbrev pub records_of : TableColumns → State → Ran
+records_of c = record_rows c.parents.now c.rec_flags.now c.rec_class.now c.rec_at.now c.rec_len.now
+
+abbrev pub records_from : TableColumns → ℕ → State → Ran
+records_from c i = record_rows c.parents.now (drop i c.rec_flags.now) (drop i c.rec_class.now) (drop i c.rec_at.now) (drop i c.rec_len.now)
 
 -- ---- the table
 
@@ -58,14 +66,17 @@ table_of named parents fs cs ats ls marks =
 abbrev pub built : List ℕ → List ℕ → List ℕ → List ℕ → List ℕ → List ℕ → List ℕ → List ℕ → List ℕ → Ran
 built names ats lens fs cs starts sizes parents marks = table_of (name_rows names ats lens [] no_tables) parents fs cs starts sizes marks
 
--- of the columns that a function is lent
-abbrev pub built_by : (names ats lens fs cs starts sizes parents : Slice) → MutSlice → Ran
-built_by names ats lens fs cs starts sizes parents marks = built (came names) (came ats) (came lens) (came fs) (came cs) (came starts) (came sizes) (came parents) (came_mut marks)
+-- of columns
+abbrev pub built_of : TableColumns → List ℕ → Ran
+built_of c marks = built c.names.now c.name_at.now c.name_len.now c.rec_flags.now c.rec_class.now c.rec_at.now c.rec_len.now c.parents.now marks
 
--- columns of equal length, and the two slices of a table in full length
-abbrev pub Roomy : List ℕ → List ℕ → List ℕ → List ℕ → List ℕ → List ℕ → List ℕ → List ℕ → Type 0
-Roomy ats lens fs cs starts sizes pairs marks =
-    (length ats ≡ length lens) × (length fs ≡ length cs) × (length fs ≡ length starts) × (length fs ≡ length sizes) × (length pairs ≡ pairs_room) × (length marks ≡ marks_room)
+-- two columns of the names and four of the records, of equal length each
+abbrev pub EvenColumns : TableColumns → Type 0
+EvenColumns c = (length c.name_at.now ≡ length c.name_len.now) × EvenRecords c
+
+-- the same, and the two slices of a table in full length
+abbrev pub Roomy : TableColumns → List ℕ → List ℕ → Type 0
+Roomy c pairs marks = EvenColumns c × (length pairs ≡ pairs_room) × (length marks ≡ marks_room)
 
 -- what a function leaves in the slices of a table that it is lent
 abbrev pub FillsBy : Ran → (pairs marks : MutSlice) → Outcome → Type 0

@@ -3,6 +3,7 @@ use Rattle.std.specs.Prelude.{Bool, cond, ◌&&◌, List, [], ℕ, eqb, length, 
 use Rattle.tables.specs.Table.{marks_room}
 use Rattle.rows.specs.Rows.{no_tables, Ran}
 use Rattle.columns.specs.Columns.{name_rows, table_of}
+use Rattle.columns.specs.declared.TableColumns.{TableColumns}
 use Rattle.lending.specs.Lending.{Slice, came}
 
 -- the bytes of the names and the place of each; the flags, the class and the place of the parents of each record; the parents
@@ -31,6 +32,10 @@ given names name_at name_len flags class at len parents = record {
 -- the columns that a function is lent, as they came
 abbrev pub given_by : (names name_at name_len flags class at len parents : Slice) → Given
 given_by names name_at name_len flags class at len parents = given (came names) (came name_at) (came name_len) (came flags) (came class) (came at) (came len) (came parents)
+
+-- the columns of a struct
+abbrev pub given_of : TableColumns → Given
+given_of c = given c.names.now c.name_at.now c.name_len.now c.rec_flags.now c.rec_class.now c.rec_at.now c.rec_len.now c.parents.now
 
 -- two columns for the names and four for the records, of equal length each
 unfoldable pub even_lengths : ℕ → ℕ → ℕ → ℕ → ℕ → ℕ → Bool

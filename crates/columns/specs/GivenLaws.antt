@@ -10,9 +10,10 @@ use Rattle.tables.specs.declared.Tables.{Tables}
 use Rattle.rows.specs.declared.Outcome.{Outcome}
 use Rattle.rows.specs.Rows.{object_name, no_tables, noted, with_name, name_row, State, record_refusal, with_record, record_row, Ran}
 use Rattle.rows.specs.Laws.{Sound}
-use Rattle.columns.specs.Columns.{name_rows, placed_record, record_rows, table_of}
+use Rattle.columns.specs.declared.TableColumns.{TableColumns}
+use Rattle.columns.specs.Columns.{name_rows, placed_record, record_rows, table_of, EvenColumns}
 use Rattle.columns.specs.Laws.{names-keep, record-either, table-good}
-use Rattle.columns.specs.Given.{Given, even_lengths, even, no_marks, table, uneven_table, checked_table}
+use Rattle.columns.specs.Given.{Given, given_of, even_lengths, even, no_marks, table, uneven_table, checked_table}
 
 -- ---- even columns
 
@@ -23,6 +24,12 @@ even-is a l f c s z h =
     let q = both (eqb f c) (eqb f s && eqb f z) p.1 in
     let r = both (eqb f s) (eqb f z) q.1 in
     (eqb-true a l p.0, eqb-true f c q.0, eqb-true f s r.0, eqb-true f z r.1)
+
+pub even-columns : (c : TableColumns) → even (given_of c) ≡ true → EvenColumns c
+unfolding even
+even-columns c h =
+    let e = even-is (length c.name_at.now) (length c.name_len.now) (length c.rec_flags.now) (length c.rec_class.now) (length c.rec_at.now) (length c.rec_len.now) h in
+    (e.0, (e.1, e.2, e.3))
 
 -- where the others are equal, the last two decide
 pub even-last : (a l f c s z : ℕ) → a ≡ l → f ≡ c → f ≡ s → eqb f z ≡ even_lengths a l f c s z

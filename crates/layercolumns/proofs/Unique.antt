@@ -28,17 +28,17 @@ pub first-open-one : (κs : Lfts 1) (a : Dens κs open-kinds.ps) (r₁ r₂ : (r
     → open-reads.Post κs a r₁ x₁ → open-reads.Post κs a r₂ x₂ → r₁ ≡ r₂
 first-open-one κs a r₁ r₂ x₁ x₂ p q = p ∙ sym q
 
--- the last two of ten
-pub build-stack-one : (κs : Lfts 10) (a : Dens κs build-kinds.ps) (r₁ r₂ : (res_t build-kinds.r κs).Denot) (x₁ x₂ : AtExit (ended_of 10 build-kinds.ps build-kinds.r) κs)
+-- the last two of three
+pub build-stack-one : (κs : Lfts 4) (a : Dens κs build-kinds.ps) (r₁ r₂ : (res_t build-kinds.r κs).Denot) (x₁ x₂ : AtExit (ended_of 4 build-kinds.ps build-kinds.r) κs)
     → build-reads.Post κs a r₁ x₁ → build-reads.Post κs a r₂ x₂
-    → (r₁ ≡ r₂) × (x₁.1.1.1.1.1.1.1.1.1.0.now ≡ x₂.1.1.1.1.1.1.1.1.1.0.now)
-    × (take r₁.stack.tables.pairs x₁.1.1.1.1.1.1.1.1.0.now ≡ take r₂.stack.tables.pairs x₂.1.1.1.1.1.1.1.1.0.now)
+    → (r₁ ≡ r₂) × (x₁.1.1.0.now ≡ x₂.1.1.0.now)
+    × (take r₁.stack.tables.pairs x₁.1.0.now ≡ take r₂.stack.tables.pairs x₂.1.0.now)
 build-stack-one κs a r₁ r₂ x₁ x₂ p q = keeps-one _ _ _ _ _ _ _ p q
 
-pub build-shown-one : (κs : Lfts 10) (a : Dens κs shown-kinds.ps) (r₁ r₂ : (res_t shown-kinds.r κs).Denot) (x₁ x₂ : AtExit (ended_of 10 shown-kinds.ps shown-kinds.r) κs)
+pub build-shown-one : (κs : Lfts 4) (a : Dens κs shown-kinds.ps) (r₁ r₂ : (res_t shown-kinds.r κs).Denot) (x₁ x₂ : AtExit (ended_of 4 shown-kinds.ps shown-kinds.r) κs)
     → shown-reads.Post κs a r₁ x₁ → shown-reads.Post κs a r₂ x₂
-    → (r₁ ≡ r₂) × (x₁.1.1.1.1.1.1.1.1.1.0.now ≡ x₂.1.1.1.1.1.1.1.1.1.0.now)
-    × (take r₁.tables.pairs x₁.1.1.1.1.1.1.1.1.0.now ≡ take r₂.tables.pairs x₂.1.1.1.1.1.1.1.1.0.now)
+    → (r₁ ≡ r₂) × (x₁.1.1.0.now ≡ x₂.1.1.0.now)
+    × (take r₁.tables.pairs x₁.1.0.now ≡ take r₂.tables.pairs x₂.1.0.now)
 build-shown-one κs a r₁ r₂ x₁ x₂ p q = shows-one _ _ _ _ _ _ _ p q
 
 pub lowest-one : (κs : Lfts 0) (a : Dens κs lowest-kinds.ps) (r₁ r₂ : (res_t lowest-kinds.r κs).Denot) (x₁ x₂ : AtExit (ended_of 0 lowest-kinds.ps lowest-kinds.r) κs)

@@ -14,7 +14,8 @@ use Rattle.rows.specs.declared.Outcome.{Outcome}
 use Rattle.rows.specs.Rows.{no_tables, State, state_of, Ran, Fills, record_ran}
 use Rattle.rows.specs.Keys.{length-filled}
 use Rattle.rows.specs.Laws.{Sound, fills-state}
-use Rattle.columns.specs.Columns.{inside, name_rows, placed_record, record_rows, table_of, built}
+use Rattle.columns.specs.declared.TableColumns.{TableColumns}
+use Rattle.columns.specs.Columns.{inside, name_rows, placed_record, record_rows, table_of, built, EvenRecords}
 use Rattle.columns.specs.Laws.{names-pairs, names-leave, records-good, table-good}
 use Rattle.layers.specs.declared.StackTables.{StackTables}
 use Rattle.layers.specs.declared.StackOutcome.{StackOutcome}
@@ -279,8 +280,8 @@ module _ (bytes name_at name_len parents fs cs ats ls pairs marks : List ℕ) (n
   no-key : state_of pairs marks named.tables ≡ record { tables = named.tables; keys = []; marks = marks }
   no-key = ap (λ (k : ℕ). record { tables = named.tables; keys = take k pairs; marks = marks }) no-pair
 
-  pub named-ready : length fs ≡ length cs → length fs ≡ length ats → length fs ≡ length ls → Lowest fs cs ats ls pairs marks named.tables
-  named-ready hc ha hl = (hc, ha, hl, w, named-sound, no-pair)
+  pub named-ready : (c : TableColumns) → EvenRecords c → Lowest c pairs marks named.tables
+  named-ready c h = (h, w, named-sound, no-pair)
 
   pub named-refused : (named.refusal ≡ 0 → ⊥) → (n : StackTables) → n ≡ lowest_tables named.tables
       → Keeps (stack_table (name_rows bytes name_at name_len [] no_tables) parents fs cs ats ls marks) pairs marks (record { refusal = named.refusal; stack = n })

@@ -5,12 +5,12 @@ use Rattle.tables.specs.Table.{pairs_room}
 use Rattle.rows.specs.declared.Outcome.{Outcome}
 use Rattle.rows.specs.Rows.{no_tables, State, Ran, state_of}
 use Rattle.rows.specs.Laws.{Sound}
-use Rattle.columns.specs.Columns.{name_rows, inside, record_rows}
+use Rattle.columns.specs.declared.TableColumns.{TableColumns}
+use Rattle.columns.specs.Columns.{name_rows, inside, record_rows, EvenRecords}
 use Rattle.layers.specs.declared.StackTables.{StackTables}
 use Rattle.layers.specs.declared.StackOutcome.{StackOutcome}
 use Rattle.layers.specs.Layers.{layers_room}
 use Rattle.layers.specs.Stacks.{Stack, StackRan, ground, stack_ran, open_ran, stack_of, Holds}
-use Rattle.lending.specs.Lending.{Slice, MutSlice, came, came_mut}
 use Rattle.gathering.specs.Gathering.{bits_room, keys_in}
 
 -- the flags of a row that opens a layer: 0x80 and the number of the frame that does
@@ -37,6 +37,13 @@ stack_rows parents (f ∷ fs) (c ∷ cs) (a ∷ ats) (l ∷ ls) s =
     cond (eqb (placed_row parents f c a l s).refusal 0) (stack_rows parents fs cs ats ls (placed_row parents f c a l s).state)
     (placed_row parents f c a l s)
 
+-- the rows of columns, and those from row i on
+abbrev pub rows_of : TableColumns → Stack → StackRan
+rows_of c = stack_rows c.parents.now c.rec_flags.now c.rec_class.now c.rec_at.now c.rec_len.now
+
+abbrev pub rows_from : TableColumns → ℕ → Stack → StackRan
+rows_from c i = stack_rows c.parents.now (drop i c.rec_flags.now) (drop i c.rec_class.now) (drop i c.rec_at.now) (drop i c.rec_len.now)
+
 -- how many rows stand before the first that opens a layer
 unfoldable pub first_open : List ℕ → ℕ
 first_open [] = 0
@@ -46,9 +53,9 @@ first_open (f ∷ fs) = cond (eqb f open_flags) 0 (suc (first_open fs))
 abbrev pub grounded : Ran → StackRan
 grounded r = record { refusal = r.refusal; state = ground r.state }
 
--- the first n of the records that a function is lent, as those of a plain table
-abbrev pub first_rows_by : ℕ → (parents fs cs ats ls : Slice) → State → Ran
-first_rows_by n parents fs cs ats ls = record_rows (came parents) (take n (came fs)) (take n (came cs)) (take n (came ats)) (take n (came ls))
+-- the first n of the records of columns, as those of a plain table
+abbrev pub first_rows_of : ℕ → TableColumns → State → Ran
+first_rows_of n c = record_rows c.parents.now (take n c.rec_flags.now) (take n c.rec_class.now) (take n c.rec_at.now) (take n c.rec_len.now)
 
 -- n rows as those of a plain table, then the others
 abbrev pub lowest_then : ℕ → List ℕ → List ℕ → List ℕ → List ℕ → List ℕ → State → StackRan
@@ -68,15 +75,12 @@ abbrev pub lowest_tables : Tables → StackTables
 lowest_tables t = record { tables = t; layer = record { own = record { words = replicate 16 0 }; keys = 0 }; under = 0 }
 
 -- records in columns of equal length, and slices with room for four layers that hold no pair yet
-abbrev pub Lowest : List ℕ → List ℕ → List ℕ → List ℕ → List ℕ → List ℕ → Tables → Type 0
-Lowest fs cs ats ls pairs marks t =
-    (length fs ≡ length cs) × (length fs ≡ length ats) × (length fs ≡ length ls) × (length pairs ≡ layers_room) × Sound (state_of pairs marks t) × (t.pairs ≡ 0)
+abbrev pub Lowest : TableColumns → List ℕ → List ℕ → Tables → Type 0
+Lowest c pairs marks t = EvenRecords c × (length pairs ≡ layers_room) × Sound (state_of pairs marks t) × (t.pairs ≡ 0)
 
 -- records in columns of equal length, slices that hold a stack, and bits with room for every class and without a key
-abbrev pub StackGatherable : List ℕ → List ℕ → List ℕ → List ℕ → List ℕ → List ℕ → StackTables → List ℕ → Type 0
-StackGatherable fs cs ats ls pairs marks s bits =
-    (length fs ≡ length cs) × (length fs ≡ length ats) × (length fs ≡ length ls) × Holds pairs marks s
-    × (16 * s.tables.names ≤ length bits) × (length bits ≤ bits_room) × (keys_in bits ≡ [])
+abbrev pub StackGatherable : TableColumns → List ℕ → List ℕ → StackTables → List ℕ → Type 0
+StackGatherable c pairs marks s bits = EvenRecords c × Holds pairs marks s × (16 * s.tables.names ≤ length bits) × (length bits ≤ bits_room) × (keys_in bits ≡ [])
 
 -- THE STACK OF A TABLE: the names' refusal; else the rows, from no pair and the marks as they came
 unfoldable pub stack_table : Outcome → List ℕ → List ℕ → List ℕ → List ℕ → List ℕ → List ℕ → StackRan
@@ -84,9 +88,9 @@ stack_table named parents fs cs ats ls marks =
     let s : Stack = ground (record { tables = named.tables; keys = []; marks = marks }) in
     cond (eqb named.refusal 0) (stack_rows parents fs cs ats ls s) (record { refusal = named.refusal; state = s })
 
--- of the columns that a function is lent
-abbrev pub stack_by : (names ats lens fs cs starts sizes parents : Slice) → MutSlice → StackRan
-stack_by names ats lens fs cs starts sizes parents marks = stack_table (name_rows (came names) (came ats) (came lens) [] no_tables) (came parents) (came fs) (came cs) (came starts) (came sizes) (came_mut marks)
+-- of columns
+abbrev pub stack_table_of : TableColumns → List ℕ → StackRan
+stack_table_of c marks = stack_table (name_rows c.names.now c.name_at.now c.name_len.now [] no_tables) c.parents.now c.rec_flags.now c.rec_class.now c.rec_at.now c.rec_len.now marks
 
 -- ---- with room for the layers that there are
 

@@ -11,12 +11,13 @@ ghost use Rattle.tables.specs.Table.{marks_room, view_of};
 ghost use Rattle.lattice.specs.World.{world_of};
 ghost use Rattle.joins.specs.Joins.{Fits};
 ghost use Rattle.rows.specs.Rows.{no_tables, all_below};
-ghost use Rattle.columns.specs.Given.{even_lengths, no_marks, given_by};
+ghost use Rattle.columns.specs.Given.{no_marks, given_of};
 ghost use Rattle.layercolumns.specs.LayerColumns.{RoomFor};
 ghost use Rattle.questions.specs.Questions.{of_types, good_numbers, value_of, gathered, Asked, Gathers};
 ghost use Rattle.questions.specs.Inside.{Builds, ran_checks, table_answer, table_ancestors, no_ancestors, Opens, NoRows, Single, Askable, TellsOver, Tells};
 
 use clearing::clear;
+use columns::TableColumns;
 use layercolumns::{build_shown, first_open};
 use layers::SHOWN;
 use rows::Outcome;
@@ -64,74 +65,30 @@ struct Told {
 
 // ---- the table
 
-// Whether the columns of the names are of equal length, and those of the records.
-pub fn is_even(
-    name_at: usize,
-    name_len: usize,
-    rec_flags: usize,
-    rec_class: usize,
-    rec_at: usize,
-    rec_len: usize,
-) -> bool
-    ensures { result ≡ even_lengths name_at name_len rec_flags rec_class rec_at rec_len }
-{
-    if name_at != name_len {
-        return false;
-    }
-    if rec_flags != rec_class {
-        return false;
-    }
-    if rec_flags != rec_at {
-        return false;
-    }
-    rec_flags == rec_len
-}
-
 // Unequal columns.
 fn no_table() -> Outcome
     ensures { result ≡ record { refusal = 3; tables = no_tables } }
 {
-    let none = Tables {
-        names: 0,
-        bytes: 0,
-        object: u64::MAX,
-        cloneable: u64::MAX,
-        serializable: u64::MAX,
-        pairs: 0,
-    };
     Outcome {
         refusal: 3,
-        tables: none,
+        tables: Tables {
+            names: 0,
+            bytes: 0,
+            object: u64::MAX,
+            cloneable: u64::MAX,
+            serializable: u64::MAX,
+            pairs: 0,
+        },
     }
 }
 
 // The table from columns of any length, into two slices without entries that have room for its layers: 3, or what the rows come to.
-pub fn build_table(
-    names: &[u8],
-    name_at: &[u64],
-    name_len: &[u64],
-    rec_flags: &[u64],
-    rec_class: &[u64],
-    rec_at: &[u64],
-    rec_len: &[u64],
-    parents: &[u64],
-    pairs: &mut [u64],
-    marks: &mut [u64],
-) -> Outcome
-    requires { RoomFor rec_flags.now pairs.old × (marks.old ≡ no_marks) }
-    ensures { Builds (given_by names name_at name_len rec_flags rec_class rec_at rec_len parents) pairs.new marks.new result }
+pub fn build_table(columns: &TableColumns, pairs: &mut [u64], marks: &mut [u64]) -> Outcome
+    requires { RoomFor columns.now.rec_flags.now pairs.old × (marks.old ≡ no_marks) }
+    ensures { Builds (given_of columns.now) pairs.new marks.new result }
 {
-    if is_even(
-        name_at.len(),
-        name_len.len(),
-        rec_flags.len(),
-        rec_class.len(),
-        rec_at.len(),
-        rec_len.len(),
-    ) {
-        return build_shown(
-            names, name_at, name_len, rec_flags, rec_class, rec_at, rec_len, parents, pairs, marks,
-        );
+    if columns.is_even() {
+        return build_shown(columns, pairs, marks);
     }
     no_table()
 }
@@ -203,36 +160,25 @@ fn check_numbers(o: Outcome, types: bool, a: u64, b: u64) -> u64
 fn with_checks(o: Outcome, types: bool, a: u64, b: u64) -> Outcome
     ensures { (result.refusal ≡ first_refusal (ran_checks o.refusal o.tables types (a ∷ b ∷ []))) × (result.tables ≡ o.tables) }
 {
-    let refusal = check_numbers(o, types, a, b);
-    let t = o.tables;
     Outcome {
-        refusal: refusal,
-        tables: t,
+        refusal: check_numbers(o, types, a, b),
+        ..o
     }
 }
 
 // The table for a question about two numbers.
 fn open_table(
-    names: &[u8],
-    name_at: &[u64],
-    name_len: &[u64],
-    rec_flags: &[u64],
-    rec_class: &[u64],
-    rec_at: &[u64],
-    rec_len: &[u64],
-    parents: &[u64],
+    columns: &TableColumns,
     types: bool,
     a: u64,
     b: u64,
     pairs: &mut [u64],
     marks: &mut [u64],
 ) -> Outcome
-    requires { RoomFor rec_flags.now pairs.old × (marks.old ≡ no_marks) }
-    ensures { Opens (given_by names name_at name_len rec_flags rec_class rec_at rec_len parents) types a b pairs.new marks.new result }
+    requires { RoomFor columns.now.rec_flags.now pairs.old × (marks.old ≡ no_marks) }
+    ensures { Opens (given_of columns.now) types a b pairs.new marks.new result }
 {
-    let o = build_table(
-        names, name_at, name_len, rec_flags, rec_class, rec_at, rec_len, parents, pairs, marks,
-    );
+    let o = build_table(columns, pairs, marks);
     with_checks(o, types, a, b)
 }
 
@@ -251,10 +197,7 @@ fn relation_number(r: Relation) -> u64
 fn flag(b: bool) -> u64
     ensures { result ≡ cond b 1 0 }
 {
-    if b {
-        return 1;
-    }
-    0
+    u64::from(b)
 }
 
 fn number(t: TypeWord) -> u64
@@ -281,28 +224,18 @@ fn value_of(pairs: &[u64], marks: &[u64], t: Tables, q: Question, a: u64, b: u64
 
 // In two slices, of which the marks are empty.
 fn ask_over(
-    names: &[u8],
-    name_at: &[u64],
-    name_len: &[u64],
-    rec_flags: &[u64],
-    rec_class: &[u64],
-    rec_at: &[u64],
-    rec_len: &[u64],
-    parents: &[u64],
+    columns: &TableColumns,
     q: Question,
     a: u64,
     b: u64,
     pairs: &mut [u64],
     marks: &mut [u64],
 ) -> Answer
-    requires { RoomFor rec_flags.now pairs.old × (marks.old ≡ no_marks) }
-    ensures { result ≡ table_answer (given_by names name_at name_len rec_flags rec_class rec_at rec_len parents) q a b }
+    requires { RoomFor columns.now.rec_flags.now pairs.old × (marks.old ≡ no_marks) }
+    ensures { result ≡ table_answer (given_of columns.now) q a b }
 {
     let types = of_types(q);
-    let o = open_table(
-        names, name_at, name_len, rec_flags, rec_class, rec_at, rec_len, parents, types, a, b,
-        pairs, marks,
-    );
+    let o = open_table(columns, types, a, b, pairs, marks);
     if o.refusal != 0 {
         return Answer {
             refusal: o.refusal,
@@ -310,10 +243,7 @@ fn ask_over(
         };
     }
     let value = value_of(pairs, marks, o.tables, q, a, b);
-    Answer {
-        refusal: 0,
-        value: value,
-    }
+    Answer { refusal: 0, value }
 }
 
 // ---- the ancestors of a class
@@ -342,25 +272,15 @@ fn none_gathered(code: u64) -> Ancestors
 
 // In two slices, of which the marks are empty.
 fn ancestors_over(
-    names: &[u8],
-    name_at: &[u64],
-    name_len: &[u64],
-    rec_flags: &[u64],
-    rec_class: &[u64],
-    rec_at: &[u64],
-    rec_len: &[u64],
-    parents: &[u64],
+    columns: &TableColumns,
     class: u64,
     pairs: &mut [u64],
     marks: &mut [u64],
 ) -> Ancestors
-    requires { RoomFor rec_flags.now pairs.old × (marks.old ≡ no_marks) }
-    ensures { result ≡ table_ancestors (given_by names name_at name_len rec_flags rec_class rec_at rec_len parents) class }
+    requires { RoomFor columns.now.rec_flags.now pairs.old × (marks.old ≡ no_marks) }
+    ensures { result ≡ table_ancestors (given_of columns.now) class }
 {
-    let o = open_table(
-        names, name_at, name_len, rec_flags, rec_class, rec_at, rec_len, parents, false, class,
-        class, pairs, marks,
-    );
+    let o = open_table(columns, false, class, class, pairs, marks);
     if o.refusal != 0 {
         return none_gathered(o.refusal);
     }
@@ -375,81 +295,45 @@ fn tell(o: Outcome, pairs: &[u64], marks: &[u64], set: bool, q: Question, a: u64
     ensures { TellsOver o (view_of pairs.now marks.now o.tables) (world_of pairs.now marks.now o.tables) set q a b result.answer result.ancestors }
 {
     if o.refusal != 0 {
-        let refused = Answer {
-            refusal: o.refusal,
-            value: 0,
-        };
         return Told {
-            answer: refused,
+            answer: Answer {
+                refusal: o.refusal,
+                value: 0,
+            },
             ancestors: none_gathered(o.refusal),
         };
     }
-    let none = Answer {
-        refusal: 0,
-        value: 0,
-    };
     if set {
-        let found = gather(hierarchy::ancestors(pairs, marks, o.tables, a));
         return Told {
-            answer: none,
-            ancestors: found,
+            answer: Answer {
+                refusal: 0,
+                value: 0,
+            },
+            ancestors: gather(hierarchy::ancestors(pairs, marks, o.tables, a)),
         };
     }
     let value = value_of(pairs, marks, o.tables, q, a, b);
-    let answer = Answer {
-        refusal: 0,
-        value: value,
-    };
     Told {
-        answer: answer,
+        answer: Answer { refusal: 0, value },
         ancestors: none_gathered(0),
     }
 }
 
 // Over a table with layers. It opens the table itself and serves both, so that it stands by itself and its array is in no other's frame.
-fn ask_layers(
-    names: &[u8],
-    name_at: &[u64],
-    name_len: &[u64],
-    rec_flags: &[u64],
-    rec_class: &[u64],
-    rec_at: &[u64],
-    rec_len: &[u64],
-    parents: &[u64],
-    set: bool,
-    q: Question,
-    a: u64,
-    b: u64,
-) -> Told
+fn ask_layers(columns: &TableColumns, set: bool, q: Question, a: u64, b: u64) -> Told
     requires { Single set q a b }
-    ensures { Tells (given_by names name_at name_len rec_flags rec_class rec_at rec_len parents) set q a b result.answer result.ancestors }
+    ensures { Tells (given_of columns.now) set q a b result.answer result.ancestors }
 {
     let mut pairs = [0u64; SHOWN];
     let mut marks = [0u64; MARKS];
     let types = of_types(q);
-    let o = open_table(
-        names, name_at, name_len, rec_flags, rec_class, rec_at, rec_len, parents, types, a, b,
-        &mut pairs, &mut marks,
-    );
+    let o = open_table(columns, types, a, b, &mut pairs, &mut marks);
     tell(o, &pairs, &marks, set, q, a, b)
 }
 
 // The answer to a question about two classes, or two types.
-pub fn ask(
-    names: &[u8],
-    name_at: &[u64],
-    name_len: &[u64],
-    rec_flags: &[u64],
-    rec_class: &[u64],
-    rec_at: &[u64],
-    rec_len: &[u64],
-    parents: &[u64],
-    q: Question,
-    a: u64,
-    b: u64,
-    work: &mut [u64],
-) -> Answer
-    ensures { Asked (given_by names name_at name_len rec_flags rec_class rec_at rec_len parents) q a b work.old work.new result }
+pub fn ask(columns: &TableColumns, q: Question, a: u64, b: u64, work: &mut [u64]) -> Answer
+    ensures { Asked (given_of columns.now) q a b work.old work.new result }
 {
     if work.len() < ROOM {
         return Answer {
@@ -457,84 +341,31 @@ pub fn ask(
             value: 0,
         };
     }
-    if first_open(rec_flags) < rec_flags.len() {
-        let told = ask_layers(
-            names, name_at, name_len, rec_flags, rec_class, rec_at, rec_len, parents, false, q, a,
-            b,
-        );
+    if first_open(columns.rec_flags) < columns.rec_flags.len() {
+        let told = ask_layers(columns, false, q, a, b);
         clear(work);
         return told.answer;
     }
     let mut marks = [0u64; MARKS];
-    let answer = ask_over(
-        names,
-        name_at,
-        name_len,
-        rec_flags,
-        rec_class,
-        rec_at,
-        rec_len,
-        parents,
-        q,
-        a,
-        b,
-        &mut work[0..PAIRS],
-        &mut marks,
-    );
+    let answer = ask_over(columns, q, a, b, &mut work[0..PAIRS], &mut marks);
     clear(work);
     answer
 }
 
 // The ancestors of a class.
-pub fn ancestors_of(
-    names: &[u8],
-    name_at: &[u64],
-    name_len: &[u64],
-    rec_flags: &[u64],
-    rec_class: &[u64],
-    rec_at: &[u64],
-    rec_len: &[u64],
-    parents: &[u64],
-    class: u64,
-    work: &mut [u64],
-) -> Ancestors
-    ensures { Gathers (given_by names name_at name_len rec_flags rec_class rec_at rec_len parents) class work.old work.new result }
+pub fn ancestors_of(columns: &TableColumns, class: u64, work: &mut [u64]) -> Ancestors
+    ensures { Gathers (given_of columns.now) class work.old work.new result }
 {
     if work.len() < ROOM {
         return none_gathered(22);
     }
-    if first_open(rec_flags) < rec_flags.len() {
-        let told = ask_layers(
-            names,
-            name_at,
-            name_len,
-            rec_flags,
-            rec_class,
-            rec_at,
-            rec_len,
-            parents,
-            true,
-            Question::Relation,
-            class,
-            class,
-        );
+    if first_open(columns.rec_flags) < columns.rec_flags.len() {
+        let told = ask_layers(columns, true, Question::Relation, class, class);
         clear(work);
         return told.ancestors;
     }
     let mut marks = [0u64; MARKS];
-    let found = ancestors_over(
-        names,
-        name_at,
-        name_len,
-        rec_flags,
-        rec_class,
-        rec_at,
-        rec_len,
-        parents,
-        class,
-        &mut work[0..PAIRS],
-        &mut marks,
-    );
+    let found = ancestors_over(columns, class, &mut work[0..PAIRS], &mut marks);
     clear(work);
     found
 }

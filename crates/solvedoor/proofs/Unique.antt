@@ -6,15 +6,15 @@ use contract.Lifetimes.{Lfts}
 use Rattle.solvedoor.proofs.solve_slices.Reads as solve-slices-reads
 use Rattle.solvedoor.proofs.solve_slices.Kinds as solve-slices-kinds
 
--- the last five parameters of twenty-six are lent
-pub solve-slices-one : (κs : Lfts 25) (a : Dens κs solve-slices-kinds.ps) (r₁ r₂ : (res_t solve-slices-kinds.r κs).Denot)
-    (x₁ x₂ : AtExit (ended_of 25 solve-slices-kinds.ps solve-slices-kinds.r) κs) → solve-slices-reads.Post κs a r₁ x₁ → solve-slices-reads.Post κs a r₂ x₂
+-- the last five parameters of nineteen are lent
+pub solve-slices-one : (κs : Lfts 19) (a : Dens κs solve-slices-kinds.ps) (r₁ r₂ : (res_t solve-slices-kinds.r κs).Denot)
+    (x₁ x₂ : AtExit (ended_of 19 solve-slices-kinds.ps solve-slices-kinds.r) κs) → solve-slices-reads.Post κs a r₁ x₁ → solve-slices-reads.Post κs a r₂ x₂
     → (r₁ ≡ r₂)
-    × (x₁.1.1.1.1.1.1.1.1.1.1.1.1.1.1.1.1.1.1.1.1.1.0.now ≡ x₂.1.1.1.1.1.1.1.1.1.1.1.1.1.1.1.1.1.1.1.1.1.0.now)
-    × (x₁.1.1.1.1.1.1.1.1.1.1.1.1.1.1.1.1.1.1.1.1.1.1.0.now ≡ x₂.1.1.1.1.1.1.1.1.1.1.1.1.1.1.1.1.1.1.1.1.1.1.0.now)
-    × (x₁.1.1.1.1.1.1.1.1.1.1.1.1.1.1.1.1.1.1.1.1.1.1.1.0.now ≡ x₂.1.1.1.1.1.1.1.1.1.1.1.1.1.1.1.1.1.1.1.1.1.1.1.0.now)
-    × (x₁.1.1.1.1.1.1.1.1.1.1.1.1.1.1.1.1.1.1.1.1.1.1.1.1.0.now ≡ x₂.1.1.1.1.1.1.1.1.1.1.1.1.1.1.1.1.1.1.1.1.1.1.1.1.0.now)
-    × (x₁.1.1.1.1.1.1.1.1.1.1.1.1.1.1.1.1.1.1.1.1.1.1.1.1.1.0.now ≡ x₂.1.1.1.1.1.1.1.1.1.1.1.1.1.1.1.1.1.1.1.1.1.1.1.1.1.0.now)
+    × (x₁.1.1.1.1.1.1.1.1.1.1.1.1.1.1.0.now ≡ x₂.1.1.1.1.1.1.1.1.1.1.1.1.1.1.0.now)
+    × (x₁.1.1.1.1.1.1.1.1.1.1.1.1.1.1.1.0.now ≡ x₂.1.1.1.1.1.1.1.1.1.1.1.1.1.1.1.0.now)
+    × (x₁.1.1.1.1.1.1.1.1.1.1.1.1.1.1.1.1.0.now ≡ x₂.1.1.1.1.1.1.1.1.1.1.1.1.1.1.1.1.0.now)
+    × (x₁.1.1.1.1.1.1.1.1.1.1.1.1.1.1.1.1.1.0.now ≡ x₂.1.1.1.1.1.1.1.1.1.1.1.1.1.1.1.1.1.0.now)
+    × (x₁.1.1.1.1.1.1.1.1.1.1.1.1.1.1.1.1.1.1.0.now ≡ x₂.1.1.1.1.1.1.1.1.1.1.1.1.1.1.1.1.1.1.0.now)
 solve-slices-one κs a r₁ r₂ x₁ x₂ p q =
     let m = p.memory in
     let n = q.memory in

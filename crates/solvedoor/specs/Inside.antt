@@ -1,7 +1,8 @@
 -- The solve where no slice is too short: what the laws lead every way through the door to.
 use Rattle.std.specs.Prelude.{cond, true, eqb, ℕ, ◌≡◌, length}
 use Rattle.checks.specs.Checks.{first_refusal}
-use Rattle.columns.specs.Given.{Given, given_by, no_marks}
+use Rattle.columns.specs.declared.TableColumns.{TableColumns}
+use Rattle.columns.specs.Given.{Given, given_of, no_marks}
 use Rattle.tableview.specs.TableRows.{rows_world}
 use Rattle.stackview.specs.LayerRows.{shown_in}
 use Rattle.solving.specs.Solving.{Solution, Unsolved, solve}
@@ -19,9 +20,9 @@ solve_of g c =
     cond (eqb (first_refusal (solve_checks g c)) 0) (solve (rows_world (shown_in g)) (problem_over g c).problem) (Unsolved (first_refusal (solve_checks g c)))
 
 -- of the slices that a function is lent, in the order of its parameters
-abbrev pub SolvesOfBy : (names name_at name_len flags class at len parents : Slice) → ℕ → (vc bc bk bt fs fd us ud ra rr wa wv : Slice) → (answers oc ok ot work : MutSlice) → Counts → Type 0
-SolvesOfBy names name_at name_len flags class at len parents n vc bc bk bt fs fd us ud ra rr wa wv answers oc ok ot work =
-    SolvesBy (solve_of (given_by names name_at name_len flags class at len parents) (columns_by n vc bc bk bt fs fd us ud ra rr wa wv)) answers oc ok ot work
+abbrev pub SolvesOfBy : TableColumns → ℕ → (vc bc bk bt fs fd us ud ra rr wa wv : Slice) → (answers oc ok ot work : MutSlice) → Counts → Type 0
+SolvesOfBy table n vc bc bk bt fs fd us ud ra rr wa wv answers oc ok ot work =
+    SolvesBy (solve_of (given_of table) (columns_by n vc bc bk bt fs fd us ud ra rr wa wv)) answers oc ok ot work
 
 -- columns of equal length, and room for what is answered
 abbrev pub AskedSolve : ℕ → (vc bc bk bt fs fd us ud ra rr wa wv : SliceIn) → (answers oc ok ot work : MutSliceIn) → Type 0
@@ -29,7 +30,7 @@ AskedSolve n vc bc bk bt fs fd us ud ra rr wa wv answers oc ok ot work =
     (even_problem (columns_asked n vc bc bk bt fs fd us ud ra rr wa wv) ≡ true) × Roomy (length vc.now) (lent_asked answers oc ok ot work)
 
 -- the same, and room for a table that holds nothing yet
-abbrev pub AskedOver : SliceIn → (pairs marks : MutSliceIn) → ℕ → (vc bc bk bt fs fd us ud ra rr wa wv : SliceIn) → (answers oc ok ot work : MutSliceIn) → Type 0
-AskedOver flags pairs marks n vc bc bk bt fs fd us ud ra rr wa wv answers oc ok ot work =
-    RoomFor flags.now pairs.now × (marks.now ≡ no_marks) × (even_problem (columns_asked n vc bc bk bt fs fd us ud ra rr wa wv) ≡ true)
+abbrev pub AskedOver : TableColumns → (pairs marks : MutSliceIn) → ℕ → (vc bc bk bt fs fd us ud ra rr wa wv : SliceIn) → (answers oc ok ot work : MutSliceIn) → Type 0
+AskedOver table pairs marks n vc bc bk bt fs fd us ud ra rr wa wv answers oc ok ot work =
+    RoomFor table.rec_flags.now pairs.now × (marks.now ≡ no_marks) × (even_problem (columns_asked n vc bc bk bt fs fd us ud ra rr wa wv) ≡ true)
     × Roomy (length vc.now) (lent_asked answers oc ok ot work)

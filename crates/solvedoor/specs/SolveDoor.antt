@@ -2,7 +2,8 @@
 -- its contract cites.
 use Rattle.std.specs.Prelude.{◌≡◌, Bool, cond, not, ◌||◌, List, [], ◌∷◌, ℕ, ◌-◌, ◌^◌, eqb, ltb, length, replicate}
 use Rattle.checks.specs.Checks.{Check, check, first_refusal}
-use Rattle.columns.specs.Given.{Given, even, given_by}
+use Rattle.columns.specs.declared.TableColumns.{TableColumns}
+use Rattle.columns.specs.Given.{Given, even, given_of}
 use Rattle.tableview.specs.TableRows.{rows_view, rows_world}
 use Rattle.stackview.specs.LayerRows.{shown_in}
 use Rattle.stackview.specs.LayerRefusals.{stack_refusal_of}
@@ -59,7 +60,7 @@ pub record SolvesIn (g : Given) (c : Columns) (before after : Lent) (r : Counts)
   pub memory : Leaves g c before after
 
 -- of the slices that a function is lent, in the order of its parameters
-abbrev pub SolvesInBy : (names name_at name_len flags class at len parents : Slice) → ℕ → (vc bc bk bt fs fd us ud ra rr wa wv : Slice) → (answers oc ok ot work : MutSlice) → Counts → Type 0
-SolvesInBy names name_at name_len flags class at len parents n vc bc bk bt fs fd us ud ra rr wa wv answers oc ok ot work =
-    SolvesIn (given_by names name_at name_len flags class at len parents) (columns_by n vc bc bk bt fs fd us ud ra rr wa wv)
+abbrev pub SolvesInBy : TableColumns → ℕ → (vc bc bk bt fs fd us ud ra rr wa wv : Slice) → (answers oc ok ot work : MutSlice) → Counts → Type 0
+SolvesInBy table n vc bc bk bt fs fd us ud ra rr wa wv answers oc ok ot work =
+    SolvesIn (given_of table) (columns_by n vc bc bk bt fs fd us ud ra rr wa wv)
     (lent_by answers oc ok ot work) (left_by answers oc ok ot work)

@@ -5,6 +5,7 @@
 ghost use Rattle.solvedoor.specs.SolveDoor.{SolvesInBy};
 ghost use Rattle.solvedoor.specs.Inside.{SolvesOfBy, AskedSolve, AskedOver};
 
+use columns::TableColumns;
 use layercolumns::first_open;
 use layers::SHOWN;
 use questions::build_table;
@@ -15,14 +16,7 @@ use tables::{MARKS, PAIRS};
 
 // The solve in two slices without entries that have room for the table's layers, of a problem's columns of equal length.
 fn solve_over(
-    names: &[u8],
-    name_at: &[u64],
-    name_len: &[u64],
-    rec_flags: &[u64],
-    rec_class: &[u64],
-    rec_at: &[u64],
-    rec_len: &[u64],
-    parents: &[u64],
+    table: &TableColumns,
     pairs: &mut [u64],
     marks: &mut [u64],
     components: u64,
@@ -44,12 +38,10 @@ fn solve_over(
     out_type: &mut [u64],
     work: &mut [u64],
 ) -> Counts
-    requires { AskedOver rec_flags pairs marks components var_comp bnd_comp bnd_kind bnd_type flow_src flow_dst up_src up_dst read_arr read_res write_arr write_val answers out_comp out_kind out_type work }
-    ensures { SolvesOfBy names name_at name_len rec_flags rec_class rec_at rec_len parents components var_comp bnd_comp bnd_kind bnd_type flow_src flow_dst up_src up_dst read_arr read_res write_arr write_val answers out_comp out_kind out_type work result }
+    requires { AskedOver table.now pairs marks components var_comp bnd_comp bnd_kind bnd_type flow_src flow_dst up_src up_dst read_arr read_res write_arr write_val answers out_comp out_kind out_type work }
+    ensures { SolvesOfBy table.now components var_comp bnd_comp bnd_kind bnd_type flow_src flow_dst up_src up_dst read_arr read_res write_arr write_val answers out_comp out_kind out_type work result }
 {
-    let o = build_table(
-        names, name_at, name_len, rec_flags, rec_class, rec_at, rec_len, parents, pairs, marks,
-    );
+    let o = build_table(table, pairs, marks);
     if o.refusal != 0 {
         return refuse(o.refusal, work);
     }
@@ -62,14 +54,7 @@ fn solve_over(
 
 // Over a table with layers.
 fn solve_layers(
-    names: &[u8],
-    name_at: &[u64],
-    name_len: &[u64],
-    rec_flags: &[u64],
-    rec_class: &[u64],
-    rec_at: &[u64],
-    rec_len: &[u64],
-    parents: &[u64],
+    table: &TableColumns,
     components: u64,
     var_comp: &[u64],
     bnd_comp: &[u64],
@@ -90,28 +75,20 @@ fn solve_layers(
     work: &mut [u64],
 ) -> Counts
     requires { AskedSolve components var_comp bnd_comp bnd_kind bnd_type flow_src flow_dst up_src up_dst read_arr read_res write_arr write_val answers out_comp out_kind out_type work }
-    ensures { SolvesOfBy names name_at name_len rec_flags rec_class rec_at rec_len parents components var_comp bnd_comp bnd_kind bnd_type flow_src flow_dst up_src up_dst read_arr read_res write_arr write_val answers out_comp out_kind out_type work result }
+    ensures { SolvesOfBy table.now components var_comp bnd_comp bnd_kind bnd_type flow_src flow_dst up_src up_dst read_arr read_res write_arr write_val answers out_comp out_kind out_type work result }
 {
     let mut pairs = [0u64; SHOWN];
     let mut marks = [0u64; MARKS];
     solve_over(
-        names, name_at, name_len, rec_flags, rec_class, rec_at, rec_len, parents, &mut pairs,
-        &mut marks, components, var_comp, bnd_comp, bnd_kind, bnd_type, flow_src, flow_dst, up_src,
-        up_dst, read_arr, read_res, write_arr, write_val, answers, out_comp, out_kind, out_type,
-        work,
+        table, &mut pairs, &mut marks, components, var_comp, bnd_comp, bnd_kind, bnd_type,
+        flow_src, flow_dst, up_src, up_dst, read_arr, read_res, write_arr, write_val, answers,
+        out_comp, out_kind, out_type, work,
     )
 }
 
 // The solve of a problem over a class table, both in columns.
 pub fn solve_slices(
-    names: &[u8],
-    name_at: &[u64],
-    name_len: &[u64],
-    rec_flags: &[u64],
-    rec_class: &[u64],
-    rec_at: &[u64],
-    rec_len: &[u64],
-    parents: &[u64],
+    table: &TableColumns,
     components: u64,
     var_comp: &[u64],
     bnd_comp: &[u64],
@@ -131,7 +108,7 @@ pub fn solve_slices(
     out_type: &mut [u64],
     work: &mut [u64],
 ) -> Counts
-    ensures { SolvesInBy names name_at name_len rec_flags rec_class rec_at rec_len parents components var_comp bnd_comp bnd_kind bnd_type flow_src flow_dst up_src up_dst read_arr read_res write_arr write_val answers out_comp out_kind out_type work result }
+    ensures { SolvesInBy table.now components var_comp bnd_comp bnd_kind bnd_type flow_src flow_dst up_src up_dst read_arr read_res write_arr write_val answers out_comp out_kind out_type work result }
 {
     let short = lengths_refusal(
         var_comp.len(),
@@ -155,19 +132,18 @@ pub fn solve_slices(
     if short != 0 {
         return refuse_lengths(short, work);
     }
-    if first_open(rec_flags) < rec_flags.len() {
+    if first_open(table.rec_flags) < table.rec_flags.len() {
         return solve_layers(
-            names, name_at, name_len, rec_flags, rec_class, rec_at, rec_len, parents, components,
-            var_comp, bnd_comp, bnd_kind, bnd_type, flow_src, flow_dst, up_src, up_dst, read_arr,
-            read_res, write_arr, write_val, answers, out_comp, out_kind, out_type, work,
+            table, components, var_comp, bnd_comp, bnd_kind, bnd_type, flow_src, flow_dst, up_src,
+            up_dst, read_arr, read_res, write_arr, write_val, answers, out_comp, out_kind,
+            out_type, work,
         );
     }
     let mut pairs = [0u64; PAIRS];
     let mut marks = [0u64; MARKS];
     solve_over(
-        names, name_at, name_len, rec_flags, rec_class, rec_at, rec_len, parents, &mut pairs,
-        &mut marks, components, var_comp, bnd_comp, bnd_kind, bnd_type, flow_src, flow_dst, up_src,
-        up_dst, read_arr, read_res, write_arr, write_val, answers, out_comp, out_kind, out_type,
-        work,
+        table, &mut pairs, &mut marks, components, var_comp, bnd_comp, bnd_kind, bnd_type,
+        flow_src, flow_dst, up_src, up_dst, read_arr, read_res, write_arr, write_val, answers,
+        out_comp, out_kind, out_type, work,
     )
 }

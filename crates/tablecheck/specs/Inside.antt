@@ -4,6 +4,7 @@ use Rattle.tables.specs.declared.Tables.{Tables}
 use Rattle.rows.specs.declared.Outcome.{Outcome}
 use Rattle.rows.specs.Rows.{State}
 use Rattle.rows.specs.Laws.{Sound}
+use Rattle.columns.specs.declared.TableColumns.{TableColumns}
 use Rattle.columns.specs.Given.{no_marks}
 use Rattle.layers.specs.Stacks.{Stack, StackRan}
 use Rattle.layercolumns.specs.LayerColumns.{placed_row, stack_rows}
@@ -21,6 +22,10 @@ placed_taken parents (f ∷ fs) (c ∷ cs) (a ∷ ats) (l ∷ ls) s =
 -- their refusal, and where
 abbrev pub stop_of : List ℕ → List ℕ → List ℕ → List ℕ → List ℕ → Stack → Stop
 stop_of parents fs cs ats ls s = record { refusal = (stack_rows parents fs cs ats ls s).refusal; row = placed_taken parents fs cs ats ls s }
+
+-- of the records of columns
+abbrev pub stop_in : TableColumns → Stack → Stop
+stop_in c = stop_of c.parents.now c.rec_flags.now c.rec_class.now c.rec_at.now c.rec_len.now
 
 -- names, and no record yet
 abbrev pub unrecorded : Tables → State

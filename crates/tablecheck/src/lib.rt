@@ -1,18 +1,18 @@
 // Where a class table is refused. It is built as a question builds it; where a row is refused, its rows are gone through once more for the first.
 #![tactic(auto)]
 
-ghost use Rattle.std.specs.Prelude.{◌≡◌, length};
-ghost use Rattle.columns.specs.Given.{given, given_by};
+ghost use Rattle.std.specs.Prelude.{◌≡◌, replicate};
+ghost use Rattle.columns.specs.Columns.{EvenRecords, EvenColumns};
+ghost use Rattle.columns.specs.Given.{given_of};
 ghost use Rattle.layers.specs.Stacks.{ground};
-ghost use Rattle.layercolumns.specs.LayerColumns.{first_open};
+ghost use Rattle.layercolumns.specs.LayerColumns.{RoomFor};
 ghost use Rattle.stackview.specs.Agrees.{stack_in};
 ghost use Rattle.tablecheck.specs.TableCheck.{rows_check, table_check};
-ghost use Rattle.tablecheck.specs.Inside.{stop_of, unrecorded, came_to, Equal, Fresh};
+ghost use Rattle.tablecheck.specs.Inside.{stop_in, unrecorded, came_to, Fresh};
 
-use columns::build_names;
+use columns::{TableColumns, build_names};
 use layercolumns::{build_shown, first_open, lowest, stack_row};
 use layers::SHOWN;
-use questions::is_even;
 use rows::Outcome;
 use tables::{MARKS, PAIRS, Tables};
 
@@ -33,28 +33,20 @@ pub(crate) struct Stop {
 }
 
 // The records of a table whose names are `t`.
-fn check_records(
-    rec_flags: &[u64],
-    rec_class: &[u64],
-    rec_at: &[u64],
-    rec_len: &[u64],
-    parents: &[u64],
-    t: Tables,
-) -> Stop
-    requires { Equal rec_flags.now rec_class.now rec_at.now rec_len.now × Fresh t }
-    ensures { result ≡ stop_of parents.now rec_flags.now rec_class.now rec_at.now rec_len.now (ground (unrecorded t)) }
+fn check_records(columns: &TableColumns, t: Tables) -> Stop
+    requires { EvenRecords columns.now × Fresh t }
+    ensures { result ≡ stop_in columns.now (ground (unrecorded t)) }
 {
     let mut pairs = [0u64; SHOWN];
     let mut marks = [0u64; MARKS];
     let mut u = lowest(t);
-    let mut i: usize = 0;
-    while i < rec_flags.len() {
+    for i in 0..columns.rec_flags.len() {
         let row = stack_row(
-            rec_flags[i],
-            rec_class[i],
-            rec_at[i],
-            rec_len[i],
-            parents,
+            columns.rec_flags[i],
+            columns.rec_class[i],
+            columns.rec_at[i],
+            columns.rec_len[i],
+            columns.parents,
             &mut pairs,
             &mut marks,
             u,
@@ -66,97 +58,40 @@ fn check_records(
             };
         }
         u = row.stack;
-        i += 1;
     }
     Stop {
         refusal: 0,
-        row: i as u64,
+        row: columns.rec_flags.len() as u64,
     }
 }
 
-// What columns of equal length come to, none of which opens a layer, whatever the order of their records.
-fn build_plain(
-    names: &[u8],
-    name_at: &[u64],
-    name_len: &[u64],
-    rec_flags: &[u64],
-    rec_class: &[u64],
-    rec_at: &[u64],
-    rec_len: &[u64],
-    parents: &[u64],
-) -> Outcome
-    requires { (length name_at.now ≡ length name_len.now) × Equal rec_flags.now rec_class.now rec_at.now rec_len.now × (first_open rec_flags.now ≡ length rec_flags.now) }
-    ensures { result ≡ came_to (stack_in (given_by names name_at name_len rec_flags rec_class rec_at rec_len parents)) }
+// What columns of equal length come to, whatever the order of their records, in an array with room for their layers.
+fn build_in<const ROOM: usize>(columns: &TableColumns) -> Outcome
+    requires { EvenColumns columns.now × RoomFor columns.now.rec_flags.now (replicate ROOM 0) }
+    ensures { result ≡ came_to (stack_in (given_of columns.now)) }
 {
-    let mut pairs = [0u64; PAIRS];
+    let mut pairs = [0u64; ROOM];
     let mut marks = [0u64; MARKS];
-    build_shown(
-        names, name_at, name_len, rec_flags, rec_class, rec_at, rec_len, parents, &mut pairs,
-        &mut marks,
-    )
-}
-
-// The same with room for four layers.
-fn build_layers(
-    names: &[u8],
-    name_at: &[u64],
-    name_len: &[u64],
-    rec_flags: &[u64],
-    rec_class: &[u64],
-    rec_at: &[u64],
-    rec_len: &[u64],
-    parents: &[u64],
-) -> Outcome
-    requires { (length name_at.now ≡ length name_len.now) × Equal rec_flags.now rec_class.now rec_at.now rec_len.now }
-    ensures { result ≡ came_to (stack_in (given_by names name_at name_len rec_flags rec_class rec_at rec_len parents)) }
-{
-    let mut pairs = [0u64; SHOWN];
-    let mut marks = [0u64; MARKS];
-    build_shown(
-        names, name_at, name_len, rec_flags, rec_class, rec_at, rec_len, parents, &mut pairs,
-        &mut marks,
-    )
+    build_shown(columns, &mut pairs, &mut marks)
 }
 
 // With the room that is needed.
-fn build_rows(
-    names: &[u8],
-    name_at: &[u64],
-    name_len: &[u64],
-    rec_flags: &[u64],
-    rec_class: &[u64],
-    rec_at: &[u64],
-    rec_len: &[u64],
-    parents: &[u64],
-) -> Outcome
-    requires { (length name_at.now ≡ length name_len.now) × Equal rec_flags.now rec_class.now rec_at.now rec_len.now }
-    ensures { result ≡ came_to (stack_in (given_by names name_at name_len rec_flags rec_class rec_at rec_len parents)) }
+fn build_rows(columns: &TableColumns) -> Outcome
+    requires { EvenColumns columns.now }
+    ensures { result ≡ came_to (stack_in (given_of columns.now)) }
 {
-    if first_open(rec_flags) < rec_flags.len() {
-        return build_layers(
-            names, name_at, name_len, rec_flags, rec_class, rec_at, rec_len, parents,
-        );
+    if first_open(columns.rec_flags) < columns.rec_flags.len() {
+        return build_in::<SHOWN>(columns);
     }
-    build_plain(
-        names, name_at, name_len, rec_flags, rec_class, rec_at, rec_len, parents,
-    )
+    build_in::<PAIRS>(columns)
 }
 
 // The first refused row of columns of equal length, not all of which are taken.
-fn find_row(
-    names: &[u8],
-    name_at: &[u64],
-    name_len: &[u64],
-    rec_flags: &[u64],
-    rec_class: &[u64],
-    rec_at: &[u64],
-    rec_len: &[u64],
-    parents: &[u64],
-) -> TableCheck
-    requires { (length name_at.now ≡ length name_len.now) × Equal rec_flags.now rec_class.now rec_at.now rec_len.now × ((stack_in (given names.now name_at.now name_len.now rec_flags.now rec_class.now rec_at.now rec_len.now parents.now)).refusal ≡ 0 → ⊥) }
-    ensures { result ≡ rows_check (given_by names name_at name_len rec_flags rec_class rec_at rec_len parents) }
+fn find_row(columns: &TableColumns) -> TableCheck
+    requires { EvenColumns columns.now × ((stack_in (given_of columns.now)).refusal ≡ 0 → ⊥) }
+    ensures { result ≡ rows_check (given_of columns.now) }
 {
-    let named = build_names(names, name_at, name_len);
+    let named = build_names(columns);
     let t = named.tables;
     if named.refusal != 0 {
         return TableCheck {
@@ -165,7 +100,7 @@ fn find_row(
             row: t.names,
         };
     }
-    let stop = check_records(rec_flags, rec_class, rec_at, rec_len, parents, t);
+    let stop = check_records(columns, t);
     TableCheck {
         refusal: stop.refusal,
         part: 2,
@@ -174,26 +109,13 @@ fn find_row(
 }
 
 // Columns of equal length: built as a question builds them, and gone through row by row only where a row is refused.
-fn check_rows(
-    names: &[u8],
-    name_at: &[u64],
-    name_len: &[u64],
-    rec_flags: &[u64],
-    rec_class: &[u64],
-    rec_at: &[u64],
-    rec_len: &[u64],
-    parents: &[u64],
-) -> TableCheck
-    requires { (length name_at.now ≡ length name_len.now) × Equal rec_flags.now rec_class.now rec_at.now rec_len.now }
-    ensures { result ≡ rows_check (given_by names name_at name_len rec_flags rec_class rec_at rec_len parents) }
+fn check_rows(columns: &TableColumns) -> TableCheck
+    requires { EvenColumns columns.now }
+    ensures { result ≡ rows_check (given_of columns.now) }
 {
-    let whole = build_rows(
-        names, name_at, name_len, rec_flags, rec_class, rec_at, rec_len, parents,
-    );
+    let whole = build_rows(columns);
     if whole.refusal != 0 {
-        return find_row(
-            names, name_at, name_len, rec_flags, rec_class, rec_at, rec_len, parents,
-        );
+        return find_row(columns);
     }
     let t = whole.tables;
     if t.object == u64::MAX {
@@ -211,29 +133,11 @@ fn check_rows(
 }
 
 // Any columns.
-pub fn check_table(
-    names: &[u8],
-    name_at: &[u64],
-    name_len: &[u64],
-    rec_flags: &[u64],
-    rec_class: &[u64],
-    rec_at: &[u64],
-    rec_len: &[u64],
-    parents: &[u64],
-) -> TableCheck
-    ensures { result ≡ table_check (given_by names name_at name_len rec_flags rec_class rec_at rec_len parents) }
+pub fn check_table(columns: &TableColumns) -> TableCheck
+    ensures { result ≡ table_check (given_of columns.now) }
 {
-    if is_even(
-        name_at.len(),
-        name_len.len(),
-        rec_flags.len(),
-        rec_class.len(),
-        rec_at.len(),
-        rec_len.len(),
-    ) {
-        return check_rows(
-            names, name_at, name_len, rec_flags, rec_class, rec_at, rec_len, parents,
-        );
+    if columns.is_even() {
+        return check_rows(columns);
     }
     TableCheck {
         refusal: 3,

@@ -3,7 +3,7 @@ use borrow.Author.Rules.{rules}
 use mathlib.Core.Path.{◌≡◌, refl, sym, ap, ◌∙◌}
 use Prim.Native.Nat.{ℕ}
 use lib.ListN.{length, replicate}
-use Rattle.columns.specs.Given.{Given, given}
+use Rattle.columns.specs.Given.{Given, given_of}
 use Rattle.layercolumns.specs.Laws.{room-plain}
 use Rattle.questions.specs.Laws.{gathers-short, gathers-long}
 use Rattle.questions.proofs.ancestors_of.Goals as goal
@@ -11,28 +11,28 @@ use Rattle.questions.proofs.ancestors_of.Goals as goal
 pub returns-then-work-lt-ROOM : goal.returns-then-work-lt-ROOM
 returns-then-work-lt-ROOM c =
     let a = c.args in
-    let g : Given = given a.names.now a.name_at.now a.name_len.now a.rec_flags.now a.rec_class.now a.rec_at.now a.rec_len.now a.parents.now in
+    let g : Given = given_of a.columns.now in
     gathers-short g a.class a.work.now c.if-work-lt-ROOM.true c.none_gathered.result c.none_gathered.ensures
 
 pub ask_layers-told-requires : goal.ask_layers-told-requires
 ask_layers-told-requires c = λ e. (refl, refl)
 
-pub returns-then-first_open-rec_flags : goal.returns-then-first_open-rec_flags
-returns-then-first_open-rec_flags c =
+pub returns-then-first_open-columns : goal.returns-then-first_open-columns
+returns-then-first_open-columns c =
     let a = c.args in
-    let g : Given = given a.names.now a.name_at.now a.name_len.now a.rec_flags.now a.rec_class.now a.rec_at.now a.rec_len.now a.parents.now in
+    let g : Given = given_of a.columns.now in
     let d = c.clear in
     let e : length d.new.work ≡ length a.work.now = search rules in
     let told = c.ask_layers-told in
     gathers-long g a.class a.work.now c.if-work-lt-ROOM.false _ (d.ensures ∙ ap (λ (n : ℕ). replicate n 0) (sym d.auto.work ∙ e)) told.result.ancestors (told.ensures.1 refl)
 
 pub ancestors_over-found-requires : goal.ancestors_over-found-requires
-ancestors_over-found-requires c = (room-plain _ _ c.first_open.result c.first_open.ensures c.if-first_open-rec_flags.false (search rules), search rules)
+ancestors_over-found-requires c = (room-plain _ _ c.first_open.result c.first_open.ensures c.if-first_open-columns.false (search rules), search rules)
 
 pub returns : goal.returns
 returns c =
     let a = c.args in
-    let g : Given = given a.names.now a.name_at.now a.name_len.now a.rec_flags.now a.rec_class.now a.rec_at.now a.rec_len.now a.parents.now in
+    let g : Given = given_of a.columns.now in
     let d = c.clear-2 in
     let e : length d.new.work ≡ length a.work.now = search rules in
     gathers-long g a.class a.work.now c.if-work-lt-ROOM.false _ (d.ensures ∙ ap (λ (n : ℕ). replicate n 0) (sym d.auto.work ∙ e)) c.ancestors_over-found.result c.ancestors_over-found.ensures

@@ -1,6 +1,6 @@
 -- `ask_layers` meets its contract: what the table tells that was opened in an array with room for four layers.
 use borrow.Author.Rules.{rules}
-use Rattle.columns.specs.Given.{Given, given}
+use Rattle.columns.specs.Given.{Given, given_of}
 use Rattle.layercolumns.specs.Laws.{room-layers}
 use Rattle.questions.specs.Laws.{layers-no-rows, opened-askable, opened-tells}
 use Rattle.questions.proofs.ask_layers.Goals as goal
@@ -11,7 +11,7 @@ open_table-o-requires c = (room-layers _ _ (search rules), search rules)
 pub tell-requires : goal.tell-requires
 tell-requires c =
     let a = c.args in
-    let g : Given = given a.names.now a.name_at.now a.name_len.now a.rec_flags.now a.rec_class.now a.rec_at.now a.rec_len.now a.parents.now in
+    let g : Given = given_of a.columns.now in
     let t = c.of_types-types in
     let o = c.open_table-o in
     opened-askable g a.set a.q t.result t.ensures a.a a.b c.requires _ _ o.result o.ensures (layers-no-rows o.new.pairs (search rules))
@@ -19,7 +19,7 @@ tell-requires c =
 pub returns : goal.returns
 returns c =
     let a = c.args in
-    let g : Given = given a.names.now a.name_at.now a.name_len.now a.rec_flags.now a.rec_class.now a.rec_at.now a.rec_len.now a.parents.now in
+    let g : Given = given_of a.columns.now in
     let t = c.of_types-types in
     let o = c.open_table-o in
     opened-tells g a.set a.q t.result t.ensures a.a a.b c.requires _ _ o.result o.ensures _ _ c.tell.ensures

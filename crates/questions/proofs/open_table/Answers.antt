@@ -1,5 +1,5 @@
 -- `open_table` meets its contract: the slices hold what the rows say where nothing is refused.
-use Rattle.columns.specs.Given.{given}
+use Rattle.columns.specs.Given.{given_of}
 use Rattle.questions.specs.Laws.{opens}
 use Rattle.questions.proofs.open_table.Goals as goal
 
@@ -8,4 +8,4 @@ returns c =
     let a = c.args in
     let t = c.build_table-o in
     let k = c.with_checks in
-    opens (given a.names.now a.name_at.now a.name_len.now a.rec_flags.now a.rec_class.now a.rec_at.now a.rec_len.now a.parents.now) a.types a.a a.b _ _ t.result t.ensures k.result k.ensures.0 k.ensures.1
+    opens (given_of a.columns.now) a.types a.a a.b _ _ t.result t.ensures k.result k.ensures.0 k.ensures.1

@@ -11,7 +11,7 @@ returns-then-o-ne0 c =
 pub returns-then-set : goal.returns-then-set
 returns-then-set c =
     let a = c.args in
-    tells-ancestors a.o _ _ a.set a.q a.a a.b _ _ c.if-o-ne0.false c.if-set.true _ c.gather-found.ensures c.ancestors.ensures
+    tells-ancestors a.o _ _ a.set a.q a.a a.b _ _ c.if-o-ne0.false c.if-set.true _ c.gather.ensures c.ancestors.ensures
 
 pub value_of-value-requires : goal.value_of-value-requires
 value_of-value-requires c =

@@ -1,6 +1,6 @@
 -- `solve_slices` meets its contract: refused by lengths, or the solve with the room that the table's layers need.
 use borrow.Author.Rules.{rules}
-use Rattle.columns.specs.Given.{given}
+use Rattle.columns.specs.Given.{given_of}
 use Rattle.problemcolumns.specs.ProblemColumns.{columns_in}
 use Rattle.layercolumns.specs.Laws.{room-plain}
 use Rattle.solves.specs.SolveResult.{lent}
@@ -9,7 +9,7 @@ use Rattle.solvedoor.proofs.solve_slices.Goals as goal
 
 pub returns-then-short-ne0 : goal.returns-then-short-ne0
 returns-then-short-ne0 c =
-    let table = given c.args.names.now c.args.name_at.now c.args.name_len.now c.args.rec_flags.now c.args.rec_class.now c.args.rec_at.now c.args.rec_len.now c.args.parents.now in
+    let table = given_of c.args.table.now in
     let columns = columns_in c.args.components c.args.var_comp.now c.args.bnd_comp.now c.args.bnd_kind.now c.args.bnd_type.now c.args.flow_src.now c.args.flow_dst.now c.args.up_src.now c.args.up_dst.now c.args.read_arr.now c.args.read_res.now c.args.write_arr.now c.args.write_val.now in
     let slices = lent c.args.answers.now c.args.out_comp.now c.args.out_kind.now c.args.out_type.now c.args.work.now in
     let a = c.args in
@@ -25,9 +25,9 @@ solve_layers-requires c =
     let good = lengths-good columns slices k.result (lengths-refused columns slices k.result k.ensures) c.if-short-ne0.false in
     (good.1, roomy columns slices good.0)
 
-pub returns-then-first_open-rec_flags : goal.returns-then-first_open-rec_flags
-returns-then-first_open-rec_flags c =
-    let table = given c.args.names.now c.args.name_at.now c.args.name_len.now c.args.rec_flags.now c.args.rec_class.now c.args.rec_at.now c.args.rec_len.now c.args.parents.now in
+pub returns-then-first_open-table : goal.returns-then-first_open-table
+returns-then-first_open-table c =
+    let table = given_of c.args.table.now in
     let columns = columns_in c.args.components c.args.var_comp.now c.args.bnd_comp.now c.args.bnd_kind.now c.args.bnd_type.now c.args.flow_src.now c.args.flow_dst.now c.args.up_src.now c.args.up_dst.now c.args.read_arr.now c.args.read_res.now c.args.write_arr.now c.args.write_val.now in
     let slices = lent c.args.answers.now c.args.out_comp.now c.args.out_kind.now c.args.out_type.now c.args.work.now in
     let k = c.lengths_refusal-short in
@@ -41,11 +41,11 @@ solve_over-requires c =
     let k = c.lengths_refusal-short in
     let found = c.first_open in
     let good = lengths-good columns slices k.result (lengths-refused columns slices k.result k.ensures) c.if-short-ne0.false in
-    (room-plain _ _ found.result found.ensures c.if-first_open-rec_flags.false (search rules), search rules, good.1, roomy columns slices good.0)
+    (room-plain _ _ found.result found.ensures c.if-first_open-table.false (search rules), search rules, good.1, roomy columns slices good.0)
 
 pub returns : goal.returns
 returns c =
-    let table = given c.args.names.now c.args.name_at.now c.args.name_len.now c.args.rec_flags.now c.args.rec_class.now c.args.rec_at.now c.args.rec_len.now c.args.parents.now in
+    let table = given_of c.args.table.now in
     let columns = columns_in c.args.components c.args.var_comp.now c.args.bnd_comp.now c.args.bnd_kind.now c.args.bnd_type.now c.args.flow_src.now c.args.flow_dst.now c.args.up_src.now c.args.up_dst.now c.args.read_arr.now c.args.read_res.now c.args.write_arr.now c.args.write_val.now in
     let slices = lent c.args.answers.now c.args.out_comp.now c.args.out_kind.now c.args.out_type.now c.args.work.now in
     let k = c.lengths_refusal-short in

@@ -1,17 +1,13 @@
 -- `build_rows` meets its contract: with layers, or without.
-use Rattle.layercolumns.specs.Laws.{none-found}
+use mathlib.Core.Path.{refl}
+use Rattle.layercolumns.specs.Laws.{none-found, room-none, room-layers}
 use Rattle.tablecheck.proofs.build_rows.Goals as goal
 
-pub build_layers-requires : goal.build_layers-requires
-build_layers-requires c = c.requires
+pub build_in-requires : goal.build_in-requires
+build_in-requires c = (c.requires, room-layers _ _ refl)
 
-pub returns-then-first_open-rec_flags : goal.returns-then-first_open-rec_flags
-returns-then-first_open-rec_flags c = c.build_layers.ensures
-
-pub build_plain-requires : goal.build_plain-requires
-build_plain-requires c =
+pub build_in-requires-2 : goal.build_in-requires-2
+build_in-requires-2 c =
+    let flags = c.args.columns.now.rec_flags.now in
     let found = c.first_open in
-    (c.requires.0, c.requires.1, none-found c.args.rec_flags.now c.args.rec_flags.now found.result found.ensures c.if-first_open-rec_flags.false)
-
-pub returns : goal.returns
-returns c = c.build_plain.ensures
+    (c.requires, room-none _ _ (none-found flags flags found.result found.ensures c.if-first_open-columns.false) refl)
