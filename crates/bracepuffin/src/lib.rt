@@ -123,7 +123,7 @@ fn type_found(dims: u64, base: Base) -> BpType
             refusal: 0,
             offset: 0,
             byte: 0,
-            dims: dims,
+            dims,
             tag: 0,
             category: k,
             name_at: 0,
@@ -133,7 +133,7 @@ fn type_found(dims: u64, base: Base) -> BpType
             refusal: 0,
             offset: 0,
             byte: 0,
-            dims: dims,
+            dims,
             tag: 1,
             category: 0,
             name_at: at as u64,
@@ -154,7 +154,7 @@ fn type_answer(r: Read) -> BpType
         Read::Refused { code, at, byte } => BpType {
             refusal: code,
             offset: at as u64,
-            byte: byte,
+            byte,
             dims: 0,
             tag: 0,
             category: 0,
@@ -355,7 +355,7 @@ fn set_answer(a: Ancestors) -> BpSet
         refusal: a.refusal,
         count: a.count,
         lowest: a.lowest,
-        words: words,
+        words,
     }
 }
 

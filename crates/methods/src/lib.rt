@@ -1,7 +1,7 @@
 // Method descriptors of ty.rs, read from bytes, and the strict reading of types and methods.
 #![tactic(auto)]
 
-ghost use Rattle.std.specs.Prelude.{◌≡◌, ◌+◌, ◌-◌, ◌≤◌, ◌<◌, eqb, length, take, drop, set};
+ghost use Rattle.std.specs.Prelude.{◌≡◌, ◌+◌, ◌-◌, ◌≤◌, ◌<◌, eqb, length, set};
 ghost use Rattle.descriptor.specs.declared.Read.TheVariants.{Refused};
 ghost use Rattle.descriptor.specs.Read.{strict_name, strictly, read_strict};
 ghost use Rattle.descriptor.specs.Steps.{Placed};
@@ -72,7 +72,7 @@ fn not_strict(at: usize) -> Read
 {
     Read::Refused {
         code: NOT_STRICT,
-        at: at,
+        at,
         byte: 0,
     }
 }

@@ -7,8 +7,8 @@ ghost use Rattle.refusals.specs.Numbers.{code};
 ghost use Rattle.names.specs.Names.{place_good, name_of, check_name, check_row, check_names, found, lookup, look_up, looked};
 
 use nameorder::{compare_names, is_not_above};
-use std::cmp::Ordering;
 use refusals::Refusal;
+use std::cmp::Ordering;
 use utf8::is_well_formed;
 
 // How many bytes a name has at most, how many names a table, and how many bytes they have together.

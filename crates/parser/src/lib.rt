@@ -20,11 +20,7 @@ pub struct DescriptorParser<'a> {
 fn byte_at(s: &[u8], at: usize) -> Option<u8>
     ensures { result ≡ byte_at s.now at }
 {
-    if at < s.len() {
-        Some(s[at])
-    } else {
-        None
-    }
+    if at < s.len() { Some(s[at]) } else { None }
 }
 
 // The offset after the byte b, if it stands there; the same offset if not.

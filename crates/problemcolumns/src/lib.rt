@@ -159,10 +159,7 @@ fn add_pairs_after(
     ensures { Adds (after refusal (pair_run components room firsts.now seconds.now [])) pairs.old pairs.new result }
 {
     if refusal != 0 {
-        return Added {
-            refusal: refusal,
-            count: 0,
-        };
+        return Added { refusal, count: 0 };
     }
     add_pairs(components, firsts, seconds, pairs, room)
 }
@@ -236,7 +233,7 @@ pub fn build_problem(
     let refusal = check_head(components, var_comp);
     if refusal != 0 {
         return ProblemCounts {
-            refusal: refusal,
+            refusal,
             bounds: 0,
             flows: 0,
             uppers: 0,

@@ -1,5 +1,5 @@
 -- What the loops, the lists and the verdicts go by, stated as the code meets it.
-use Rattle.std.proofs.Common.{◌≡◌, ℕ, ◌+◌, ◌-◌, ◌*◌, ◌%◌, ◌^◌, ◌<◌, ◌≤◌, Bool, true, false, cond, not, ◌&&◌, eqb, leb, ◌↔◌, List, [], length, get_or, take, drop, set, sym, refl, ap, ◌∙◌, true≢false, add-one, arith, ext_get_or, le-ltb, lt-ltb, eq-eqb, ne_eqb, le-leb}
+use Rattle.std.proofs.Common.{◌≡◌, ℕ, ◌+◌, ◌-◌, ◌%◌, ◌^◌, ◌<◌, ◌≤◌, Bool, true, false, cond, not, ◌&&◌, eqb, leb, ◌↔◌, List, [], length, get_or, take, drop, set, sym, refl, ap, ◌∙◌, true≢false, add-one, arith, ext_get_or, le-ltb, lt-ltb, eq-eqb, ne_eqb, le-leb}
 use native.Mathlib.Decide.{ℕ_discrete}
 use borrow.Author.Tests.{lt-leb}
 use lib.Seq.{set_out}

@@ -1,5 +1,5 @@
 -- The search for a ';' meets its contract: past the blocks, the first ';' is where `position` finds it.
-use Rattle.std.proofs.Common.{◌≡◌, refl, ap, sym, ◌∙◌, ℕ, ◌+◌, ◌-◌, ◌<◌, ◌≤◌, Bool, true, false, List, [], ◌∷◌, cond, length, take, drop, eqb, ltb, ltb-false, arith, rules, Option, Some, None, length-drop}
+use Rattle.std.proofs.Common.{◌≡◌, refl, ◌∙◌, ℕ, ◌-◌, Bool, true, false, List, [], ◌∷◌, cond, length, take, drop, eqb, ltb, ltb-false, arith, Some, None, length-drop}
 use Rattle.std.proofs.Math.Seq.{take_all}
 use Rattle.std.specs.List.{position, position_or_len}
 use Rattle.descriptor.specs.Read.{index_of}

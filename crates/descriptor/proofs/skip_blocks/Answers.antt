@@ -1,6 +1,6 @@
 -- The passing of blocks meets its contract: the search from `from` is the search from `i`, past each block without a ';'.
 use borrow.Author.Tests.{ltb-false}
-use mathlib.Core.Path.{refl, sym, ◌∙◌}
+use mathlib.Core.Path.{sym, ◌∙◌}
 use native.Mathlib.Omega.{arith}
 use lib.ListN.{drop}
 use Rattle.descriptor.specs.Read.{index_of}

@@ -1,5 +1,5 @@
 -- The loop meets its contract: whether the name is strict is whether what is left of it goes on strictly.
-use Rattle.std.proofs.Common.{◌≡◌, ◌+◌, ◌-◌, Bool, false, not, sym, ap, ◌∙◌, eqb, length, take, drop, get_or, arith}
+use Rattle.std.proofs.Common.{◌+◌, ◌-◌, Bool, false, not, sym, ap, ◌∙◌, eqb, length, take, drop, get_or, arith}
 use Rattle.methods.specs.Strict.{pick_b, parts-end, parts-at}
 use Rattle.descriptor.specs.Core.{lent-anew}
 use Rattle.descriptor.specs.Read.{parts_from, strict_name}

@@ -1,5 +1,5 @@
 -- The passing of equal blocks meets its contract: the names stand to each other as they do from i on.
-use mathlib.Core.Path.{refl, sym, ◌∙◌}
+use mathlib.Core.Path.{sym, ◌∙◌}
 use Prim.Native.Nat.{◌+◌}
 use native.Mathlib.Omega.{arith}
 use Rattle.nameorder.proofs.Block.{past}

@@ -1,6 +1,5 @@
 -- `put_brackets` meets its contract.
-use Rattle.std.proofs.Common.{◌≡◌, ◌+◌, ◌-◌, ℕ, List, ap, sym, ◌∙◌, length, replicate}
-use Rattle.std.proofs.lemmas.List.{length-replicate}
+use Rattle.std.proofs.Common.{ℕ, ap, ◌∙◌, replicate}
 use Rattle.std.proofs.Math.Seq.{sets}
 use Rattle.writer.specs.Store.{lent-length, lent-back}
 use Rattle.writer.proofs.put_brackets.Goals as goal

@@ -1,5 +1,5 @@
 -- `put_bytes` meets its contract.
-use Rattle.std.proofs.Common.{◌≡◌, ◌+◌, ◌-◌, ℕ, List, take, drop, length, ap, sym, ◌∙◌, arith}
+use Rattle.std.proofs.Common.{◌≡◌, ◌+◌, ◌-◌, ℕ, take, drop, ap, ◌∙◌, arith}
 use Rattle.std.proofs.Math.Seq.{sets}
 use Rattle.writer.specs.Store.{lent-length, lent-back}
 use Rattle.writer.proofs.put_bytes.Goals as goal

@@ -1,9 +1,8 @@
 -- `put_class` meets its contract.
-use borrow.Author.Rules.{rules}
 use native.Mathlib.Omega.{arith}
-use lib.ListN.{take, drop, length-set, length-drop}
+use lib.ListN.{take, drop, length-drop}
 use lib.Seq.{length-take-le}
-use Rattle.writer.specs.Store.{put-of, put_byte, put-append, put-length}
+use Rattle.writer.specs.Store.{put-of, put_byte, put-append}
 use Rattle.writer.proofs.put_class.Goals as goal
 
 pub returns : goal.returns

@@ -1,6 +1,6 @@
 -- `put_types` meets its contract. Invariant: what is left to store gives what the whole gives.
 use mathlib.Core.Path.{◌≡◌}
-use Prim.Native.Nat.{◌≤◌, ◌+◌, ◌-◌}
+use Prim.Native.Nat.{◌+◌}
 use mathlib.Core.Bool.{true}
 use lib.ListN.{length, drop}
 use lib.Seq.{sets}

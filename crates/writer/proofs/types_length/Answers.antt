@@ -1,5 +1,4 @@
 -- `types_length` meets its contract. Invariant: the sum so far and what is left make the whole.
-use borrow.Author.Rules.{rules}
 use native.Mathlib.Omega.{arith}
 use lib.ListN.{length}
 use Rattle.writer.specs.Steps.{size-next, size-none, legal-front}

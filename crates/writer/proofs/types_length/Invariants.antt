@@ -1,6 +1,6 @@
 -- `types_length` meets its contract. Invariant: the sum so far and what is left make the whole.
 use mathlib.Core.Path.{◌≡◌}
-use Prim.Native.Nat.{◌≤◌, ◌+◌, ◌-◌, ◌*◌}
+use Prim.Native.Nat.{◌≤◌, ◌+◌, ◌*◌}
 use mathlib.Core.Bool.{true}
 use lib.ListN.{length, drop}
 use Rattle.ty.specs.Words.{all_legal}

@@ -1,5 +1,5 @@
 -- `put_names` meets its contract: what is left are the names from the next byte on.
-use Rattle.std.proofs.Common.{ℕ, ◌+◌, List, get_or, drop, refl, ◌∙◌, subst, arith}
+use Rattle.std.proofs.Common.{ℕ, ◌+◌, List, get_or, drop, subst, arith}
 use Rattle.lineout.specs.Laws.{Writing, writing-start}
 use Rattle.replaying.specs.Report.{counts_of, next_text, names_text}
 use Rattle.replaying.specs.ReportLaws.{writing-on, writing-last, next-small, names-step, names-end}

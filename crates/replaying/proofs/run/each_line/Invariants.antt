@@ -1,5 +1,5 @@
 -- `each_line` is safe and ends.
-use Rattle.std.proofs.Common.{◌-◌, ◌≡◌, length}
+use Rattle.std.proofs.Common.{◌-◌, length}
 use Rattle.replaying.proofs.run.each_line.Given as goal
 
 abbrev pub invariant-loop-i : goal.invariant-loop-i
