@@ -7,3 +7,4 @@ pub mod Given
 pub mod GivenLaws
 pub mod Gathered
 pub mod Examples
+pub mod ByPlace
