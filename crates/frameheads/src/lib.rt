@@ -5,7 +5,7 @@ ghost use Rattle.std.specs.Prelude.{◌≡◌};
 ghost use Rattle.frames.specs.Frames.{good_length, rank_of, bad_order};
 ghost use Rattle.frameheads.specs.Heads.{head_refusal};
 
-// Whether a body of n bytes is one of this kind, from 1 to 14.
+// Whether a body of n bytes is one of this kind, from 1 to 14. The tests stand as in `good_length`, whose laws follow them one by one.
 fn is_length(kind: u64, n: usize) -> bool
     ensures { result ≡ good_length kind n }
 {
@@ -43,27 +43,18 @@ fn is_length(kind: u64, n: usize) -> bool
 pub fn rank_of(kind: u64) -> u64
     ensures { result ≡ rank_of kind }
 {
-    if kind < 10 {
-        return kind;
+    match kind {
+        0..=9 => kind,
+        14 => 2,
+        _ => 10,
     }
-    if kind != 14 {
-        return 10;
-    }
-    2
 }
 
 // Whether a kind comes too late: lower than one accepted before, or 03 again.
 fn is_late(kind: u64, rank: u64) -> bool
     ensures { result ≡ bad_order kind rank }
 {
-    let own = rank_of(kind);
-    if own < rank {
-        return true;
-    }
-    if kind == 3 {
-        return rank == 3;
-    }
-    false
+    rank_of(kind) < rank || (kind == 3 && rank == 3)
 }
 
 // The refusal of a frame's head: 2, 3, 4; 0 where there is none.

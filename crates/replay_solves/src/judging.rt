@@ -7,27 +7,12 @@ use replaying::{answers, parts};
 
 const PATTERN: u64 = 0xa5a5a5a5a5a5a5a5;
 
-// The member of a list at i, or what stands after it.
-fn member(list: &[u64], i: usize, after: u64) -> u64 {
-    if i < list.len() {
-        return list[i];
-    }
-    after
-}
-
 // Whether a slice begins with a list, and holds one number after it.
 fn is_list_then(slice: &[u64], list: &[u64], after: u64) -> bool {
-    if slice.len() < list.len() {
-        return false;
+    match slice.strip_prefix(list) {
+        Some(rest) => rest.iter().all(|n| *n == after),
+        None => false,
     }
-    let mut i: usize = 0;
-    while i < slice.len() {
-        if slice[i] != member(list, i, after) {
-            return false;
-        }
-        i += 1;
-    }
-    true
 }
 
 // What all of the work is after a solve with that refusal: the pattern where nothing was touched.

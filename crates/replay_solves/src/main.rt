@@ -10,9 +10,9 @@ mod judging;
 
 use replaying::answers::Verdict;
 use replaying::cases::Case;
-use replaying::{cases, parts, report, text};
+use replaying::run::{Outcome, replay};
+use replaying::{cases, parts};
 use std::io;
-use std::io::Write;
 
 // The points o52 to o71 are those of docs/DECISIONS.md.
 const NAMES: [u8; 99] =
@@ -23,16 +23,8 @@ const NO_PROBLEM: [u64; 18] = [
     0, 4096, 4096, 4096, 8192, 0, 0, 0, 0, 0, 0, 0, 0, 0, 0, 0, 0, 0,
 ];
 
-// What a line came to: how many numbers the table has after it, the place of the line's name, and the verdict.
-#[derive(Clone, Copy)]
-struct Outcome {
-    held: usize,
-    place: usize,
-    verdict: Verdict,
-}
-
 fn is_table(line: &[u8]) -> bool {
-    line.len() != 0 && line[0] == b't'
+    line.starts_with(b"t")
 }
 
 // The verdict on a case whose numbers are in `numbers`, about the table of the first `held` numbers of `table`.
@@ -55,16 +47,13 @@ fn judge_table(c: Case, numbers: &[u64], store: &[u8]) -> Verdict {
     )
 }
 
-// A new table.
-fn new_table(line: &[u8], table: &mut [u64], store: &mut [u8]) -> Outcome {
+// A new table, of which `held` tells how many numbers it has.
+fn new_table(line: &[u8], held: &mut usize, table: &mut [u64], store: &mut [u8]) -> Outcome {
     let c = cases::read(&NAMES, line, table, store);
-    let held = c.split;
-    let place = c.place;
-    let verdict = judge_table(c, table, store);
+    *held = c.split;
     Outcome {
-        held,
-        place,
-        verdict,
+        place: c.place,
+        verdict: judge_table(c, table, store),
     }
 }
 
@@ -73,53 +62,28 @@ fn problem(line: &[u8], held: usize, table: &[u64], store: &[u8]) -> Outcome {
     let mut numbers = [0u64; 1600];
     let mut bytes = [0u8; 16];
     let c = cases::read(&NAMES, line, &mut numbers, &mut bytes);
-    let place = c.place;
-    let verdict = judge(c, &numbers, held, table, store);
     Outcome {
-        held,
-        place,
-        verdict,
+        place: c.place,
+        verdict: judge(c, &numbers, held, table, store),
     }
 }
 
-fn one_line(line: &[u8], held: usize, table: &mut [u64], store: &mut [u8]) -> Outcome {
+fn one_line(line: &[u8], held: &mut usize, table: &mut [u64], store: &mut [u8]) -> Outcome {
     if is_table(line) {
-        return new_table(line, table, store);
+        return new_table(line, held, table, store);
     }
-    problem(line, held, table, store)
-}
-
-fn each_line(input: &[u8], table: &mut [u64], store: &mut [u8], counts: &mut [u64]) {
-    let mut held: usize = 0;
-    let mut i: usize = 0;
-    while i < input.len() {
-        let e = text::part_end(input, i, b'\n');
-        let o = one_line(&input[i..e], held, table, store);
-        let verdict = o.verdict;
-        report::record(counts, o.place, verdict);
-        held = o.held;
-        i = e + 1;
-    }
-}
-
-fn print(output: &mut impl Write, counts: &[u64]) -> io::Result<()> {
-    let mut out = [0u8; report::ROOM];
-    let n = report::put(&NAMES, counts, &mut out);
-    output.write_all(parts::bytes(&out, 0, n as u64))
+    problem(line, *held, table, store)
 }
 
 fn main(rt: HostRuntime) -> io::Result<()> {
-    let mut input = cases::room();
+    let mut held: usize = 0;
     let mut table = [0u64; 1600];
     let mut store = [0u8; 2048];
-    let mut counts = [0u64; 128];
-    let n = replaying::input::fill(&mut rt.stdin(), &mut input)?;
-    report::note_full(&mut counts, n == input.len());
-    each_line(
-        parts::bytes(&input, 0, n as u64),
-        &mut table,
-        &mut store,
-        &mut counts,
-    );
-    print(&mut rt.stdout(), &counts)
+    replay(
+        &mut rt.stdin(),
+        &mut rt.stdout(),
+        &mut cases::room(),
+        &NAMES,
+        |line| one_line(line, &mut held, &mut table, &mut store),
+    )
 }

@@ -54,13 +54,10 @@ pub fn say_line(
     ensures speaks { Speaks line.now number (store_of (slices_by last pairs marks rows) n) (slices_by last pairs marks rows) (slices_left last pairs marks rows) answers.old answers.new filled out.old out.new result }
     ensures stands { Stands last.new pairs.new marks.new rows.new result.numbers × (result.filled ≤ length out.new) }
 {
-    let v = n.variables;
     let f = frame(line, last, pairs, marks, rows, answers, n);
-    let said = f.said;
-    let after = f.numbers;
-    let m = put_said(out, filled, number, said, &answers[0..v]);
+    let filled = put_said(out, filled, number, f.said, &answers[0..n.variables]);
     Spoken {
-        numbers: after,
-        filled: m,
+        numbers: f.numbers,
+        filled,
     }
 }

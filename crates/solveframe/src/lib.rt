@@ -61,9 +61,6 @@ fn solve_rows(pairs: &[u64], marks: &[u64], rows: &[u64], answers: &mut [u64], n
     requires { Classes marks.now n.stack.tables × KeepsIn rows.now n × Within n × (length rows.now ≡ problem_room) × (2048 ≤ length answers.old) }
     ensures { Alone (solve (world_of pairs.now marks.now n.stack.tables) (problem_in rows.now n)) answers.old answers.new result }
 {
-    let s = n.stack;
-    let t = s.tables;
-    let v = n.variables;
     let b = 2048 + n.bounds;
     let f = 6144 + n.flows;
     let u = 8192 + n.uppers;
@@ -72,9 +69,9 @@ fn solve_rows(pairs: &[u64], marks: &[u64], rows: &[u64], answers: &mut [u64], n
     solve_alone(
         pairs,
         marks,
-        t,
+        n.stack.tables,
         n.components,
-        &rows[0..v],
+        &rows[0..n.variables],
         &rows[2048..b],
         &rows[6144..f],
         &rows[8192..u],
@@ -91,10 +88,9 @@ fn say(n: Numbers, refusal: u64) -> Framed
     if refusal != 0 {
         return refuse(n, refusal);
     }
-    let m = n.asked();
     Framed {
         said: Said::Solved,
-        numbers: m,
+        numbers: n.asked(),
     }
 }
 

@@ -10,4 +10,4 @@ pub returns-then-refusal-ne0 : goal.returns-then-refusal-ne0
 returns-then-refusal-ne0 c = c.refuse.ensures ∙ said-refused c.args.refusal c.args.n c.if-refusal-ne0.true
 
 pub returns : goal.returns
-returns c = ap (λ (m : Numbers). framed Solved m) c.asked-m.ensures ∙ said-solved c.args.refusal c.args.n c.if-refusal-ne0.false
+returns c = ap (λ (m : Numbers). framed Solved m) c.asked.ensures ∙ said-solved c.args.refusal c.args.n c.if-refusal-ne0.false
