@@ -84,7 +84,7 @@ looked-injective (Ok i) (Err s) e = absurd (number-some s (sym (ap (λ (l : Look
 looked-injective (Err r) (Ok j) e = absurd (number-some r (ap (λ (l : LookedUp). l.refusal) e))
 looked-injective (Err r) (Err s) e = ap Err (number-injective r s (ap (λ (l : LookedUp). l.refusal) e))
 
--- ABSENT, or the number
+-- Absent (23), or the number
 abbrev pub found : Option ℕ → LookedUp
 found none = record { refusal = 23; class_no = 0 }
 found (some i) = record { refusal = 0; class_no = i }

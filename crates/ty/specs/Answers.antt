@@ -6,17 +6,16 @@ use Rattle.std.proofs.Math.Bool.{true, false, cond}
 use Rattle.std.proofs.Math.Option.{Option, some, none}
 use Prim.Native.Nat.{ℕ, zero, suc, ◌+◌, ◌-◌, ◌*◌, ◌^◌, ◌≤◌, ◌<◌}
 use Rattle.ty.specs.declared.TypeWord.{TypeWord}
-use Rattle.ty.specs.declared.NoType.{NoType}
+use Rattle.refusals.specs.declared.Refusal.{Refusal}
+use Rattle.refusals.specs.declared.Refusal.TheVariants.{NoType}
+use Rattle.refusals.specs.Numbers.{number}
 use Rattle.ty.specs.Types.{ArgType, Primitive, Array, Unknown, element, depth, Int, Long, Float, Double, Boolean, Short, Byte, Char, ObjectCategory, ArrayCategory}
-use Rattle.ty.specs.Words.{dimension, tag_of, load_of, base_of, type_of, legal_word, word_of, pack}
+use Rattle.ty.specs.Words.{dimension, no_type, tag_of, load_of, base_of, type_of, legal_word, word_of, pack}
 use Rattle.ty.specs.Shape.{type-array, type-flat, word-deeper, legal-element}
 use Rattle.ty.specs.Round.{word-of-type, depth-dims}
 
 abbrev pub word : ℕ → TypeWord
 word w = record { word = w }
-
-abbrev pub untyped : ℕ → NoType
-untyped w = record { word = w }
 
 -- a type that may be missing, as functions hand it back
 abbrev pub MaybeType : Type 0
@@ -55,8 +54,8 @@ constants = (refl, refl, refl, refl, refl)
 
 -- ---- the answers
 
-unfoldable pub decode_word : ℕ → ℕ → Result TypeWord NoType
-decode_word names w = cond (legal_word names w) (Ok (word w)) (Err (untyped w))
+unfoldable pub decode_word : ℕ → ℕ → Result TypeWord Refusal
+decode_word names w = cond (legal_word names w) (Ok (word w)) (Err NoType)
 
 -- a word's element: a dimension less, where it has one
 unfoldable pub element_word : ℕ → MaybeType
@@ -76,9 +75,13 @@ module _ (names w : ℕ) where
   unfolding decode_word
   decode-good e = rw e
 
-  pub decode-bad : legal_word names w ≡ false → Err (untyped w) ≡ decode_word names w
+  pub decode-bad : legal_word names w ≡ false → Err NoType ≡ decode_word names w
   unfolding decode_word
   decode-bad e = rw e
+
+-- the number of what `decode` refuses with
+pub no-type : number NoType ≡ no_type
+no-type = refl
 
 -- ---- element and array of a legal word are those of its type
 
@@ -120,15 +123,15 @@ module _ (names w : ℕ) where
   unfolding decode_word
   good-legal t h = go (legal_word names w) h
     where
-      go : (b : Bool) → cond b (Ok (word w)) (Err (untyped w)) ≡ Ok t → b ≡ true
+      go : (b : Bool) → cond b (Ok (word w)) (Err NoType) ≡ Ok t → b ≡ true
       go true e = refl
       go false e = cc
 
-  pub refused-legal : (e : NoType) → decode_word names w ≡ Err e → legal_word names w ≡ false
+  pub refused-legal : (e : Refusal) → decode_word names w ≡ Err e → legal_word names w ≡ false
   unfolding decode_word
   refused-legal e h = go (legal_word names w) h
     where
-      go : (b : Bool) → cond b (Ok (word w)) (Err (untyped w)) ≡ Err e → b ≡ false
+      go : (b : Bool) → cond b (Ok (word w)) (Err NoType) ≡ Err e → b ≡ false
       go true h = cc
       go false h = refl
 

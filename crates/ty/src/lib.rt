@@ -8,6 +8,8 @@ ghost use Rattle.ty.specs.Words.{tag_step, dims_of, tag_of, load_of, unpack, lis
 ghost use Rattle.ty.specs.Steps.{digit_good};
 ghost use Rattle.ty.specs.Answers.{int_word, long_word, float_word, double_word, unknown_word, decode_word, element_word, array_word, maybe_word};
 
+use refusals::Refusal;
+
 // What one dimension adds to a word, one step of the tag, and one of the length of an Unknown's list.
 pub const DIMENSION: u64 = 1 << 56;
 
@@ -27,18 +29,9 @@ const OBJECT: u64 = 9;
 
 const ARRAY: u64 = 10;
 
-// The refusal of a word that is no type.
-pub const NO_TYPE: u64 = 7;
-
 // A type: dimensions (8 bits), tag (8 bits; 0 primitive, 1 class, 2 Unknown), payload (48 bits).
 #[derive(Clone, Copy)]
 pub struct TypeWord {
-    pub word: u64,
-}
-
-// A word from outside that is no type: refusal 7.
-#[derive(Clone, Copy, Debug, PartialEq, Eq)]
-pub struct NoType {
     pub word: u64,
 }
 
@@ -137,13 +130,13 @@ pub fn are_legal(words: &[u64], names: u64) -> bool
 }
 
 // The type of a word over that many names.
-pub fn decode(word: u64, names: u64) -> Result<TypeWord, NoType>
+pub fn decode(word: u64, names: u64) -> Result<TypeWord, Refusal>
     ensures { result ≡ decode_word names word }
 {
     if is_legal(word, names) {
         Ok(TypeWord { word })
     } else {
-        Err(NoType { word })
+        Err(Refusal::NoType)
     }
 }
 
