@@ -24,6 +24,7 @@ pub struct Numbers {
 }
 
 // What a frame says; a relation is 0 Yes, 1 No, 2 Unknown, a missing supertype all ones, a cast 0 or 1. Answers stand in a lent slice.
+// These stay numbers, since one function prints all three: an option or a bool would be turned into a number before it.
 #[derive(Clone, Copy)]
 pub enum Said {
     Accepted,

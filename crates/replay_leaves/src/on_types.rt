@@ -1,9 +1,9 @@
 // The functions on types. A word among the arguments is one over 1,024 names unless their number is given.
 ghost use Rattle.ty.specs.Words.{Legal};
 
-use std::cmp::Ordering;
 use replaying::answers::{MISSING, Verdict};
 use replaying::{answers, lists, parts};
+use std::cmp::Ordering;
 use ty::TypeWord;
 
 // Whether a type comes back from its rank.
@@ -55,13 +55,7 @@ pub(crate) fn order(a: &[u64], r: &[u64]) -> Verdict {
 
 // The order of two places of a list.
 fn order_of_places(i: usize, j: usize) -> u64 {
-    if i < j {
-        return 0;
-    }
-    if i == j {
-        return 1;
-    }
-    2
+    order_number(i.cmp(&j))
 }
 
 // How many members have the order to x that their places have to place i.

@@ -36,6 +36,7 @@ pub fn numbers<'a>(a: &'a [u64], start: usize, end: usize) -> &'a [u64]
 }
 
 // The bytes between two places, which are numbers of a case; none where they do not stand so.
+// It stays beside `numbers`: their places have different types, and with one function for both each caller would have to turn its own.
 pub fn bytes<'a>(a: &'a [u8], start: u64, end: u64) -> &'a [u8]
     ensures { result.now ≡ part_of a.now start end }
 {
