@@ -1,7 +1,7 @@
 // Method descriptors of ty.rs, read from bytes, and the strict reading of types and methods.
 #![tactic(auto)]
 
-ghost use Rattle.std.specs.Prelude.{◌≡◌, ◌+◌, ◌-◌, ◌≤◌, ◌<◌, eqb, length, set};
+ghost use Rattle.std.specs.Prelude.{◌≡◌, ◌+◌, ◌-◌, ◌≤◌, ◌<◌, length};
 ghost use Rattle.refusals.specs.Numbers.{number};
 ghost use Rattle.descriptor.specs.Read.{Refused, read, strict_name, strictly, read_strict};
 ghost use Rattle.descriptor.specs.Steps.{Placed};
