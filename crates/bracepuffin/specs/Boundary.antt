@@ -5,11 +5,9 @@ use Rattle.names.specs.Names.{LookedUp}
 use Rattle.writer.specs.Print.{Written, print_word, print_method_words, type_refusal, method_refusal, answer, output}
 use Rattle.descriptor.specs.declared.Base.{Base}
 use Rattle.descriptor.specs.declared.Base.TheVariants.{Simple, Class}
-use Rattle.descriptor.specs.declared.Read.{Read}
-use Rattle.descriptor.specs.declared.Read.TheVariants.{Found, Refused}
-use Rattle.methods.specs.declared.MethodRead.{MethodRead}
+use Rattle.descriptor.specs.Read.{Read, Found, Refused}
+use Rattle.methods.specs.Answers.{MethodRead, method_answer}
 use Rattle.methods.specs.Method.{Method}
-use Rattle.methods.specs.Answers.{method_answer}
 use Rattle.view.specs.View.{relation, relation_number, distance, number_of, ancestors, supertype, cast}
 use Rattle.lattice.specs.Lattice.{join, is_assignable}
 use Rattle.columns.specs.Given.{Given, given_by}

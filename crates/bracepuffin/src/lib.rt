@@ -2,9 +2,9 @@
 // and bytes. A refused result is its number, offset and byte, and zero in every other field.
 #![tactic(auto)]
 
-ghost use Rattle.std.specs.Prelude.{◌≡◌, true, false, length};
-ghost use Rattle.descriptor.specs.Read.{read_whole, read_strict};
-ghost use Rattle.methods.specs.Answers.{method_of, params_after};
+ghost use Rattle.std.specs.Prelude.{◌≡◌, true, false, length, Ok};
+ghost use Rattle.descriptor.specs.Read.{read, read_whole, read_strict};
+ghost use Rattle.methods.specs.Answers.{method_read, method_of, params_after};
 ghost use Rattle.names.specs.Names.{look_up, looked};
 ghost use Rattle.writer.specs.Print.{written};
 ghost use Rattle.columns.specs.Given.{given_by};
@@ -12,8 +12,8 @@ ghost use Rattle.questions.specs.Questions.{work_after};
 ghost use Rattle.bracepuffin.specs.Boundary.{type_found, type_answer, method_result, bp_method, found_answer, written_answer, WroteType, WroteMethod, relation_answer, number_answer, set_answer, check_answer, check_told, relation_told, distance_told, ancestors_told, supertype_told, cast_told, join_told, assignable_told, solved_answer, bp_solved, SolveLeaves};
 
 use columns::TableColumns;
-use descriptor::{Base, Read, read_whole};
-use methods::{MethodRead, read_method, read_strict};
+use descriptor::{Base, TypeAt, Unread, read_whole};
+use methods::{MethodAt, read_method, read_strict};
 use names::look_up;
 use questions::{Ancestors, Answer, Question, ancestors_of, ask};
 use refusals::Refusal;
@@ -142,19 +142,15 @@ fn type_found(dims: u64, base: Base) -> BpType
     }
 }
 
-fn type_answer(r: Read) -> BpType
-    ensures { result ≡ type_answer r }
+fn type_answer(r: Result<TypeAt, Unread>) -> BpType
+    ensures { result ≡ type_answer (read r) }
 {
     match r {
-        Read::Found {
-            dims,
-            base,
-            next: _,
-        } => type_found(dims, base),
-        Read::Refused { code, at, byte } => BpType {
-            refusal: code,
-            offset: at as u64,
-            byte,
+        Ok(t) => type_found(t.dims, t.base),
+        Err(unread) => BpType {
+            refusal: u64::from(unread.refusal),
+            offset: unread.at as u64,
+            byte: unread.byte,
             dims: 0,
             tag: 0,
             category: 0,
@@ -178,34 +174,40 @@ pub extern "C" fn bp_read_type_strict(d: &[u8]) -> BpType
     type_answer(read_strict(d))
 }
 
-fn method_answer(m: MethodRead) -> BpMethod
-    ensures { result ≡ bp_method m }
+fn method_found(m: MethodAt) -> BpMethod
+    ensures { result ≡ bp_method (method_read (Ok m)) }
 {
-    let base = m.base;
-    match base {
-        Base::Simple(k) => BpMethod {
-            refusal: m.refusal,
-            offset: m.offset as u64,
-            byte: m.byte,
-            count: m.count,
-            return_at: m.return_at as u64,
-            dims: m.dims,
+    let t = type_found(m.dims, m.base);
+    BpMethod {
+        refusal: 0,
+        offset: 0,
+        byte: 0,
+        count: m.count,
+        return_at: m.return_at as u64,
+        dims: t.dims,
+        tag: t.tag,
+        category: t.category,
+        name_at: t.name_at,
+        name_len: t.name_len,
+    }
+}
+
+fn method_answer(m: Result<MethodAt, Unread>) -> BpMethod
+    ensures { result ≡ bp_method (method_read m) }
+{
+    match m {
+        Ok(method) => method_found(method),
+        Err(unread) => BpMethod {
+            refusal: u64::from(unread.refusal),
+            offset: unread.at as u64,
+            byte: unread.byte,
+            count: 0,
+            return_at: 0,
+            dims: 0,
             tag: 0,
-            category: k,
+            category: 0,
             name_at: 0,
             name_len: 0,
-        },
-        Base::Class(at, n) => BpMethod {
-            refusal: m.refusal,
-            offset: m.offset as u64,
-            byte: m.byte,
-            count: m.count,
-            return_at: m.return_at as u64,
-            dims: m.dims,
-            tag: 1,
-            category: 0,
-            name_at: at as u64,
-            name_len: n as u64,
         },
     }
 }

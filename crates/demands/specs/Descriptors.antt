@@ -7,9 +7,7 @@ use Rattle.std.proofs.Math.Option.{some}
 use Rattle.std.proofs.Math.Seq.{take-append_seam}
 use Rattle.descriptor.specs.declared.Base.{Base}
 use Rattle.descriptor.specs.declared.Base.TheVariants.{Simple, Class}
-use Rattle.descriptor.specs.declared.Read.{Read}
-use Rattle.descriptor.specs.declared.Read.TheVariants.{Found, Refused}
-use Rattle.descriptor.specs.Read.{pick_r, read_whole, read_strict}
+use Rattle.descriptor.specs.Read.{Read, Found, Refused, pick_r, read_whole, read_strict}
 use Rattle.methods.specs.Method.{Method, Whole, Broken, pick_m, read_method, strict_method, read_method_strict}
 use Rattle.methods.specs.Answers.{found_method, refused_method, method_answer, params_after, method_of}
 use Rattle.jvms.specs.Jvms.{JavaType, dimensions, AnyName, ClassName, ReturnDescriptor, Parameter, Signature, MethodDescriptor}

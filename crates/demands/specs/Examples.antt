@@ -11,9 +11,7 @@ use Rattle.sorted.specs.Sorted.{insert_sorted, put}
 use Rattle.utf8.specs.Utf8.{table, within, matches, first_match, sequence, scan, valid_prefix}
 use Rattle.ty.specs.Types.{ArgType, Primitive, Object, Unknown, Boolean, Short, Char, Int, compare, categories}
 use Rattle.descriptor.specs.declared.Base.TheVariants.{Simple}
-use Rattle.descriptor.specs.declared.Read.{Read}
-use Rattle.descriptor.specs.declared.Read.TheVariants.{Found, Refused}
-use Rattle.descriptor.specs.Read.{letter_of, index_of, name_read, read_name, read_type, finish, read_whole}
+use Rattle.descriptor.specs.Read.{Read, Found, Refused, letter_of, index_of, name_read, read_name, read_type, finish, read_whole}
 use Rattle.methods.specs.Method.{Method, Broken, read_params, returns, after_params, read_method}
 use Rattle.view.specs.declared.Relation.{Relation}
 use Rattle.view.specs.declared.Relation.TheVariants.{No, Unknown as Incomplete}

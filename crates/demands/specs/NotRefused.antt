@@ -12,9 +12,7 @@ use Rattle.checks.specs.Checks.{first_refusal}
 use Rattle.names.specs.Table.{Checked}
 use Rattle.descriptor.specs.declared.Base.{Base}
 use Rattle.descriptor.specs.declared.Base.TheVariants.{Simple, Class}
-use Rattle.descriptor.specs.declared.Read.{Read}
-use Rattle.descriptor.specs.declared.Read.TheVariants.{Found, Refused}
-use Rattle.descriptor.specs.Read.{read_whole, read_strict}
+use Rattle.descriptor.specs.Read.{Read, Found, Refused, read_whole, read_strict}
 use Rattle.methods.specs.Method.{Method, Whole, Broken, pick_m, read_method, read_method_strict}
 use Rattle.methods.specs.Answers.{found_method, refused_method, method_answer, method_of}
 use Rattle.writer.specs.Print.{print_word, print_method_words}

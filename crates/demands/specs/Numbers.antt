@@ -6,9 +6,7 @@ use Rattle.std.proofs.lemmas.Bool.{eqb-false}
 use Rattle.utf8.specs.Utf8.{valid_prefix}
 use Rattle.descriptor.specs.declared.Base.{Base}
 use Rattle.descriptor.specs.declared.Base.TheVariants.{Simple, Class}
-use Rattle.descriptor.specs.declared.Read.{Read}
-use Rattle.descriptor.specs.declared.Read.TheVariants.{Found, Refused}
-use Rattle.descriptor.specs.Read.{pick_r, letter_of, index_of, name_read, read_name, read_type, finish, read_whole, strict_name, strictly, read_strict}
+use Rattle.descriptor.specs.Read.{Read, Found, Refused, pick_r, letter_of, index_of, name_read, read_name, read_type, finish, read_whole, strict_name, strictly, read_strict}
 use Rattle.methods.specs.Method.{Params, Listed, Stopped, Method, Whole, Broken, pick_p, pick_m, before, onward, read_params, returns, after_params, read_method, strict_params, strict_method, read_method_strict}
 use Rattle.jvms.specs.Jvms.{AnyName, Parameter, Parameters, Parameters.none, Parameters.more}
 use Rattle.jvms.specs.Prefix.{Stop, sound}

@@ -2,9 +2,7 @@
 use Rattle.std.specs.Prelude.{◌≡◌, refl, Bool, true, false, List, [], ◌∷◌, ℕ, zero, suc, ◌+◌, ◌-◌, ◌≤◌, eqb, leb, length, take, drop, get_or}
 use Rattle.std.proofs.Common.{arith}
 use Rattle.descriptor.specs.declared.Base.TheVariants.{Simple, Class}
-use Rattle.descriptor.specs.declared.Read.{Read}
-use Rattle.descriptor.specs.declared.Read.TheVariants.{Found, Refused}
-use Rattle.descriptor.specs.Read.{pick_r, read_type, finish, read_whole, strict_name, strictly, read_strict}
+use Rattle.descriptor.specs.Read.{Read, Found, Refused, pick_r, read_type, finish, read_whole, strict_name, strictly, read_strict}
 use Rattle.methods.specs.Method.{Params, Listed, Stopped, Method, Whole, Broken, pick_p, pick_m, before, onward, read_params, returns, after_params, read_method, strict_params, strict_method, read_method_strict}
 use Rattle.descriptor.specs.Laws.{Tells, read-tells, finish-tells}
 

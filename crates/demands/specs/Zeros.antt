@@ -7,9 +7,7 @@ use Rattle.text.specs.Text.{ascii}
 use Rattle.utf8.specs.Utf8.{table, within, matches, first_match, sequence, scan, valid_prefix}
 use Rattle.names.specs.Names.{refused_or, found, check_names, lookup, look_up}
 use Rattle.descriptor.specs.declared.Base.TheVariants.{Simple, Class}
-use Rattle.descriptor.specs.declared.Read.{Read}
-use Rattle.descriptor.specs.declared.Read.TheVariants.{Found, Refused}
-use Rattle.descriptor.specs.Read.{letter_of, index_of, name_read, read_name, read_type, finish, read_whole, read_strict}
+use Rattle.descriptor.specs.Read.{Read, Found, Refused, letter_of, index_of, name_read, read_name, read_type, finish, read_whole, read_strict}
 use Rattle.methods.specs.Method.{Method, Whole, Broken, pick_m, read_params, returns, after_params, read_method, read_method_strict}
 use Rattle.methods.specs.Answers.{method_answer, method_of}
 use Rattle.writer.specs.Print.{answer}

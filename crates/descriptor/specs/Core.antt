@@ -4,10 +4,8 @@ use Rattle.std.proofs.Common.{sym, ap, ap₂, subst, ◌∙◌, arith, ne_eqb, l
 use Rattle.std.proofs.Math.Seq.{take-length}
 use Rattle.std.proofs.lemmas.Bool.{lt-leb}
 use Rattle.descriptor.specs.declared.Base.TheVariants.{Simple, Class}
-use Rattle.descriptor.specs.declared.Read.{Read}
-use Rattle.descriptor.specs.declared.Read.TheVariants.{Found, Refused}
+use Rattle.descriptor.specs.Read.{Read, Found, Refused, pick_r, letter_of, read_name, read_type, finish}
 use Rattle.descriptor.specs.declared.Core.{Core}
-use Rattle.descriptor.specs.Read.{pick_r, letter_of, read_name, read_type, finish}
 use Rattle.descriptor.specs.Steps.{read-end, read-at}
 use Rattle.descriptor.specs.Laws.{byte_if, Tells, read-tells, finish-tells}
 
@@ -31,6 +29,8 @@ pub record Sound (s : List ℕ) (at : ℕ) (c : Core) : Type 0 where
   pub inside : c.what ≡ 12 → c.at < length s
   pub name : 256 ≤ c.what → 9 ≤ c.what % 256 → at + c.what / 1024 + 2 ≤ c.at
   pub within : 256 ≤ c.what → c.at ≤ length s
+  pub least : c.what < 256 → 11 ≤ c.what
+  pub most : c.what < 256 → c.what ≤ 24
 
 -- what a core tells of the type read from `at` on: all of it
 pub record CoreTells (s : List ℕ) (at : ℕ) (c : Core) (r : Read) : Type 0 where
@@ -46,7 +46,7 @@ module _ (s : List ℕ) (at : ℕ) where
       let i : w % 256 ≡ k = omega arith in
       record {
         whole = rw (le-ltb w 256 (omega arith), lt-ltb (w % 256) 9 (omega arith), q, i);
-        sound = record { inside = λ e. absurd (omega arith); name = λ l n. absurd (omega arith); within = λ l. h.within };
+        sound = record { inside = λ e. absurd (omega arith); name = λ l n. absurd (omega arith); within = λ l. h.within; least = λ l. absurd (omega arith); most = λ l. absurd (omega arith) };
       }
   told (Found d (Class p n) next) h =
       let w = 265 + 1024 * d in
@@ -57,12 +57,12 @@ module _ (s : List ℕ) (at : ℕ) where
       let g : next - p - 1 ≡ n = omega arith in
       record {
         whole = rw (le-ltb w 256 (omega arith), le-ltb (w % 256) 9 (omega arith), q, f, g);
-        sound = record { inside = λ e. absurd (omega arith); name = λ l n. omega arith; within = λ l. h.within };
+        sound = record { inside = λ e. absurd (omega arith); name = λ l n. omega arith; within = λ l. h.within; least = λ l. absurd (omega arith); most = λ l. absurd (omega arith) };
       }
   told (Refused code o byte) h =
       record {
         whole = rw (lt-ltb code 256 (omega arith)) (ap (Refused code o) h.names);
-        sound = record { inside = h.inside; name = λ l n. absurd (omega arith); within = λ l. absurd (omega arith) };
+        sound = record { inside = h.inside; name = λ l n. absurd (omega arith); within = λ l. absurd (omega arith); least = λ l. h.least; most = λ l. h.most };
       }
 
   -- A TYPE IS ALL IN ITS CORE

@@ -8,9 +8,7 @@ use Rattle.utf8.specs.Utf8.{valid_prefix, well_formed}
 use Rattle.utf8.specs.Laws.{prefix-le}
 use Rattle.descriptor.specs.declared.Base.{Base}
 use Rattle.descriptor.specs.declared.Base.TheVariants.{Simple, Class}
-use Rattle.descriptor.specs.declared.Read.{Read}
-use Rattle.descriptor.specs.declared.Read.TheVariants.{Found, Refused}
-use Rattle.descriptor.specs.Read.{pick_r, letter_of, index_of, name_read, read_name, choose, read_type, finish, strict_name, strictly}
+use Rattle.descriptor.specs.Read.{Read, Found, Refused, pick_r, letter_of, index_of, name_read, read_name, choose, read_type, finish, strict_name, strictly}
 use Rattle.descriptor.specs.Steps.{read-end, read-at, Placed}
 
 -- the class name of n bytes at p, in a type that begins at `at` and ends before `next`

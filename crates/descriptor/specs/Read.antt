@@ -1,11 +1,37 @@
 -- DescriptorParser::ty of ty.rs, by recursion on the bytes: a type descriptor is read, or refused with an offset.
 -- Added to the Rust: refusal 18 at the 256th '[', and strict reading (24).
-use Rattle.std.specs.Prelude.{Bool, true, false, not, ◌&&◌, List, [], ◌∷◌, ℕ, suc, ◌+◌, ◌-◌, eqb, leb, ltb, length, take, drop, get_or}
+use Rattle.std.specs.Prelude.{◌≡◌, Bool, true, false, not, ◌&&◌, List, [], ◌∷◌, ℕ, suc, ◌+◌, ◌-◌, eqb, leb, ltb, length, take, drop, get_or, Result, Ok, Err}
 use Rattle.text.specs.Text.{byte}
 use Rattle.utf8.specs.Utf8.{valid_prefix}
 use Rattle.descriptor.specs.declared.Base.TheVariants.{Simple, Class}
-use Rattle.descriptor.specs.declared.Read.{Read}
-use Rattle.descriptor.specs.declared.Read.TheVariants.{Found, Refused}
+use Rattle.descriptor.specs.declared.Base.{Base}
+use Rattle.descriptor.specs.declared.TypeAt.{TypeAt}
+use Rattle.descriptor.specs.declared.Unread.{Unread}
+use Rattle.refusals.specs.Numbers.{number, number-injective}
+
+-- a type of some dimensions, below them a base, and the offset after it; or a refusal's number with its offset and byte
+pub data Read : Type 0 where
+  Found : ℕ → Base → ℕ → Read
+  Refused : ℕ → ℕ → ℕ → Read
+
+-- what comes back of a reader, so written
+abbrev pub read : Result TypeAt Unread → Read
+read (Ok t) = Found t.dims t.base t.next
+read (Err e) = Refused (number e.refusal) e.at e.byte
+
+pub read-injective : (x y : Result TypeAt Unread) → read x ≡ read y → x ≡ y
+read-injective (Ok t) (Ok u) e =
+    let d : t.dims ≡ u.dims = cc in
+    let b : t.base ≡ u.base = cc in
+    let n : t.next ≡ u.next = cc in
+    λ i. Ok (record { dims = d i; base = b i; next = n i })
+read-injective (Ok t) (Err f) e = cc
+read-injective (Err f) (Ok t) e = cc
+read-injective (Err f) (Err g) e =
+    let r = number-injective f.refusal g.refusal (cc) in
+    let a : f.at ≡ g.at = cc in
+    let b : f.byte ≡ g.byte = cc in
+    λ i. Err (record { refusal = r i; at = a i; byte = b i })
 
 abbrev pub pick_r : Bool → Read → Read → Read
 pick_r true a b = a

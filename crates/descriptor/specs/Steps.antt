@@ -11,9 +11,7 @@ use Rattle.std.proofs.Math.ListN.{length, drop, get_or, length-drop}
 use borrow.Author.Tests.{eq-eqb, ne_eqb, le-leb, lt-leb, lt-ltb, le-ltb}
 use Rattle.utf8.specs.Utf8.{valid_prefix}
 use Rattle.descriptor.specs.declared.Base.TheVariants.{Simple, Class}
-use Rattle.descriptor.specs.declared.Read.{Read}
-use Rattle.descriptor.specs.declared.Read.TheVariants.{Found, Refused}
-use Rattle.descriptor.specs.Read.{letter_of, index_of, name_read, read_name, choose, read_type}
+use Rattle.descriptor.specs.Read.{Read, Found, Refused, letter_of, index_of, name_read, read_name, choose, read_type}
 
 -- ---- the first ';'
 

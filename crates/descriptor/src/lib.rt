@@ -3,9 +3,11 @@
 
 ghost use Rattle.std.specs.Prelude.{◌≡◌, ◌==◌, true, ◌+◌, ◌≤◌, ◌<◌, ltb, length, drop, position};
 ghost use Rattle.text.specs.Text.{byte};
-ghost use Rattle.descriptor.specs.declared.Read.TheVariants.{Refused};
-ghost use Rattle.descriptor.specs.Read.{letter_of, index_of, read_name, read_type, finish, read_whole};
+ghost use Rattle.refusals.specs.Numbers.{number};
+ghost use Rattle.descriptor.specs.Read.{read, letter_of, index_of, read_name, read_type, finish, read_whole};
 ghost use Rattle.descriptor.specs.Core.{core_of, un_core, flat_of, ended_of, Sound};
+
+use refusals::Refusal;
 
 // Refusals: the errors of ty.rs in source order, and the limit of dimensions.
 const UNEXPECTED_END: u64 = 11;
@@ -36,25 +38,62 @@ pub enum Base {
     Class(usize, usize),
 }
 
-// A type and the offset after it; or a refusal with its offset and, for 12, the byte there.
+// A type and the offset after it.
 #[derive(Clone, Copy)]
-pub enum Read {
-    Found { dims: u64, base: Base, next: usize },
-    Refused { code: u64, at: usize, byte: u64 },
+pub struct TypeAt {
+    pub dims: u64,
+    pub base: Base,
+    pub next: usize,
+}
+
+// What is refused, its offset and, for UnexpectedByte, the byte there.
+#[derive(Clone, Copy)]
+pub struct Unread {
+    pub refusal: Refusal,
+    pub at: usize,
+    pub byte: u64,
 }
 
 // The same in two words, cheaper to hand back at each bracket: a refusal's code and offset; or the type without its name, and the
-// offset after it. The rest of a Read follows from the bytes.
+// offset after it. The rest follows from the bytes.
 #[derive(Clone, Copy)]
 struct Core {
     pub what: u64,
     pub at: usize,
 }
 
-fn refuse(code: u64, at: usize, byte: u64) -> Read
-    ensures { result ≡ Refused code at byte }
+// The refusal of a number, which is all that a core has of it: those of descriptors are the last ones.
+fn numbered(code: u64) -> Refusal
+    requires { (11 ≤ code) × (code ≤ 24) }
+    ensures { number result ≡ code }
 {
-    Read::Refused { code, at, byte }
+    match code {
+        11 => Refusal::UnexpectedEnd,
+        12 => Refusal::UnexpectedByte,
+        13 => Refusal::VoidNotAllowed,
+        14 => Refusal::EmptyObject,
+        15 => Refusal::TrailingInput,
+        16 => Refusal::MissingMethodStart,
+        17 => Refusal::MissingMethodEnd,
+        18 => Refusal::TooManyDimensions,
+        19 => Refusal::TooManyParameters,
+        20 => Refusal::Deep,
+        21 => Refusal::Bounds,
+        22 => Refusal::Short,
+        23 => Refusal::Absent,
+        _ => Refusal::Strict,
+    }
+}
+
+fn refuse(code: u64, at: usize, byte: u64) -> Unread
+    requires { (11 ≤ code) × (code ≤ 24) }
+    ensures { (number result.refusal ≡ code) × (result.at ≡ at) × (result.byte ≡ byte) }
+{
+    Unread {
+        refusal: numbered(code),
+        at,
+        byte,
+    }
 }
 
 // ---- a type
@@ -219,39 +258,39 @@ fn read_core(s: &[u8], at: usize, void: bool, dims: u64) -> Core
 }
 
 // The type that a core stands for, read from `at` on.
-fn read_of(s: &[u8], at: usize, c: Core) -> Read
+fn read_of(s: &[u8], at: usize, c: Core) -> Result<TypeAt, Unread>
     requires { Sound s.now at c }
-    ensures { result ≡ un_core s.now at c }
+    ensures { read result ≡ un_core s.now at c }
 {
     let what = c.what;
     let next = c.at;
     if what == UNEXPECTED_BYTE {
-        refuse(UNEXPECTED_BYTE, next, u64::from(s[next]))
+        Err(refuse(UNEXPECTED_BYTE, next, u64::from(s[next])))
     } else if what < FOUND {
-        refuse(what, next, 0)
+        Err(refuse(what, next, 0))
     } else {
         let found = what / DIMENSION;
         let k = what % FOUND;
         if k < CLASS {
-            Read::Found {
+            Ok(TypeAt {
                 dims: found,
                 base: Base::Simple(k),
                 next,
-            }
+            })
         } else {
             let from = at + found as usize + 1;
-            Read::Found {
+            Ok(TypeAt {
                 dims: found,
                 base: Base::Class(from, next - from - 1),
                 next,
-            }
+            })
         }
     }
 }
 
 // The type at `at`.
-pub fn read_type(s: &[u8], at: usize, void: bool) -> Read
-    ensures { result ≡ read_type (drop at s.now) at void 0 }
+pub fn read_type(s: &[u8], at: usize, void: bool) -> Result<TypeAt, Unread>
+    ensures { read result ≡ read_type (drop at s.now) at void 0 }
 {
     let c = read_core(s, at, void, 0);
     read_of(s, at, c)
@@ -274,8 +313,8 @@ fn ended(s: &[u8], c: Core) -> Core
 }
 
 // The type from `at` to the end of the bytes, Void allowed.
-pub fn read_last(s: &[u8], at: usize) -> Read
-    ensures { result ≡ finish s.now (read_type (drop at s.now) at true 0) }
+pub fn read_last(s: &[u8], at: usize) -> Result<TypeAt, Unread>
+    ensures { read result ≡ finish s.now (read_type (drop at s.now) at true 0) }
 {
     let c = read_core(s, at, true, 0);
     let e = ended(s, c);
@@ -283,8 +322,8 @@ pub fn read_last(s: &[u8], at: usize) -> Read
 }
 
 // ArgType::from_str.
-pub fn read_whole(s: &[u8]) -> Read
-    ensures { result ≡ read_whole s.now }
+pub fn read_whole(s: &[u8]) -> Result<TypeAt, Unread>
+    ensures { read result ≡ read_whole s.now }
 {
     read_last(s, 0)
 }

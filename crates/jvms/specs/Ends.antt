@@ -6,9 +6,7 @@ use Rattle.std.proofs.Math.Option.{some, none}
 use Rattle.std.proofs.Math.Seq.{take-append_seam}
 use Rattle.descriptor.specs.declared.Base.{Base}
 use Rattle.descriptor.specs.declared.Base.TheVariants.{Simple, Class}
-use Rattle.descriptor.specs.declared.Read.{Read}
-use Rattle.descriptor.specs.declared.Read.TheVariants.{Found, Refused}
-use Rattle.descriptor.specs.Read.{pick_r, read_type, finish, strict_name, strictly}
+use Rattle.descriptor.specs.Read.{Read, Found, Refused, pick_r, read_type, finish, strict_name, strictly}
 use Rattle.jvms.specs.Jvms.{JavaType, Object, Array, dimensions, AnyName, FieldType, FieldType.base, FieldType.object, FieldType.array, ReturnDescriptor, ReturnDescriptor.field, ReturnDescriptor.void}
 use Rattle.jvms.specs.Meaning.{type_at, type_read, placed}
 use Rattle.jvms.specs.Prefix.{prefix, prefix-void, refused, Stop, sound}

@@ -1,8 +1,7 @@
 -- The errors of ty.rs by their names, and the refusals that they are: DescriptorParseError's variants in source order are 11 to 17.
 -- Laws and examples of what is refused speak in these words.
 use Rattle.std.specs.Prelude.{ℕ}
-use Rattle.descriptor.specs.declared.Read.{Read}
-use Rattle.descriptor.specs.declared.Read.TheVariants.{Refused}
+use Rattle.descriptor.specs.Read.{Read, Refused}
 use Rattle.methods.specs.Method.{Method, Broken}
 
 -- with an offset, and a byte where there is one

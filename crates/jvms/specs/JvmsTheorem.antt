@@ -4,8 +4,7 @@ use Rattle.std.specs.Prelude.{◌≡◌, refl, List, [], ◌∷◌, ◌++◌, �
 use Rattle.std.proofs.Common.{sym, ap, ◌∙◌, subst, append-nil, arith, length-append}
 use mathlib.Core.List.Memᴰ
 use Rattle.std.proofs.Math.Option.{some}
-use Rattle.descriptor.specs.declared.Read.TheVariants.{Found}
-use Rattle.descriptor.specs.Read.{read_whole, read_strict}
+use Rattle.descriptor.specs.Read.{Found, read_whole, read_strict}
 use Rattle.methods.specs.Method.{Method, Whole, Broken, returns, after_params, read_method, strict_method, read_method_strict}
 use Rattle.jvms.specs.Jvms.{JavaType, dimensions, AnyName, ClassName, ReturnDescriptor, Signature, MethodDescriptor, MethodDescriptor.method}
 use Rattle.jvms.specs.Names.{class-name}

@@ -7,9 +7,7 @@ use Rattle.std.proofs.Math.Option.{some}
 use Rattle.std.proofs.Math.Seq.{take-append_seam, drop-append_seam}
 use Rattle.std.proofs.lemmas.Bool.{lt-leb}
 use Rattle.descriptor.specs.declared.Base.{Base}
-use Rattle.descriptor.specs.declared.Read.{Read}
-use Rattle.descriptor.specs.declared.Read.TheVariants.{Found, Refused}
-use Rattle.descriptor.specs.Read.{read_type}
+use Rattle.descriptor.specs.Read.{Read, Found, Refused, read_type}
 use Rattle.methods.specs.Method.{Params, Listed, Stopped, Method, Whole, Broken, pick_p, before, onward, read_params, strict_params}
 use Rattle.jvms.specs.Jvms.{JavaType, dimensions, AnyName, FieldType, Parameter, Parameters, Parameters.none, Parameters.more}
 use Rattle.jvms.specs.Meaning.{type_at, type_read, up_to, parameters_at, placed, starts, ends}

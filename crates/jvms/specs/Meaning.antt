@@ -4,9 +4,7 @@ use Rattle.std.proofs.Math.Option.{Option, some, none}
 use Rattle.std.specs.Prelude.{false, ℕ, zero, suc, ◌+◌, ◌-◌, ◌≤◌, length, take, drop}
 use Rattle.descriptor.specs.declared.Base.{Base}
 use Rattle.descriptor.specs.declared.Base.TheVariants.{Simple, Class}
-use Rattle.descriptor.specs.declared.Read.{Read}
-use Rattle.descriptor.specs.declared.Read.TheVariants.{Found, Refused}
-use Rattle.descriptor.specs.Read.{read_type}
+use Rattle.descriptor.specs.Read.{Read, Found, Refused, read_type}
 use Rattle.methods.specs.Method.{Method, Whole, Broken}
 use Rattle.jvms.specs.Jvms.{JavaType, Primitive, Object, Array, dimensions, Parameter, Signature}
 

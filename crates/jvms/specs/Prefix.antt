@@ -9,9 +9,7 @@ use Rattle.utf8.specs.Utf8.{valid_prefix, well_formed, WellFormed}
 use Rattle.utf8.specs.Laws.{well_formed-decides, prefix-le}
 use Rattle.descriptor.specs.declared.Base.{Base}
 use Rattle.descriptor.specs.declared.Base.TheVariants.{Simple, Class}
-use Rattle.descriptor.specs.declared.Read.{Read}
-use Rattle.descriptor.specs.declared.Read.TheVariants.{Found, Refused}
-use Rattle.descriptor.specs.Read.{pick_r, letter_of, index_of, name_read, read_name, choose, read_type}
+use Rattle.descriptor.specs.Read.{Read, Found, Refused, pick_r, letter_of, index_of, name_read, read_name, choose, read_type}
 use Rattle.jvms.specs.Jvms.{JavaType, Primitive, Object, Array, dimensions, AnyName, BaseType, B, C, D, F, I, BaseType.J, S, Z, FieldType, FieldType.base, FieldType.object, FieldType.array, ReturnDescriptor, ReturnDescriptor.field, ReturnDescriptor.void}
 use Rattle.jvms.specs.Names.{index-seam, Cut, index-cut}
 use Rattle.jvms.specs.Meaning.{placed}

@@ -4,8 +4,7 @@ use Rattle.text.specs.Text.{ascii, byte}
 use Rattle.ty.specs.Types.{Void, Boolean, Byte, Short, Char, Int, Long, Float, Double}
 use Rattle.utf8.specs.Utf8.{table, within, matches, first_match, sequence, scan, valid_prefix}
 use Rattle.descriptor.specs.declared.Base.TheVariants.{Simple, Class}
-use Rattle.descriptor.specs.declared.Read.TheVariants.{Found, Refused}
-use Rattle.descriptor.specs.Read.{letter_of, index_of, name_read, read_name, read_type, finish, read_whole, parts_from, strict_name, strictly, read_strict}
+use Rattle.descriptor.specs.Read.{Found, Refused, letter_of, index_of, name_read, read_name, read_type, finish, read_whole, parts_from, strict_name, strictly, read_strict}
 use Rattle.methods.specs.Method.{Whole, Broken, read_params, returns, after_params, read_method, strict_params, strict_method, read_method_strict}
 use Rattle.methods.specs.Answers.{method_of, method_answer, params_after}
 use Rattle.jvms.specs.Errors.{UnexpectedEnd, UnexpectedByte, VoidNotAllowed, EmptyObject, TrailingInput, MissingMethodStart, MissingMethodEnd, TooDeep, TooMany, NotStrict, type_error, method_error}

@@ -12,10 +12,8 @@ use Rattle.std.proofs.Math.Seq.{take-append_seam}
 use borrow.Author.Tests.{eq-eqb, ne_eqb, le-leb, lt-leb, lt-ltb}
 use Rattle.text.specs.Text.{ascii, byte}
 use Rattle.utf8.specs.Utf8.{valid_prefix}
-use Rattle.descriptor.specs.declared.Read.{Read}
-use Rattle.descriptor.specs.declared.Read.TheVariants.{Found, Refused}
+use Rattle.descriptor.specs.Read.{Read, Found, Refused, pick_r, letter_of, index_of, name_read, read_name, read_type, finish, read_whole, strict_name, strictly, read_strict}
 use Rattle.descriptor.specs.declared.Base.TheVariants.{Class}
-use Rattle.descriptor.specs.Read.{pick_r, letter_of, index_of, name_read, read_name, read_type, finish, read_whole, strict_name, strictly, read_strict}
 use Rattle.methods.specs.Method.{Stopped, Broken, read_params, after_params, read_method}
 use Rattle.jvms.specs.Jvms.{JavaType, dimensions, AnyName, ClassName, ReturnDescriptor, ReturnDescriptor.field, ReturnDescriptor.void, Parameter, Parameters, Parameters.none, Parameters.more}
 use Rattle.jvms.specs.Names.{index-seam, class-name}

@@ -3,9 +3,7 @@ use Rattle.std.specs.Prelude.{◌≡◌, refl, Bool, true, false, List, [], ◌�
 use Rattle.std.proofs.Common.{sym, ap, ◌∙◌, subst, append-nil, arith, length-append, eqb-true}
 use Rattle.std.proofs.Math.Option.{some}
 use Rattle.descriptor.specs.declared.Base.{Base}
-use Rattle.descriptor.specs.declared.Read.{Read}
-use Rattle.descriptor.specs.declared.Read.TheVariants.{Found, Refused}
-use Rattle.descriptor.specs.Read.{read_type, finish}
+use Rattle.descriptor.specs.Read.{Read, Found, Refused, read_type, finish}
 use Rattle.methods.specs.Method.{Params, Listed, Stopped, Method, Whole, Broken, pick_m, read_params, returns, after_params, read_method, strict_method}
 use Rattle.jvms.specs.Jvms.{JavaType, dimensions, AnyName, ReturnDescriptor, Parameter, Parameters, Signature, MethodDescriptor, MethodDescriptor.method}
 use Rattle.jvms.specs.Meaning.{type_at, type_read, method_read, Limits, placed, ends, answer}

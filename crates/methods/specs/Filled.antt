@@ -7,12 +7,9 @@ use mathlib.Core.List.{List, [], ◌∷◌, ◌++◌, append_assoc}
 use Rattle.std.proofs.lemmas.List.{set_at}
 use Rattle.methods.specs.Strict.{first_bad, closing}
 use Rattle.descriptor.specs.declared.Base.{Base}
-use Rattle.descriptor.specs.declared.Read.{Read}
-use Rattle.descriptor.specs.declared.Read.TheVariants.{Found, Refused}
-use Rattle.methods.specs.declared.MethodRead.{MethodRead}
-use Rattle.descriptor.specs.Read.{read_type, finish}
+use Rattle.descriptor.specs.Read.{Read, Found, Refused, read_type, finish}
+use Rattle.methods.specs.Answers.{MethodRead, found_method, refused_method, answer_of, method_answer, params_after, method_of}
 use Rattle.methods.specs.Method.{Method, Whole, Broken, returns}
-use Rattle.methods.specs.Answers.{found_method, refused_method, answer_of, method_answer, params_after, method_of}
 use Rattle.methods.specs.Params.{judged_all, method_from, ending, also, closing-judged, Proper, proper-from, method-end, method-close, method-full, method-refused, method-more, method-short, method-unopened, method-opened}
 
 -- ---- the answer and the slice, after `count` parameters

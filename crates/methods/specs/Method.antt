@@ -2,9 +2,7 @@
 -- Added to the Rust: refusal 19 at the 256th parameter, and strict reading (24).
 use Rattle.std.specs.Prelude.{Bool, true, false, List, [], ◌∷◌, ℕ, zero, suc, ◌+◌, eqb, leb, length, drop, get_or}
 use Rattle.text.specs.Text.{byte}
-use Rattle.descriptor.specs.declared.Read.{Read}
-use Rattle.descriptor.specs.declared.Read.TheVariants.{Found, Refused}
-use Rattle.descriptor.specs.Read.{read_type, finish, strictly}
+use Rattle.descriptor.specs.Read.{Read, Found, Refused, read_type, finish, strictly}
 
 -- the parameters' offsets and the offset of the ')'; or a refusal
 pub data Params : Type 0 where

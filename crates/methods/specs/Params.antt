@@ -12,9 +12,7 @@ use borrow.Author.Tests.{eq-eqb, ne_eqb, le-leb, lt-leb, le-ltb, lt-ltb, eqb-tru
 use Rattle.methods.specs.Strict.{first_bad, closing}
 use Rattle.descriptor.specs.declared.Base.{Base}
 use Rattle.descriptor.specs.declared.Base.TheVariants.{Simple, Class}
-use Rattle.descriptor.specs.declared.Read.{Read}
-use Rattle.descriptor.specs.declared.Read.TheVariants.{Found, Refused}
-use Rattle.descriptor.specs.Read.{pick_r, read_type, finish, strict_name, strictly}
+use Rattle.descriptor.specs.Read.{Read, Found, Refused, pick_r, read_type, finish, strict_name, strictly}
 use Rattle.methods.specs.Method.{Params, Listed, Stopped, Method, Whole, Broken, pick_p, pick_m, before, onward, read_params, returns, after_params, read_method, strict_params, strict_method, read_method_strict}
 use Rattle.methods.specs.Answers.{method_of}
 use Rattle.descriptor.specs.Laws.{Tells, read-tells, finish-tells, strictly-tells}

@@ -6,9 +6,7 @@ use native.Mathlib.Omega.{arith}
 use borrow.Author.Tests.{eq-eqb, ne_eqb}
 use Rattle.descriptor.specs.declared.Base.{Base}
 use Rattle.descriptor.specs.declared.Base.TheVariants.{Simple, Class}
-use Rattle.descriptor.specs.declared.Read.{Read}
-use Rattle.descriptor.specs.declared.Read.TheVariants.{Found, Refused}
-use Rattle.descriptor.specs.Read.{pick_r, parts_from, strict_name, strictly}
+use Rattle.descriptor.specs.Read.{Read, Found, Refused, pick_r, parts_from, strict_name, strictly}
 use Rattle.descriptor.specs.Steps.{Placed}
 
 -- ---- strict names

@@ -14,6 +14,7 @@ use denote.Triple.Clauses.{AtExit}
 use Prim.Native.Nat.{ℕ}
 use mathlib.Core.List.{List}
 use Rattle.refusals.specs.Numbers.{code-injective}
+use Rattle.descriptor.specs.Read.{read-injective}
 use Rattle.parser.specs.declared.DescriptorParser.{DescriptorParser}
 use Rattle.parser.specs.contracts.new as new
 use Rattle.parser.specs.contracts.moved as moved
@@ -50,7 +51,7 @@ module _ {M : Type 1} {𝓤 : Ura M} (𝓛 : Logic 𝓤) (mem : Memory → SProp
 
   pub ty-one : (a : Args ty.signature κs) (r₁ r₂ : Res ty.signature κs) (x₁ x₂ : AtExit ty.ended κs)
       → ent 𝓤 (conj 𝓤 ((ty.clauses 𝓛 mem run κs a).ensures tt r₁ x₁) ((ty.clauses 𝓛 mem run κs a).ensures tt r₂ x₂)) (fact 𝓤 (r₁ ≡ r₂))
-  ty-one a r₁ r₂ x₁ x₂ = both 𝓤 _ _ r₁ r₂ (λ p q. p ∙ sym q)
+  ty-one a r₁ r₂ x₁ x₂ = both 𝓤 _ _ r₁ r₂ (λ p q. read-injective r₁ r₂ (p ∙ sym q))
 
   pub finish-one : (a : Args finish.signature κs) (r₁ r₂ : Res finish.signature κs) (x₁ x₂ : AtExit finish.ended κs)
       → ent 𝓤 (conj 𝓤 ((finish.clauses 𝓛 mem run κs a).ensures tt r₁ x₁) ((finish.clauses 𝓛 mem run κs a).ensures tt r₂ x₂)) (fact 𝓤 (r₁ ≡ r₂))
@@ -58,4 +59,4 @@ module _ {M : Type 1} {𝓤 : Ura M} (𝓛 : Logic 𝓤) (mem : Memory → SProp
 
   pub first-type-one : (a : Args first-type.signature κs) (r₁ r₂ : Res first-type.signature κs) (x₁ x₂ : AtExit first-type.ended κs)
       → ent 𝓤 (conj 𝓤 ((first-type.clauses 𝓛 mem run κs a).ensures tt r₁ x₁) ((first-type.clauses 𝓛 mem run κs a).ensures tt r₂ x₂)) (fact 𝓤 (r₁ ≡ r₂))
-  first-type-one a r₁ r₂ x₁ x₂ = both 𝓤 _ _ r₁ r₂ (λ p q. p ∙ sym q)
+  first-type-one a r₁ r₂ x₁ x₂ = both 𝓤 _ _ r₁ r₂ (λ p q. read-injective r₁ r₂ (p ∙ sym q))

@@ -2,11 +2,11 @@
 #![tactic(auto)]
 
 ghost use Rattle.std.specs.Prelude.{◌≡◌, true, drop};
-ghost use Rattle.descriptor.specs.Read.{read_type};
+ghost use Rattle.descriptor.specs.Read.{read, read_type};
 ghost use Rattle.refusals.specs.Numbers.{code};
 ghost use Rattle.parser.specs.Offsets.{byte_at, consume_at, finish_at};
 
-use descriptor::Read;
+use descriptor::{TypeAt, Unread};
 use refusals::Refusal;
 
 #[derive(Clone, Copy)]
@@ -36,8 +36,8 @@ fn consume_at(s: &[u8], at: usize, b: u8) -> usize
     at
 }
 
-fn type_at(s: &[u8], at: usize, void: bool) -> Read
-    ensures { result ≡ read_type (drop at s.now) at void 0 }
+fn type_at(s: &[u8], at: usize, void: bool) -> Result<TypeAt, Unread>
+    ensures { read result ≡ read_type (drop at s.now) at void 0 }
 {
     descriptor::read_type(s, at, void)
 }
@@ -80,8 +80,8 @@ pub fn consume<'a>(p: DescriptorParser<'a>, expected: u8) -> usize
     consume_at(p.bytes, p.offset, expected)
 }
 
-pub fn ty<'a>(p: DescriptorParser<'a>, void: bool) -> Read
-    ensures { result ≡ read_type (drop p.entry.offset p.entry.bytes.now) p.entry.offset void 0 }
+pub fn ty<'a>(p: DescriptorParser<'a>, void: bool) -> Result<TypeAt, Unread>
+    ensures { read result ≡ read_type (drop p.entry.offset p.entry.bytes.now) p.entry.offset void 0 }
 {
     type_at(p.bytes, p.offset, void)
 }
@@ -93,8 +93,8 @@ pub fn finish<'a>(p: DescriptorParser<'a>) -> Result<(), Refusal>
 }
 
 // The type at the front of the bytes: plain parameters, so who calls it need not know the parser.
-pub fn first_type(s: &[u8]) -> Read
-    ensures { result ≡ read_type s.now 0 true 0 }
+pub fn first_type(s: &[u8]) -> Result<TypeAt, Unread>
+    ensures { read result ≡ read_type s.now 0 true 0 }
 {
     ty(new(s), true)
 }

@@ -15,8 +15,7 @@ use Rattle.ty.specs.Round.{word-type, legal-of-word, word-of-type}
 use Rattle.names.specs.Names.{name_at, check_names, lookup}
 use Rattle.names.specs.Table.{Checked, checked}
 use Rattle.names.specs.Lookup.{lookup-told}
-use Rattle.descriptor.specs.declared.Read.TheVariants.{Found}
-use Rattle.descriptor.specs.Read.{read_whole}
+use Rattle.descriptor.specs.Read.{Found, read_whole}
 use Rattle.methods.specs.Method.{read_method}
 use Rattle.jvms.specs.Jvms.{dimensions, AnyName, Signature, MethodDescriptor, MethodDescriptor.method}
 use Rattle.jvms.specs.Meaning.{type_read, method_read, Limits, placed}

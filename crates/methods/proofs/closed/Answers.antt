@@ -1,22 +1,26 @@
 -- Each way out is a case of `closing`.
-use mathlib.Core.Path.{subst, ◌∙◌}
+use Rattle.std.proofs.Common.{◌≡◌, sym, ap, ◌∙◌, rules, Err}
 use borrow.Author.Tests.{not-true, not-false}
-use lib.ListN.{length}
+use Rattle.descriptor.specs.Read.{read, strictly}
 use Rattle.methods.specs.Strict.{closing-plain, closing-refused, closing-bad, closing-strict}
-use Rattle.descriptor.specs.Steps.{Placed}
 use Rattle.methods.proofs.closed.Goals as goal
 
 pub returns-then-not-strict : goal.returns-then-not-strict
-returns-then-not-strict c = closing-plain c.args.s.now c.args.strict c.args.bad c.args.t (not-true _ c.if-not-strict.true-raw)
-
-pub judged-requires : goal.judged-requires
-judged-requires c = subst (Placed (length c.args.s.now)) c.in-Found.is c.requires
+returns-then-not-strict c = closing-plain c.args.s.now c.args.strict c.args.bad (read c.args.t) (not-true _ c.if-not-strict.true-raw)
 
 pub returns-then-bad-eq0 : goal.returns-then-bad-eq0
-returns-then-bad-eq0 c = c.judged.ensures ∙ closing-strict c.args.s.now c.args.strict c.args.bad c.args.t (not-false _ c.if-not-strict.false-raw) _ _ _ c.in-Found.is c.if-bad-eq0.true
+returns-then-bad-eq0 c =
+    let w = ap read c.in_ok-t.was in
+    c.judged.ensures
+    ∙ ap (strictly c.args.s.now) w
+    ∙ closing-strict c.args.s.now c.args.strict c.args.bad (read c.args.t) (not-false _ c.if-not-strict.false-raw) _ _ _ w c.if-bad-eq0.true
 
-pub returns-else-bad-eq0 : goal.returns-else-bad-eq0
-returns-else-bad-eq0 c = c.not_strict.ensures ∙ closing-bad c.args.s.now c.args.strict c.args.bad c.args.t (not-false _ c.if-not-strict.false-raw) _ _ _ c.in-Found.is c.if-bad-eq0.false
+pub returns : goal.returns
+returns c =
+    c.not_strict.ensures
+    ∙ closing-bad c.args.s.now c.args.strict c.args.bad (read c.args.t) (not-false _ c.if-not-strict.false-raw) _ _ _ (ap read c.in_ok-t.was) c.if-bad-eq0.false
 
-pub returns-in-Refused : goal.returns-in-Refused
-returns-in-Refused c = closing-refused c.args.s.now c.args.strict c.args.bad c.args.t (not-false _ c.if-not-strict.false-raw) _ _ _ c.in-Refused.is
+pub returns-in_err-t : goal.returns-in_err-t
+returns-in_err-t c =
+    let f : Err c.in_err-t.field-0.0 ≡ c.from_residual.result = search rules in
+    sym (ap read f) ∙ closing-refused c.args.s.now c.args.strict c.args.bad (read c.args.t) (not-false _ c.if-not-strict.false-raw) _ _ _ (ap read c.in_err-t.was)
