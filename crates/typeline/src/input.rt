@@ -6,14 +6,10 @@ pub(crate) fn line_end(chunk: &[u8], i: usize) -> usize
     requires { i ≤ length chunk.now }
     ensures { (i ≤ result) × (result ≤ length chunk.now) }
 {
-    let mut e = i;
-    while e < chunk.len() {
-        if chunk[e] == b'\n' {
-            return e;
-        }
-        e += 1;
+    match chunk[i..].iter().position(|b| *b == b'\n') {
+        Some(n) => i + n,
+        None => chunk.len(),
     }
-    e
 }
 
 // Puts as much of `part` after the line so far as there is room for, and tells how long it is then.
@@ -21,15 +17,7 @@ pub(crate) fn append(line: &mut [u8], used: usize, part: &[u8]) -> usize
     requires { used ≤ length line.old }
     ensures { result ≤ length line.new }
 {
-    let mut at = used;
-    let mut i: usize = 0;
-    while i < part.len() {
-        if line.len() <= at {
-            return at;
-        }
-        line[at] = part[i];
-        at += 1;
-        i += 1;
-    }
-    at
+    let n = part.len().min(line.len() - used);
+    line[used..used + n].copy_from_slice(&part[..n]);
+    used + n
 }

@@ -32,26 +32,15 @@ impl State {
         requires { used ≤ 1025 }
         ensures { (result.numbers ≡ self.numbers) × (result.used ≡ used) × (result.filled ≡ self.filled) }
     {
-        let numbers = self.numbers;
-        State {
-            numbers: numbers,
-            lines: self.lines,
-            used: used,
-            filled: self.filled,
-            ended: self.ended,
-        }
+        State { used, ..self }
     }
 
     fn at_end(self) -> State
         ensures { (result.numbers ≡ self.numbers) × (result.used ≡ self.used) × (result.filled ≡ self.filled) }
     {
-        let numbers = self.numbers;
         State {
-            numbers: numbers,
-            lines: self.lines,
-            used: self.used,
-            filled: self.filled,
             ended: true,
+            ..self
         }
     }
 }
@@ -73,8 +62,8 @@ fn no_layers() -> StackTables
         keys: 0,
     };
     StackTables {
-        tables: tables,
-        layer: layer,
+        tables,
+        layer,
         under: 0,
     }
 }
@@ -83,9 +72,8 @@ fn no_layers() -> StackTables
 fn no_numbers() -> Numbers
     ensures { Empty result }
 {
-    let stack = no_layers();
     Numbers {
-        stack: stack,
+        stack: no_layers(),
         last: 0,
         components: 0,
         variables: 0,
@@ -115,17 +103,15 @@ fn whole(
     ensures err { OnErr result (StillHolds last.new pairs.new marks.new rows.new answers.new out.new) }
 {
     let number = std::num::wrapping_add_u64(s.lines, 1);
-    let numbers = s.numbers;
     let spoken = say_line(
-        line, number, last, pairs, marks, rows, answers, out, s.filled, numbers,
+        line, number, last, pairs, marks, rows, answers, out, s.filled, s.numbers,
     );
     let filled = output::room(output, out, spoken.filled)?;
-    let after = spoken.numbers;
     Ok(State {
-        numbers: after,
+        numbers: spoken.numbers,
         lines: number,
         used: 0,
-        filled: filled,
+        filled,
         ended: s.ended,
     })
 }
@@ -263,14 +249,13 @@ fn finish(
 ) -> io::Result<()>
     requires { Holds last.old pairs.old marks.old rows.old answers.old out.old s.numbers s.filled × (length line.now ≡ 1025) × (s.used ≤ 1025) }
 {
-    let used = s.used;
-    if used == 0 {
+    if s.used == 0 {
         return output::flush(output, out, s.filled);
     }
     let t = whole(
         output,
         s,
-        &line[0..used],
+        &line[0..s.used],
         last,
         pairs,
         marks,
@@ -298,7 +283,7 @@ fn run(
 {
     let numbers = no_numbers();
     let mut s = State {
-        numbers: numbers,
+        numbers,
         lines: 0,
         used: 0,
         filled: 0,

@@ -9,7 +9,7 @@ const WAITING: usize = 49152;
 
 pub(crate) fn flush(output: &mut impl Write, out: &[u8], filled: usize) -> io::Result<()> {
     if filled <= out.len() {
-        output.write_all(&out[0..filled])?;
+        output.write_all(&out[..filled])?;
     }
     Ok(())
 }
