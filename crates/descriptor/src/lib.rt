@@ -9,7 +9,7 @@ ghost use Rattle.descriptor.specs.Core.{core_of, un_core, flat_of, ended_of, Sou
 
 use refusals::Refusal;
 
-// Refusals: the errors of ty.rs in source order, and the limit of dimensions.
+// Refusals: the errors of ty.rs in source order, and the limit of dimensions; as numbers, since a Core packs one into a word.
 const UNEXPECTED_END: u64 = 11;
 
 const UNEXPECTED_BYTE: u64 = 12;
