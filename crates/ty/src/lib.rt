@@ -48,7 +48,12 @@ fn contains(load: u64, from: u64, n: u64, d: u64) -> bool
     requires { (from ≤ n) × (n ≤ 11) }
     ensures { result ≡ elem d (take (n - from) (unpack (11 - from) load)) }
 {
-    (from..n).any(|i| digit(load, i) == d)
+    for i in from..n {
+        if digit(load, i) == d {
+            return true;
+        }
+    }
+    false
 }
 
 // Whether the digit i is as it must be in a list of n: a category that does not come again, or 0 after the list.
@@ -75,7 +80,12 @@ fn good_unknown(load: u64) -> bool
     if 11 < n {
         return false;
     }
-    (0..11).all(|i| good_digit(load, n, i))
+    for i in 0..11 {
+        if !good_digit(load, n, i) {
+            return false;
+        }
+    }
+    true
 }
 
 fn wide_category(category: u64) -> bool
