@@ -14,7 +14,7 @@ returns-then-stops c =
     let s = c.args.name.now in
     let i = c.loop-b.b-index in
     sym (c.loop-b.invariant
-    ∙ parts-at s i (length s) c.loop-b.begun (omega arith) (omega arith)
+    ∙ parts-at s i (length s) (not (eqb c.loop-b.last 47)) (omega arith) (omega arith)
     ∙ ap (λ (t : Bool). pick_b t false (parts_from (not (eqb (get_or s i 0) 47)) (take (length s - (i + 1)) (drop (i + 1) s)))) (sym c.stops.ensures ∙ c.if-stops.true))
 
 pub loop-b-preserved : goal.loop-b-preserved
@@ -22,8 +22,8 @@ loop-b-preserved c =
     let s = c.args.name.now in
     let i = c.loop-b.b-index in
     c.loop-b.invariant
-    ∙ parts-at s i (length s) c.loop-b.begun (omega arith) (omega arith)
+    ∙ parts-at s i (length s) (not (eqb c.loop-b.last 47)) (omega arith) (omega arith)
     ∙ ap (λ (t : Bool). pick_b t false (parts_from (not (eqb (get_or s i 0) 47)) (take (length s - (i + 1)) (drop (i + 1) s)))) (sym c.stops.ensures ∙ c.if-stops.false)
 
 pub returns : goal.returns
-returns c = let s = c.args.name.now in sym (c.loop-b.invariant ∙ parts-end s c.loop-b.b-index (length s) c.loop-b.begun (omega arith))
+returns c = let s = c.args.name.now in sym (c.loop-b.invariant ∙ parts-end s c.loop-b.b-index (length s) (not (eqb c.loop-b.last 47)) (omega arith))
