@@ -32,15 +32,22 @@ fn order_of(x: TypeWord, y: TypeWord) -> u64
     3
 }
 
-// The same of two words; 3 also where one is no type.
-fn order_of_words(x: u64, y: u64) -> u64 {
-    let Ok(s) = ty::decode(x, 1024) else {
-        return 3;
-    };
+// The same of a type and a word; 3 also where that is no type.
+fn order_to(s: TypeWord, y: u64) -> u64
+    requires { Legal s.word }
+{
     let Ok(t) = ty::decode(y, 1024) else {
         return 3;
     };
     order_of(s, t)
+}
+
+// The same of two words.
+fn order_of_words(x: u64, y: u64) -> u64 {
+    let Ok(s) = ty::decode(x, 1024) else {
+        return 3;
+    };
+    order_to(s, y)
 }
 
 pub(crate) fn order(a: &[u64], r: &[u64]) -> Verdict {
@@ -58,11 +65,14 @@ fn order_of_places(i: usize, j: usize) -> u64 {
     order_number(i.cmp(&j))
 }
 
-// How many members have the order to x that their places have to place i.
+// How many members have the order to x that their places have to place i; a word that is no type has none. (x is decoded once, not at each member.)
 fn as_placed(list: &[u64], i: usize, x: u64) -> u64 {
+    let Ok(s) = ty::decode(x, 1024) else {
+        return 0;
+    };
     let mut n: u64 = 0;
     for (j, y) in list.iter().enumerate() {
-        let is_so = order_of_words(x, *y) == order_of_places(i, j);
+        let is_so = order_to(s, *y) == order_of_places(i, j);
         n = std::num::wrapping_add_u64(n, answers::flag(is_so));
     }
     n

@@ -86,31 +86,7 @@ impl Reading {
         }
     }
 
-    // The first byte of a word, which is not empty.
-    fn begun(self, m: Meaning) -> Reading {
-        match m {
-            Meaning::Digit(d) => Reading {
-                value: u64::from(d),
-                state: State::Number(1),
-                ..self
-            },
-            Meaning::Sign => self.equals(),
-            Meaning::X => self.counted(State::Bytes),
-            Meaning::Blank | Meaning::Other => self.to(State::Bad),
-        }
-    }
-
-    // The end of a word, if one has begun.
-    fn ended(self) -> Reading {
-        match self.state {
-            State::Between | State::Bad => self,
-            State::Silent => self.to(State::Between),
-            State::Half => self.to(State::Bad),
-            State::Number(_) | State::Bytes => self.counted(State::Between),
-        }
-    }
-
-    // A digit after the first byte of a word.
+    // A digit: the first byte of a number, or one more of what has begun.
     fn digit(self, d: u8) -> Reading {
         match self.state {
             State::Number(digits) if digits < LONGEST => Reading {
@@ -118,6 +94,12 @@ impl Reading {
                 state: State::Number(digits + 1),
                 ..self
             },
+            State::Between => Reading {
+                value: u64::from(d),
+                state: State::Number(1),
+                ..self
+            },
+            State::Silent => self,
             State::Bytes => self.to(State::Half),
             State::Half => {
                 let used = std::num::wrapping_add_usize(self.used, 1);
@@ -132,14 +114,40 @@ impl Reading {
         }
     }
 
+    // The end of a word, if one has begun.
+    fn ended(self) -> Reading {
+        match self.state {
+            State::Between | State::Bad => self,
+            State::Silent => self.to(State::Between),
+            State::Half => self.to(State::Bad),
+            State::Number(_) | State::Bytes => self.counted(State::Between),
+        }
+    }
+
+    // A blank ends a word, which is not empty.
+    fn blank(self) -> Reading {
+        match self.state {
+            State::Between => self.to(State::Bad),
+            _ => self.ended(),
+        }
+    }
+
+    // What is neither: it may begin a word, as the sign and an x do.
+    fn mark(self, m: Meaning) -> Reading {
+        match (self.state, m) {
+            (State::Between, Meaning::Sign) => self.equals(),
+            (State::Between, Meaning::X) => self.counted(State::Bytes),
+            (State::Silent, _) => self,
+            _ => self.to(State::Bad),
+        }
+    }
+
     // The next byte by what it means.
     fn next(self, m: Meaning) -> Reading {
-        match (self.state, m) {
-            (State::Between, _) => self.begun(m),
-            (_, Meaning::Blank) => self.ended(),
-            (State::Silent, _) => self,
-            (_, Meaning::Digit(d)) => self.digit(d),
-            _ => self.to(State::Bad),
+        match m {
+            Meaning::Digit(d) => self.digit(d),
+            Meaning::Blank => self.blank(),
+            _ => self.mark(m),
         }
     }
 
@@ -176,8 +184,10 @@ fn put_digit(store: &mut [u8], at: usize, d: u8) {
 
 // One byte of the words. What a word stands for so far is among the numbers before it is counted.
 fn step(r: Reading, m: Meaning, numbers: &mut [u64], store: &mut [u8]) -> Reading {
-    if let (Some(at), Meaning::Digit(d)) = (r.byte_at(), m) {
-        put_digit(store, at, d);
+    if let Meaning::Digit(d) = m {
+        if let Some(at) = r.byte_at() {
+            put_digit(store, at, d);
+        }
     }
     let s = r.next(m);
     put_number(numbers, s.count, s.value);
@@ -203,8 +213,8 @@ fn words(line: &[u8], numbers: &mut [u64], store: &mut [u8]) -> Reading {
 fn place(names: &[u8], word: &[u8]) -> usize {
     names
         .split(|b| *b == b' ')
-        .position(|name| name == word)
-        .unwrap_or_else(|| names.split(|b| *b == b' ').count())
+        .take_while(|name| *name != word)
+        .count()
 }
 
 // A line that is no case has a place of its own and no numbers.
